@@ -1,0 +1,4 @@
+pub mod Split
+pub mod Text
+pub mod Lines
+pub mod Unread

@@ -1,0 +1,4 @@
+pub mod Written
+pub mod Jsons
+pub mod Dates
+pub mod Numbers

@@ -1,0 +1,3 @@
+pub mod TimeText
+pub mod Json
+pub mod Adds

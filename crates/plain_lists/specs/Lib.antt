@@ -1,0 +1,7 @@
+pub mod formers
+pub mod Keys
+pub mod Members
+pub mod Find
+pub mod ItemsLends
+pub mod FieldsLends
+pub mod MemberLends

@@ -1,0 +1,165 @@
+ghost use Rattle.std.specs.Prelude.{◌≡◌, ◌∷◌, ◌++◌, [], length, OnOk, OnErr, IfOk, None, MatchResult};
+ghost use Rattle.std.specs.Option.{option_copied, option_copied_mut};
+ghost use Rattle.std.specs.Borrow.{sem};
+
+use crate::text::Text;
+use std::alloc::{AllocError, Global};
+use std::cmp::Ordering;
+use std::marker::Model;
+use std::mem;
+
+/// Values at keys that rise strictly in byte order, which contracts see as the list of the members,
+/// each a key and its value.
+#[derive(Drop)]
+pub struct Fields<V> {
+    members: Vec<(Text, V)>,
+}
+
+impl<V> Model for Fields<V> {
+    ghost use Rattle.std.specs.Prelude.{List, ℕ};
+    ghost use Rattle.std.specs.Coded.{coded_list, coded×, coded_ℕ};
+    ghost use Rattle.plain_lists.specs.Members.{Rises};
+
+    ghost Value = { List (List ℕ × V) };
+
+    ghost coded = { coded_list (coded× (coded_list coded_ℕ) V.code) };
+
+    ghost view = { λ fields. fields.members.items };
+
+    ghost invariant = { λ fields. Rises fields.members.items };
+}
+
+impl<V> Fields<V> {
+    ghost use Rattle.plain_lists.specs.Members.{Rises, get_member};
+    ghost use Rattle.plain_lists.specs.FieldsLends.{lends_value};
+
+    /// No members, and no memory yet.
+    pub fn new(alloc: Global) -> Self
+        ensures { result ≡ [] }
+    {
+        Fields {
+            members: Vec::new(alloc),
+        }
+    }
+
+    pub fn members(&self) -> &[(Text, V)]
+        ensures same { result.now ≡ self.now }
+        ensures rises { Rises self.now }
+    {
+        self.members.as_slice()
+    }
+
+    pub fn len(&self) -> usize
+        ensures { result ≡ length self.now }
+    {
+        self.members.len()
+    }
+
+    pub fn get(&self, key: &str) -> Option<&V>
+        ensures { option_copied result ≡ get_member key.now self.now }
+    {
+        match find(self.members.as_slice(), key) {
+            Ok(at) => Some(&self.members[at].1),
+            Err(_) => None,
+        }
+    }
+
+    pub fn get_mut(&mut self, key: &str) -> Option<&mut V>
+        ensures* writes_back { sem 𝓛 (lends_value V.row self.entry key.now result) }
+        ensures value { option_copied_mut result ≡ get_member key.now self.old }
+    {
+        match find(self.members.as_slice(), key) {
+            Ok(at) => {
+                let member = &mut self.members[at];
+                Some(value_of(member))
+            }
+            Err(_) => None,
+        }
+    }
+
+    pub fn allocator(&self) -> Global {
+        *self.members.allocator()
+    }
+}
+
+impl<V: Drop> Fields<V> {
+    ghost use Rattle.plain_lists.specs.Members.{get_member, insert_member, remove_member, AllBelow};
+
+    pub fn with_capacity(alloc: Global, capacity: usize) -> Result<Self, AllocError>
+        ensures { IfOk result (λ fields. fields ≡ []) }
+    {
+        Ok(Fields {
+            members: Vec::with_capacity(alloc, capacity)?,
+        })
+    }
+
+    pub fn insert(&mut self, key: Text, value: V) -> Result<Option<V>, AllocError>
+        ensures replaced { IfOk result (λ before. before ≡ get_member key self.old) }
+        ensures ok { OnOk result (self.new ≡ insert_member key value self.old) }
+        ensures err { OnErr result (self.new ≡ self.old) }
+        ensures absent { OnErr result (get_member key self.old ≡ None) }
+    {
+        match find(self.members.as_slice(), key.as_str()) {
+            Ok(at) => {
+                let member = &mut self.members[at];
+                Ok(Some(mem::replace(&mut member.1, value)))
+            }
+            Err(at) => {
+                self.members.insert(at, (key, value))?;
+                Ok(None)
+            }
+        }
+    }
+
+    pub fn push(&mut self, key: Text, value: V) -> Result<(), AllocError>
+        requires { AllBelow self.old key }
+        ensures ok { OnOk result (self.new ≡ self.old ++ (key, value) ∷ []) }
+        ensures err { OnErr result (self.new ≡ self.old) }
+    {
+        self.members.push((key, value))?;
+        Ok(())
+    }
+
+    pub fn remove(&mut self, key: &str) -> Option<V>
+        ensures removed { result ≡ get_member key.now self.old }
+        ensures rest { self.new ≡ remove_member key.now self.old }
+    {
+        match find(self.members.as_slice(), key) {
+            Ok(at) => {
+                let (_, value) = self.members.remove(at);
+                Some(value)
+            }
+            Err(_) => None,
+        }
+    }
+}
+
+ghost use Rattle.plain_lists.specs.MemberLends.{lends_member_value};
+ghost use Rattle.plain_lists.specs.Members.{Rises};
+ghost use Rattle.plain_lists.specs.Find.{IsFoundAt, IsAbsentAt};
+
+// The value of a member, to write to.
+fn value_of<V>(member: &mut (Text, V)) -> &mut V
+    ensures* writes_back { sem 𝓛 (lends_member_value V.row member.entry result) }
+    ensures value { result.now ≡ member.old.1 }
+{
+    &mut member.1
+}
+
+// The place of a key, by binary search, or as `Err` where it would go.
+fn find<V>(members: &[(Text, V)], key: &str) -> Result<usize, usize>
+    requires { Rises members.now }
+    ensures { MatchResult result (IsFoundAt key.now members.now) (IsAbsentAt key.now members.now) }
+{
+    let mut low = 0;
+    let mut high = members.len();
+    while low < high {
+        let middle = low + (high - low) / 2;
+        match key.cmp(members[middle].0.as_str()) {
+            Ordering::Less => high = middle,
+            Ordering::Equal => return Ok(middle),
+            Ordering::Greater => low = middle + 1,
+        }
+    }
+    Err(low)
+}
