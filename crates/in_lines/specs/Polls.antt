@@ -1,6 +1,8 @@
 -- The lines that come from a source, each with the moment of the poll that made it whole.
 use Rattle.std.specs.Prelude.{ℕ, ℤ, Bool, true, false, List, [], ◌∷◌, ◌++◌, length, map, drop}
 use Rattle.outside.specs.Pieces.{Piece, Came, End, Nothing}
+use Rattle.byte_lines.specs.Split.{split_of}
+use Rattle.byte_lines.specs.Lines.{whole_lines, last_line}
 use Rattle.byte_lines.specs.Unread.{lines_left}
 
 -- a look at a source: the moment of the clock at which it was made, and what the read gave
@@ -51,3 +53,13 @@ received_after limit before (poll ∷ polls) =
 
 unfoldable pub received : ℕ → List Poll → List Received
 received limit polls = received_after limit [] polls
+
+-- what is left of all those bytes behind the whole lines
+abbrev pub rest_through : ℕ → List Poll → List ℕ
+rest_through limit polls = (split_of limit (joined polls)).rest
+
+-- the lines that a piece makes whole, behind such a rest
+abbrev pub lines_by : ℕ → List ℕ → Piece → List (List ℕ)
+lines_by limit rest (Came bytes) = whole_lines limit (rest ++ bytes)
+lines_by limit rest End = last_line rest
+lines_by limit rest Nothing = []
