@@ -1,0 +1,26 @@
+use Rattle.std.proofs.Common.{◌≡◌, ◌≤◌, ◌++◌, [], ◌∷◌, ap, sym, ◌∙◌, arith, append_assoc}
+use Rattle.std.specs.String.{string_bytes}
+use Rattle.byte_lines.specs.Unread.{lines_left}
+use Rattle.logstash_top.proofs.RowLemmas.{rows_then, rows_in_part}
+use Rattle.logstash_top.proofs.rows.write_lines.Goals as goal
+
+pub returns-in-Err-write_line-clause-part : goal.returns-in-Err-write_line-clause-part
+returns-in-Err-write_line-clause-part g c =
+    let i = c.loop-line.invariant in
+    let e = rw c.in-Ok-Some.field-0-is at c.in-Ok-Some.ensures in
+    rows_in_part c.args.moment _ i.shown (lines_left c.next_line.new.self) (string_bytes c.in-Ok-Some.line) c.as_str.result.now c.as_str.ensures.value (i.whole ∙ ap (λ t. i.shown ++ t) e.lines) i.grows c.in-Err-write_line.ensures.part
+
+pub loop-line-preserved : goal.loop-line-preserved
+loop-line-preserved g c =
+    let i = c.loop-line.invariant in
+    let e = rw c.in-Ok-Some.field-0-is at c.in-Ok-Some.ensures in
+    let line = string_bytes c.in-Ok-Some.line in
+    record {
+      shown = i.shown ++ line ∷ [];
+      whole = i.whole ∙ ap (λ t. i.shown ++ t) e.lines ∙ sym (append_assoc i.shown (line ∷ []) (lines_left c.next_line.new.self));
+      grows = rows_then c.args.moment i.shown line c.as_str.result.now c.as_str.ensures.value i.grows c.in-Ok.ensures.ok;
+      later = omega (arith, i.later, c.in-Ok.ensures.cause.later);
+      rest = λ is. e.rest (i.ended ∙ is) ∙ i.rest is;
+      ended = e.ended ∙ i.ended;
+      limit = e.limit ∙ i.limit;
+    }

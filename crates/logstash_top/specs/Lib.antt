@@ -1,0 +1,5 @@
+pub mod Words
+pub mod Built
+pub mod Status
+pub mod Rows
+pub mod Runs

@@ -1,0 +1,6 @@
+-- The words of the command line.
+use Rattle.std.specs.Prelude.{◌≡◌, ℕ, List, [], ◌∷◌, codes}
+
+-- the words are `-e` and the text of a configuration
+abbrev pub IsCommand : List (List ℕ) → List ℕ → Type 0
+IsCommand words text = words ≡ codes "-e" ∷ text ∷ []

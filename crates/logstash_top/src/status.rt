@@ -1,0 +1,54 @@
+ghost use Rattle.std.specs.Prelude.{◌≡◌};
+ghost use Rattle.logstash_top.specs.Status.{number_of};
+
+use plain_lists::Text;
+use thiserror::Error;
+
+/// Why the words of the command line are refused.
+#[derive(Clone, Copy, Debug, PartialEq, Eq, Error)]
+pub enum WordsFault {
+    /// They are not `-e` and one text.
+    #[error("unread")]
+    Unread,
+}
+
+/// Why the text of a configuration is refused.
+#[derive(Clone, Copy, Debug, PartialEq, Eq, Error)]
+pub enum ConfigFault {
+    /// It is not one that this program runs yet.
+    #[error("not built")]
+    Thin,
+}
+
+/// How a run ended.
+#[derive(Drop)]
+pub enum Status {
+    /// All of stdin was read, and all its events were written and flushed.
+    Done,
+    /// The words of the command line are refused.
+    BadWords(WordsFault),
+    /// The text of this pipeline's configuration is refused.
+    BadConfig(Text, ConfigFault),
+    /// A read of this pipeline's input failed.
+    InputFault(Text, Text),
+    /// A write or a flush of this output failed.
+    OutputFault(Text),
+    /// Memory ran out.
+    NoMemory,
+}
+
+impl Status {
+    /// The number with which the program ends.
+    pub fn number(&self) -> u8
+        ensures { result ≡ number_of self.now }
+    {
+        match self {
+            Status::Done => 0,
+            Status::BadWords(_) => 1,
+            Status::BadConfig(_, _) => 3,
+            Status::InputFault(_, _) => 5,
+            Status::OutputFault(_) => 6,
+            Status::NoMemory => 8,
+        }
+    }
+}

@@ -1,0 +1,12 @@
+/// The outside of a run.
+#[derive(Drop)]
+pub struct ThinWorld<I, O, K> {
+    /// Where the lines come from.
+    pub stdin: I,
+    /// Where the rows of events go, and nothing else.
+    pub stdout: O,
+    /// Where the line on a refusal or a fault goes.
+    pub stderr: O,
+    /// What gives each event its moment.
+    pub clock: K,
+}
