@@ -1,4 +1,4 @@
--- Text from bytes that may be no text. UTF-8 is that of RFC 3629, section 3, and of The Unicode Standard, section 3.9 (D92).
+-- Text from bytes that may be no text. UTF-8 is that of RFC 3629, section 3, and of The Unicode Standard, section 3.9.
 use Rattle.std.specs.Prelude.{◌≡◌, ℕ, zero, suc, List, [], ◌∷◌, ◌++◌, take, if◌then◌else◌}
 use Rattle.std.specs.Char.{IsScalar, encode_utf8}
 use Rattle.std.specs.Str.{is_utf8}

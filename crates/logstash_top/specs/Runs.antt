@@ -1,9 +1,8 @@
 -- What a run does to the outside.
-use Rattle.std.specs.Prelude.{◌≡◌, ◌⊎◌, ℕ, ℤ, List, true, [], ◌∷◌, ◌++◌, Option, map}
+use Rattle.std.specs.Prelude.{◌≡◌, ℕ, ℤ, List, true, [], ◌∷◌, ◌++◌, Option, map}
 use Rattle.std.specs.List.{flat_map}
 use Rattle.outside.specs.Pieces.{Piece, piece_list}
-use Rattle.outside.specs.Counts.{Rose}
-use Rattle.outside.specs.Telling.{Grows, GrowsInPart, Shrinks, IsAtEnd, IsFlushed}
+use Rattle.outside.specs.Telling.{Grows, GrowsInPart, Shrinks, IsAtEnd}
 use Rattle.outside.specs.declared.sources.Source.{Ghosts as SourceWords}
 use Rattle.outside.specs.declared.sinks.Sink.{Ghosts as SinkWords}
 use Rattle.outside.specs.declared.clocks.Clock.{Ghosts as ClockWords}
@@ -12,8 +11,6 @@ use Rattle.in_lines.specs.Polls.{Poll, joined, is_ended, received}
 use Rattle.in_lines.specs.Events.{events_of}
 use Rattle.in_lines.specs.Rows.{out_bytes}
 use Rattle.logstash_top.specs.declared.world.ThinWorld.{ThinWorld}
-use Rattle.logstash_top.specs.declared.status.Status.{Status}
-use Rattle.logstash_top.specs.declared.status.Status.TheVariants.{Done}
 
 -- how many bytes a line may have
 abbrev pub line_limit : ℕ
@@ -30,18 +27,16 @@ module _ {I O K : Type 0} (source : SourceWords I) (sink : SinkWords O) (clock :
     pub came : Grows (source.given old.stdin) (source.given new.stdin) (pieces_in polls)
     pub left : Shrinks (source.left old.stdin) (source.left new.stdin) (joined polls)
 
-  -- stdin is at its end, and all rows of the events of its bytes were written, in order, and flushed
+  -- stdin is at its end, and all rows of the events of its bytes were written, in order
   pub record Finished (old new : ThinWorld I O K) (polls : List Poll) : Type 0 where
     pub ended : is_ended polls ≡ true
     pub at_end : IsAtEnd (source.left new.stdin)
     pub lines : map (λ r. r.line) (received line_limit polls) ≡ lines_left (record { limit = line_limit; bytes = joined polls; ended = true })
     pub wrote : Grows (sink.taken old.stdout) (sink.taken new.stdout) (out_bytes (events_of line_limit polls))
-    pub flushed : IsFlushed (sink.taken new.stdout) (sink.flushed new.stdout)
 
-  -- a run, however it ended: stdout got rows of the events of what was polled, from the first on, and nothing else
-  pub record Ran (old new : ThinWorld I O K) (status : Status) : Type 0 where
+  -- a run, which is done or not: stdout got rows of the events of what was polled, from the first on, and nothing else
+  pub record Ran (old new : ThinWorld I O K) (is_done : Type 0) : Type 0 where
     pub polls : List Poll
     pub polled : Polled old new polls
     pub wrote : GrowsInPart (sink.taken old.stdout) (sink.taken new.stdout) (out_bytes (events_of line_limit polls))
-    pub flushed : Rose (sink.faults old.stdout) (sink.faults new.stdout) ⊎ IsFlushed (sink.taken new.stdout) (sink.flushed new.stdout)
-    pub done : status ≡ Done → Finished old new polls
+    pub done : is_done → Finished old new polls

@@ -2,6 +2,7 @@
 //! that it is handed.
 #![tactic(auto)]
 
+mod pump;
 mod rows;
 mod status;
 mod stop;

@@ -1,11 +1,12 @@
 -- The order of keys.
-use Rattle.std.proofs.Common.{◌≡◌, ℕ, List, [], ◌∷◌, refl, sym, ap, ◌∙◌}
-use Rattle.std.specs.Ordering.{ordering_reverse}
+use Rattle.std.proofs.Common.{◌≡◌, ◌≢◌, ℕ, List, [], ◌∷◌, true, false, refl, sym, ap, ◌∙◌, rules}
+use Rattle.std.specs.Ordering.{ordering_reverse, is_lt, is_eq}
 use Rattle.std.specs.declared.cmp.Ordering.{Ordering}
 use Rattle.std.specs.declared.cmp.Ordering.TheVariants.{Less, Equal, Greater}
 use Rattle.std.specs.Cmp.Lexicographic.{nat_list_cmp_total}
+use Rattle.std.specs.Cmp.{tied_itself}
 use Rattle.std.specs.FinMap.{slice_cmp-IsAntisymmetric, nat_cmp-IsAntisymmetric}
-use Rattle.plain_lists.specs.Keys.{text_cmp, Below}
+use Rattle.plain_lists.specs.Keys.{text_cmp, same_key, Below}
 
 -- the three cases of an order
 pub order_cases : {P : Type 0} (o : Ordering) → (o ≡ Less → P) → (o ≡ Equal → P) → (o ≡ Greater → P) → P
@@ -27,3 +28,15 @@ text_cmp-trans = nat_list_cmp_total.trans
 pub Below-trans : (k l : List ℕ) (ls : List (List ℕ)) → text_cmp k l ≡ Less → Below l ls → Below k ls
 Below-trans k l [] less below = tt
 Below-trans k l (m ∷ ls) less below = (text_cmp-trans k l m less below.0, Below-trans k l ls less below.1)
+
+pub Less-from_is_lt : (o : Ordering) → is_lt o ≡ true → o ≡ Less
+Less-from_is_lt Less is = refl
+Less-from_is_lt Equal is = absurd (search (is, rules))
+Less-from_is_lt Greater is = absurd (search (is, rules))
+
+pub text_cmp-self : (k : List ℕ) → text_cmp k k ≡ Equal
+text_cmp-self = tied_itself nat_list_cmp_total
+
+-- the test of keys answers that two keys differ
+pub same_key-other : (k l : List ℕ) → k ≢ l → same_key k l ≡ false
+same_key-other k l other = order_cases (text_cmp k l) (λ e. ap is_eq e) (λ e. absurd (other (same_from_Equal k l e))) (λ e. ap is_eq e)

@@ -1,3 +1,6 @@
 pub mod KeyLemmas
 pub mod MemberLemmas
 pub mod FindLemmas
+pub mod ImplLemmas
+pub mod ChangeLemmas
+pub mod Splits

@@ -1,10 +1,12 @@
 -- Members at keys that rise.
-use Rattle.std.proofs.Common.{◌≡◌, ℕ, zero, suc, List, [], ◌∷◌, ◌++◌, take, Option, Some, None, refl, sym, ap, subst, ◌∙◌, slice_get, rules}
+use Rattle.std.proofs.Common.{◌≡◌, ℕ, zero, suc, List, [], ◌∷◌, ◌++◌, take, slice_index_or, ◌<◌, Option, Some, None, refl, sym, ap, subst, ◌∙◌, slice_get, length, ◌-◌, Bool, IsTrue, ◌↔◌, arith, rules}
+use Rattle.std.proofs.lemmas.Option.{slice_get_read}
 use Rattle.std.specs.Map.{keys_of}
+use Rattle.std.specs.Ordering.{is_lt}
 use Rattle.std.specs.declared.cmp.Ordering.TheVariants.{Less, Equal, Greater}
 use Rattle.plain_lists.specs.Keys.{text_cmp, Below, Ascends}
 use Rattle.plain_lists.specs.Members.{Rises, AllBelow, get_member, set_member, insert_member, remove_member}
-use Rattle.plain_lists.proofs.KeyLemmas.{order_cases, same_from_Equal, text_cmp-flip, Below-trans}
+use Rattle.plain_lists.proofs.KeyLemmas.{order_cases, Less-from_is_lt, same_from_Equal, text_cmp-flip, text_cmp-trans, Below-trans}
 
 module _ {V : Type 0} (k : List ℕ) where
   -- a key below all others is no member's
@@ -75,7 +77,32 @@ module _ {V : Type 0} where
   Below-get l (n ∷ ms) (suc i) m below is = Below-get l ms i m below.1 is
 
   -- the members before a member are below it
-  pub AllBelow-take : (ms : List (List ℕ × V)) (i : ℕ) (m : List ℕ × V) → Rises ms → slice_get ms i ≡ Some m → AllBelow (take i ms) m.0
+  AllBelow-take : (ms : List (List ℕ × V)) (i : ℕ) (m : List ℕ × V) → Rises ms → slice_get ms i ≡ Some m → AllBelow (take i ms) m.0
   AllBelow-take [] i m rises is = absurd (search (is, rules))
   AllBelow-take (n ∷ ms) zero m rises is = tt
   AllBelow-take (n ∷ ms) (suc i) m rises is = (Below-get n.0 ms i m rises.0 is, AllBelow-take ms i m rises.1 is)
+
+  -- so where they are made anew in order, the next may be pushed
+  pub below_next : (ms made : List (List ℕ × V)) (i : ℕ) (m : List ℕ × V) (k : List ℕ) → Rises ms → made ≡ take i ms → i < length ms → m ≡ slice_index_or ms i m → k ≡ m.0 → AllBelow made k
+  below_next ms made i m k rises same within is key =
+      subst (AllBelow made) (sym key) (subst (λ l. AllBelow l m.0) (sym same) (AllBelow-take ms i m rises (slice_get_read ms (length ms) i m refl within is)))
+
+  -- the key of each member is below a key that all are below
+  pub AllBelow-get : (ms : List (List ℕ × V)) (k : List ℕ) (i : ℕ) (m : List ℕ × V) → AllBelow ms k → slice_get ms i ≡ Some m → text_cmp m.0 k ≡ Less
+  AllBelow-get [] k i m below is = absurd (search (is, rules))
+  AllBelow-get (n ∷ ms) k zero m below is = let e : n ≡ m = search (is, rules) in ap (λ (x : List ℕ × V). text_cmp x.0 k) (sym e) ∙ below.0
+  AllBelow-get (n ∷ ms) k (suc i) m below is = AllBelow-get ms k i m below.1 is
+
+  AllBelow-last : (ms : List (List ℕ × V)) (k : List ℕ) (i : ℕ) (m : List ℕ × V) → Rises ms → slice_get ms i ≡ Some m → length ms ≡ suc i → text_cmp m.0 k ≡ Less → AllBelow ms k
+  AllBelow-last [] k i m rises is last less = tt
+  AllBelow-last (n ∷ []) k zero m rises is last less = let e : n ≡ m = search (is, rules) in (ap (λ (x : List ℕ × V). text_cmp x.0 k) e ∙ less, tt)
+  AllBelow-last (n ∷ o ∷ ms) k zero m rises is last less = absurd (omega arith)
+  AllBelow-last (n ∷ ms) k (suc i) m rises is last less =
+      (text_cmp-trans n.0 m.0 k (Below-get n.0 ms i m rises.0 is) less, AllBelow-last ms k i m rises.1 is (omega arith) less)
+
+  -- the last member decides whether all are below a key
+  pub AllBelow-decided : (ms : List (List ℕ × V)) (k : List ℕ) (m : List ℕ × V) (b : Bool) → Rises ms → slice_get ms (length ms - 1) ≡ Some m → b ≡ is_lt (text_cmp m.0 k) → IsTrue b ↔ AllBelow ms k
+  AllBelow-decided [] k m b rises is tested = absurd (search (is, rules))
+  AllBelow-decided (n ∷ ms) k m b rises is tested =
+      let long : length (n ∷ ms) ≡ suc (length (n ∷ ms) - 1) = omega arith in
+      (λ t. AllBelow-last (n ∷ ms) k _ m rises is long (Less-from_is_lt (text_cmp m.0 k) (sym tested ∙ t)), λ below. tested ∙ ap is_lt (AllBelow-get (n ∷ ms) k _ m below is))

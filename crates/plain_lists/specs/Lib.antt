@@ -5,3 +5,4 @@ pub mod Find
 pub mod ItemsLends
 pub mod FieldsLends
 pub mod MemberLends
+pub mod MemberImpls

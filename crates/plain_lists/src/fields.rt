@@ -1,4 +1,7 @@
-ghost use Rattle.std.specs.Prelude.{◌≡◌, ◌∷◌, ◌++◌, [], length, OnOk, OnErr, IfOk, None, MatchResult};
+ghost use Rattle.std.specs.Prelude.{◌≡◌, ◌∷◌, ◌++◌, [], length, OnOk, OnErr, IfOk, IsTrue, IsSome, ◌↔◌, None, MatchResult};
+ghost use Rattle.std.specs.List.{AllZip};
+ghost use Rattle.std.specs.Cmp.Lexicographic.{pointwise, lists_per, lists_equiv};
+ghost use Rattle.plain_lists.specs.MemberImpls.{member_clone, member_eq, member_per, member_equiv};
 ghost use Rattle.std.specs.Option.{option_copied, option_copied_mut};
 ghost use Rattle.std.specs.Borrow.{sem};
 
@@ -10,7 +13,7 @@ use std::mem;
 
 /// Values at keys that rise strictly in byte order, which contracts see as the list of the members,
 /// each a key and its value.
-#[derive(Drop)]
+#[derive(Debug, Drop)]
 pub struct Fields<V> {
     members: Vec<(Text, V)>,
 }
@@ -30,7 +33,7 @@ impl<V> Model for Fields<V> {
 }
 
 impl<V> Fields<V> {
-    ghost use Rattle.plain_lists.specs.Members.{Rises, get_member};
+    ghost use Rattle.plain_lists.specs.Members.{Rises, AllBelow, get_member, insert_member, remove_member};
     ghost use Rattle.plain_lists.specs.FieldsLends.{lends_value};
 
     /// No members, and no memory yet.
@@ -42,6 +45,32 @@ impl<V> Fields<V> {
         }
     }
 
+    /// No members, with memory for `capacity` of them.
+    pub fn with_capacity(alloc: Global, capacity: usize) -> Result<Self, AllocError>
+        ensures { IfOk result (λ fields. fields ≡ []) }
+    {
+        Ok(Fields {
+            members: Vec::with_capacity(alloc, capacity)?,
+        })
+    }
+
+    /// The members of `members`, in its memory.
+    pub fn from_vec(members: Vec<(Text, V)>) -> Self
+        requires { Rises members.items }
+        ensures { result ≡ members.items }
+    {
+        Fields { members }
+    }
+
+    /// The members as a `Vec`, in the memory of `self`.
+    pub fn into_vec(self) -> Vec<(Text, V)>
+        ensures same { result.items ≡ self }
+        ensures rises { Rises self }
+    {
+        self.members
+    }
+
+    /// The members, in the order of their keys.
     pub fn members(&self) -> &[(Text, V)]
         ensures same { result.now ≡ self.now }
         ensures rises { Rises self.now }
@@ -55,6 +84,13 @@ impl<V> Fields<V> {
         self.members.len()
     }
 
+    pub fn is_empty(&self) -> bool
+        ensures { IsTrue result ↔ (self.now ≡ []) }
+    {
+        self.members.is_empty()
+    }
+
+    /// The value at `key`.
     pub fn get(&self, key: &str) -> Option<&V>
         ensures { option_copied result ≡ get_member key.now self.now }
     {
@@ -64,6 +100,7 @@ impl<V> Fields<V> {
         }
     }
 
+    /// The value at `key`, to write to in its place.
     pub fn get_mut(&mut self, key: &str) -> Option<&mut V>
         ensures* writes_back { sem 𝓛 (lends_value V.row self.entry key.now result) }
         ensures value { option_copied_mut result ≡ get_member key.now self.old }
@@ -77,23 +114,27 @@ impl<V> Fields<V> {
         }
     }
 
-    pub fn allocator(&self) -> Global {
-        *self.members.allocator()
-    }
-}
-
-impl<V: Drop> Fields<V> {
-    ghost use Rattle.plain_lists.specs.Members.{get_member, insert_member, remove_member, AllBelow};
-
-    pub fn with_capacity(alloc: Global, capacity: usize) -> Result<Self, AllocError>
-        ensures { IfOk result (λ fields. fields ≡ []) }
+    pub fn contains_key(&self, key: &str) -> bool
+        ensures { IsTrue result ↔ IsSome (get_member key.now self.now) }
     {
-        Ok(Fields {
-            members: Vec::with_capacity(alloc, capacity)?,
-        })
+        self.get(key).is_some()
     }
 
+    /// Whether each key is below `key`, so that `push` may add it.
+    pub fn is_below(&self, key: &str) -> bool
+        ensures { IsTrue result ↔ AllBelow self.now key.now }
+    {
+        match self.members.last() {
+            Some((last, _)) => last.as_str() < key,
+            None => true,
+        }
+    }
+
+    /// Sets the value at `key`, in place of the one there, which is returned. Takes no memory where
+    /// `key` is there already. Where there is no memory, the members stay.
     pub fn insert(&mut self, key: Text, value: V) -> Result<Option<V>, AllocError>
+    where
+        V: Drop,
         ensures replaced { IfOk result (λ before. before ≡ get_member key self.old) }
         ensures ok { OnOk result (self.new ≡ insert_member key value self.old) }
         ensures err { OnErr result (self.new ≡ self.old) }
@@ -111,7 +152,11 @@ impl<V: Drop> Fields<V> {
         }
     }
 
+    /// Adds a value behind the last, at a key above all others. Where there is no memory, the
+    /// members stay.
     pub fn push(&mut self, key: Text, value: V) -> Result<(), AllocError>
+    where
+        V: Drop,
         requires { AllBelow self.old key }
         ensures ok { OnOk result (self.new ≡ self.old ++ (key, value) ∷ []) }
         ensures err { OnErr result (self.new ≡ self.old) }
@@ -120,6 +165,7 @@ impl<V: Drop> Fields<V> {
         Ok(())
     }
 
+    /// Takes the value at `key` away, with its key.
     pub fn remove(&mut self, key: &str) -> Option<V>
         ensures removed { result ≡ get_member key.now self.old }
         ensures rest { self.new ≡ remove_member key.now self.old }
@@ -132,6 +178,50 @@ impl<V: Drop> Fields<V> {
             Err(_) => None,
         }
     }
+
+    /// Drops all members, and keeps the memory.
+    pub fn clear(&mut self)
+    where
+        V: Drop,
+        ensures { self.new ≡ [] }
+    {
+        self.members.clear();
+    }
+
+    pub fn allocator(&self) -> Global {
+        *self.members.allocator()
+    }
+}
+
+/// Each value of the copy is a clone of that at its key.
+impl<V: Clone> Clone for Fields<V> {
+    ghost is_clone = { AllZip (member_clone V.is_clone) };
+
+    fn clone(&self) -> Result<Self, AllocError>
+        ensures cases { IfOk result (AllZip (member_clone V.is_clone) self.now) }
+        ensures same { IfOk result (λ copy. ((x y : V) → V.is_clone x y → y ≡ x) → copy ≡ self.now) }
+    {
+        Ok(Fields {
+            members: self.members.clone()?,
+        })
+    }
+}
+
+impl<V: PartialEq> PartialEq for Fields<V> {
+    ghost eq = { pointwise (member_eq V.eq) };
+
+    ghost laws = { lists_per (member_per V.laws) };
+
+    fn eq(&self, other: &Self) -> bool
+        ensures gives { result ≡ pointwise (member_eq V.eq) self.now other.now }
+        ensures exact { ((x y : V) → IsTrue (V.eq x y) ↔ (x ≡ y)) → (IsTrue result ↔ (self.now ≡ other.now)) }
+    {
+        self.members == other.members
+    }
+}
+
+impl<V: Eq> Eq for Fields<V> {
+    ghost laws = { lists_equiv (member_equiv V.Eq.laws) };
 }
 
 ghost use Rattle.plain_lists.specs.MemberLends.{lends_member_value};

@@ -3,6 +3,7 @@
 
 mod fields;
 mod items;
+pub mod laws;
 mod text;
 
 pub use fields::Fields;

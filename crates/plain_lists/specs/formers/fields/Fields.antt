@@ -17,7 +17,11 @@ use Rattle.std.specs.formers.vec.Vec as vec
 use Rattle.std.specs.declared.alloc.Global.{Global}
 use Rattle.std.specs.contracts.alloc.Global as heap
 use Rattle.std.specs.contracts.impls.GlobalAllocator.TheImpl.{ghosts}
+use Rattle.std.specs.declared.cmp.PartialEq as eq
+use Rattle.std.specs.Cmp.Lexicographic.{pointwise}
+use Rattle.std.specs.Cmp.Derive.Mapped.{pointwise-map}
 use Rattle.plain_lists.specs.Keys.{Ascends, Ascends-prop}
+use Rattle.plain_lists.specs.MemberImpls.{member_eq}
 use Rattle.plain_lists.specs.declared.fields.Fields.TheInside.{Inside}
 use Rattle.plain_lists.specs.declared.fields.Fields.TheView.{view, invariant}
 use Rattle.plain_lists.specs.contracts.text.Text as text
@@ -85,3 +89,8 @@ module _ (R R' : RattleType) (h : R.Denot → R'.Denot) where
   the_codes_placed same members =
       sym (code_map (coded× text.the_row.coded R.coded).code (coded× text.the_row.coded R'.coded).code (with_value h)
         (λ m. ap (λ value. gcons (text.the_row.coded.code m.0) value) (sym (same m.1))) members)
+
+-- the tests of two members go by their keys and values
+pub the_eq_natural : (X Y : Type 0) (h : X → Y) (value : eq.Ghosts Y) (ms ns : List (List ℕ × X))
+    → pointwise (member_eq value.eq) (map (with_value h) ms) (map (with_value h) ns) ≡ pointwise (member_eq (λ x y. value.eq (h x) (h y))) ms ns
+the_eq_natural X Y h value ms ns = pointwise-map (with_value h) (member_eq value.eq) ms ns

@@ -1,0 +1,113 @@
+-- One poll after another.
+use Rattle.std.proofs.Common.{◌≡◌, ◌≢◌, ◌≤◌, ◌<◌, ℕ, ℤ, Bool, true, false, List, [], ◌∷◌, ◌++◌, map, Option, refl, sym, ap, ◌∙◌, subst, arith, append_assoc, append-nil}
+use Rattle.std.specs.List.{flat_map}
+use Rattle.std.proofs.lemmas.List.{map-append}
+use Rattle.std.proofs.lemmas.List.Concat.{flat_map-append}
+use Rattle.outside.specs.Pieces.{Piece, Came, End, Nothing, bytes_in, piece_list}
+use Rattle.outside.specs.Telling.{Grows, GrowsInPart, Shrinks, IsAtEnd}
+use Rattle.outside.proofs.Growth.{grows_same, grows_by, grows_then, grows_still, shrinks_same, shrinks_by, shrinks_then, shrinks_still, in_part, in_part_whole, in_part_of, in_part_then, in_part_still}
+use Rattle.outside.specs.declared.sources.Source.{Ghosts as SourceWords}
+use Rattle.outside.specs.declared.sinks.Sink.{Ghosts as SinkWords}
+use Rattle.outside.specs.declared.clocks.Clock.{Ghosts as ClockWords}
+use Rattle.byte_lines.specs.Split.{Split, split_of}
+use Rattle.byte_lines.specs.Lines.{whole_lines, last_line, texts_of}
+use Rattle.byte_lines.specs.Unread.{Unread, lines_left, rest_of}
+use Rattle.byte_lines.proofs.Splitting.{split_of-settled}
+use Rattle.byte_lines.proofs.Giving.{unread, rest_of-none_left}
+use Rattle.in_lines.specs.Polls.{Poll, joined, joined_with, is_ended, ended_with, received, received_at, rest_through, lines_by}
+use Rattle.in_lines.specs.Events.{event_of, events_of}
+use Rattle.in_lines.specs.Rows.{out_bytes}
+use Rattle.in_lines.proofs.Receiving.{joined-append, is_ended-append, received-more, rest_through-more, rest_through-nothing}
+use Rattle.logstash_top.specs.declared.world.ThinWorld.{ThinWorld}
+use Rattle.logstash_top.specs.Rows.{rows_at}
+use Rattle.logstash_top.specs.Runs.{line_limit, pieces_in, Polled, Finished, Ran}
+use Rattle.logstash_top.proofs.RowLemmas.{out_bytes-append}
+
+abbrev pub poll_of : ℤ → Piece → Poll
+poll_of moment piece = record { moment = moment; piece = piece }
+
+some : 0 < line_limit
+some = omega arith
+
+pub still_more : (polls : List Poll) (moment : ℤ) (piece : Piece) → is_ended polls ≡ false → ended_with piece false ≡ false → is_ended (polls ++ poll_of moment piece ∷ []) ≡ false
+still_more polls moment piece still other = is_ended-append polls (poll_of moment piece ∷ []) still ∙ other
+
+joined_one : (piece : Piece) → joined_with piece [] ≡ bytes_in piece
+joined_one (Came bytes) = append-nil bytes
+joined_one End = refl
+joined_one Nothing = refl
+
+-- the rows that one more poll adds
+pub rows_more : (polls : List Poll) (moment : ℤ) (piece : Piece) → is_ended polls ≡ false
+    → out_bytes (events_of line_limit (polls ++ poll_of moment piece ∷ [])) ≡ out_bytes (events_of line_limit polls) ++ rows_at moment (lines_by line_limit (rest_through line_limit polls) piece)
+rows_more polls moment piece still =
+    let before = received line_limit polls in
+    let added = received_at moment (lines_by line_limit (rest_through line_limit polls) piece) in
+    ap (λ r. out_bytes (map event_of r)) (received-more line_limit polls moment piece some still) ∙ ap out_bytes (map-append event_of before added) ∙ out_bytes-append (map event_of before) (map event_of added)
+
+-- what a reader that holds a rest has to give after bytes
+pub fed_lines : (rest bytes : List ℕ) (reader : Unread) → reader ≡ unread line_limit rest false
+    → lines_left (unread reader.limit (reader.bytes ++ bytes) reader.ended) ≡ lines_by line_limit rest (Came bytes)
+fed_lines rest bytes reader is = ap (λ r. lines_left (unread r.limit (r.bytes ++ bytes) r.ended)) is ∙ append-nil (whole_lines line_limit (rest ++ bytes))
+
+same_unread : (r : Unread) (bytes : List ℕ) → r.limit ≡ line_limit → r.bytes ≡ bytes → r.ended ≡ false → r ≡ unread line_limit bytes false
+same_unread r bytes one two three = ap (λ l. unread l r.bytes r.ended) one ∙ ap (λ b. unread line_limit b r.ended) two ∙ ap (λ e. unread line_limit bytes e) three
+
+-- and what it holds once it gave that
+pub fed_rest : (polls : List Poll) (moment : ℤ) (bytes : List ℕ) (reader after : Unread) → is_ended polls ≡ false → reader ≡ unread line_limit (rest_through line_limit polls) false
+    → lines_left after ≡ [] → rest_of after ≡ rest_of (unread reader.limit (reader.bytes ++ bytes) reader.ended) → after.ended ≡ false → after.limit ≡ reader.limit
+    → after ≡ unread line_limit (rest_through line_limit (polls ++ poll_of moment (Came bytes) ∷ [])) false
+fed_rest polls moment bytes reader after still is none same open_end limit =
+    let at_limit : after.limit ≡ line_limit = limit ∙ ap (λ r. r.limit) is in
+    let held = rest_of-none_left after (subst (λ n. 0 < n) (sym at_limit) some) open_end none in
+    let bytes_are = sym held.1 ∙ same ∙ ap (λ r. rest_of (unread r.limit (r.bytes ++ bytes) r.ended)) is ∙ sym (rest_through-more line_limit polls moment bytes some still) in
+    same_unread after _ at_limit bytes_are open_end
+
+pub waited_rest : (polls : List Poll) (moment : ℤ) (reader : Unread) → is_ended polls ≡ false → reader ≡ unread line_limit (rest_through line_limit polls) false
+    → reader ≡ unread line_limit (rest_through line_limit (polls ++ poll_of moment Nothing ∷ [])) false
+waited_rest polls moment reader still is = is ∙ ap (λ b. unread line_limit b false) (sym (rest_through-nothing line_limit polls moment still))
+
+-- what it has to give at the end
+pub ended_lines : (polls : List Poll) (reader : Unread) → reader ≡ unread line_limit (rest_through line_limit polls) false
+    → lines_left (unread reader.limit reader.bytes true) ≡ lines_by line_limit (rest_through line_limit polls) End
+ended_lines polls reader is = ap (λ r. lines_left (unread r.limit r.bytes true)) is ∙ ap (texts_of true) (split_of-settled line_limit (joined polls) some)
+
+pieces_in-append : (xs ys : List Poll) → pieces_in (xs ++ ys) ≡ pieces_in xs ++ pieces_in ys
+pieces_in-append xs ys = flat_map-append (λ poll. piece_list poll.piece) xs ys
+
+module _ {I O K : Type 0} (source : SourceWords I) (sink : SinkWords O) (clock : ClockWords K) where
+  pub polled_none : (world : ThinWorld I O K) → Polled source sink clock world world []
+  polled_none world = record { asked = grows_same (clock.given world.clock); came = grows_same (source.given world.stdin); left = shrinks_same (source.left world.stdin) }
+
+  pub polled_more : (old mid new : ThinWorld I O K) (polls : List Poll) (moment : ℤ) (piece : Piece) → is_ended polls ≡ false → Polled source sink clock old mid polls
+      → Grows (clock.given mid.clock) (clock.given new.clock) (moment ∷ []) → Grows (source.given mid.stdin) (source.given new.stdin) (piece_list piece) → Shrinks (source.left mid.stdin) (source.left new.stdin) (bytes_in piece)
+      → Polled source sink clock old new (polls ++ poll_of moment piece ∷ [])
+  polled_more old mid new polls moment piece still so_far asked came left =
+      let one : List Poll = poll_of moment piece ∷ [] in
+      record {
+        asked = grows_by (sym (map-append (λ poll. poll.moment) polls one)) (grows_then so_far.asked asked);
+        came = grows_by (ap (λ t. pieces_in polls ++ t) (sym (append-nil (piece_list piece))) ∙ sym (pieces_in-append polls one)) (grows_then so_far.came came);
+        left = shrinks_by (ap (λ t. joined polls ++ t) (sym (joined_one piece)) ∙ sym (joined-append polls one still)) (shrinks_then so_far.left left);
+      }
+
+  -- the clock was asked for nothing since
+  pub polled_paused : (old mid new : ThinWorld I O K) (polls : List Poll) → Polled source sink clock old mid polls → new.stdin ≡ mid.stdin → Grows (clock.given mid.clock) (clock.given new.clock) [] → Polled source sink clock old new polls
+  polled_paused old mid new polls so_far same paused = record {
+    asked = grows_still so_far.asked paused;
+    came = subst (λ s. Grows (source.given old.stdin) (source.given s) (pieces_in polls)) (sym same) so_far.came;
+    left = subst (λ s. Shrinks (source.left old.stdin) (source.left s) (joined polls)) (sym same) so_far.left;
+  }
+
+  -- a run that isn't done
+  pub stopped : (old new : ThinWorld I O K) (is_done : Type 0) (polls : List Poll) → Polled source sink clock old new polls
+      → GrowsInPart (sink.taken old.stdout) (sink.taken new.stdout) (out_bytes (events_of line_limit polls)) → (is_done → ⊥) → Ran source sink clock old new is_done
+  stopped old new is_done polls polled wrote other = record { polls = polls; polled = polled; wrote = wrote; done = λ is. absurd (other is) }
+
+  -- with a part of the rows of one more poll
+  pub stopped_in_part : (old mid new : ThinWorld I O K) (is_done : Type 0) (polls : List Poll) (moment : ℤ) (piece : Piece) (lines : List (List ℕ)) → is_ended polls ≡ false
+      → Polled source sink clock old new (polls ++ poll_of moment piece ∷ []) → lines ≡ lines_by line_limit (rest_through line_limit polls) piece
+      → Grows (sink.taken old.stdout) (sink.taken mid.stdout) (out_bytes (events_of line_limit polls)) → GrowsInPart (sink.taken mid.stdout) (sink.taken new.stdout) (rows_at moment lines) → (is_done → ⊥)
+      → Ran source sink clock old new is_done
+  stopped_in_part old mid new is_done polls moment piece lines still polled are before part other =
+      stopped old new is_done (polls ++ poll_of moment piece ∷ []) polled
+      (subst (GrowsInPart (sink.taken old.stdout) (sink.taken new.stdout)) (ap (λ l. out_bytes (events_of line_limit polls) ++ rows_at moment l) are ∙ sym (rows_more polls moment piece still)) (in_part_then before part)) other
