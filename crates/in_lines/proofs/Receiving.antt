@@ -6,8 +6,8 @@ use Rattle.outside.specs.Pieces.{Piece, Came, End, Nothing}
 use Rattle.byte_lines.specs.Split.{Split, split_of}
 use Rattle.byte_lines.specs.Lines.{whole_lines, last_line, texts_of}
 use Rattle.byte_lines.specs.Unread.{lines_left}
-use Rattle.byte_lines.proofs.Splitting.{whole_lines-append, rest-append}
-use Rattle.byte_lines.proofs.Giving.{unread}
+use Rattle.byte_lines.proofs.Splitting.{whole_lines-append, rest-append, split_of-rest}
+use Rattle.byte_lines.proofs.Giving.{unread, lines_left-nil}
 use Rattle.in_lines.specs.Polls.{Poll, joined, joined_with, is_ended, ended_with, lines_through, Received, received_at, received_after, received, rest_through, lines_by}
 
 -- where no poll met the end, the bytes of others come behind
@@ -79,3 +79,74 @@ rest_through-more limit polls moment bytes some still =
 pub rest_through-nothing : (limit : ℕ) (polls : List Poll) (moment : ℤ) → is_ended polls ≡ false → rest_through limit (polls ++ record { moment = moment; piece = Nothing } ∷ []) ≡ rest_through limit polls
 rest_through-nothing limit polls moment still =
     ap (λ t. (split_of limit t).rest) (joined-append polls (record { moment = moment; piece = Nothing } ∷ []) still ∙ append-nil (joined polls))
+
+pub received-nil : (limit : ℕ) → received limit [] ≡ []
+unfolding received
+received-nil limit = refl
+
+pub rest_through-nil : (limit : ℕ) → 0 < limit → rest_through limit [] ≡ []
+rest_through-nil limit some = ap (λ s. s.rest) (split_of-rest limit [] tt some)
+
+-- nothing comes behind an end
+joined_ended : (piece : Piece) (mine both : List ℕ) (ended : Bool) → ended_with piece ended ≡ true → (ended ≡ true → both ≡ mine) → joined_with piece both ≡ joined_with piece mine
+joined_ended (Came bytes) mine both ended is later = ap (λ t. bytes ++ t) (later is)
+joined_ended End mine both ended is later = refl
+joined_ended Nothing mine both ended is later = later is
+
+joined-ended : (polls more : List Poll) → is_ended polls ≡ true → joined (polls ++ more) ≡ joined polls
+joined-ended [] more is = absurd cc
+joined-ended (poll ∷ polls) more is = joined_ended poll.piece (joined polls) (joined (polls ++ more)) (is_ended polls) is (joined-ended polls more)
+
+ended_still : (piece : Piece) (mine both : Bool) → ended_with piece mine ≡ true → (mine ≡ true → both ≡ true) → ended_with piece both ≡ true
+ended_still (Came bytes) mine both is later = later is
+ended_still End mine both is later = refl
+ended_still Nothing mine both is later = later is
+
+is_ended-ended : (polls more : List Poll) → is_ended polls ≡ true → is_ended (polls ++ more) ≡ true
+is_ended-ended [] more is = absurd cc
+is_ended-ended (poll ∷ polls) more is = ended_still poll.piece (is_ended polls) (is_ended (polls ++ more)) is (is_ended-ended polls more)
+
+-- the lines after more polls are those before and others behind them
+abbrev Longer : ℕ → List Poll → List Poll → Type 0
+Longer limit before more = (later : List (List ℕ)) × (lines_through limit (before ++ more) ≡ lines_through limit before ++ later)
+
+one_longer : (limit : ℕ) (before : List Poll) (poll : Poll) → 0 < limit → Longer limit before (poll ∷ [])
+one_longer limit before poll some = elim (is_ended before) as (λ e. is_ended before ≡ e → Longer limit before (poll ∷ [])) [
+  | false ↦ λ still. (lines_by limit (rest_through limit before) poll.piece, lines_through-more limit before poll.moment poll.piece some still)
+  | true ↦ λ is. ([], ap (λ t. lines_left (unread limit t (is_ended (before ++ poll ∷ [])))) (joined-ended before (poll ∷ []) is)
+      ∙ ap (λ e. lines_left (unread limit (joined before) e)) (is_ended-ended before (poll ∷ []) is ∙ sym is) ∙ sym (append-nil (lines_through limit before)))
+] refl
+
+longer : (limit : ℕ) (before more : List Poll) → 0 < limit → Longer limit before more
+longer limit before [] some = ([], ap (lines_through limit) (append-nil before) ∙ sym (append-nil (lines_through limit before)))
+longer limit before (poll ∷ polls) some =
+    let one = one_longer limit before poll some in
+    let all = longer limit (before ++ poll ∷ []) polls some in
+    ( one.0 ++ all.0
+    , ap (lines_through limit) (sym (append_assoc before (poll ∷ []) polls)) ∙ all.1 ∙ ap (λ t. t ++ all.0) one.1 ∙ append_assoc (lines_through limit before) one.0 all.0)
+
+abbrev lines_in : List Received → List (List ℕ)
+lines_in received = map (λ r. r.line) received
+
+lines_at : (moment : ℤ) (lines : List (List ℕ)) → lines_in (received_at moment lines) ≡ lines
+lines_at moment [] = refl
+lines_at moment (line ∷ lines) = ap (λ t. line ∷ t) (lines_at moment lines)
+
+lines_after : (limit : ℕ) (before polls : List Poll) → 0 < limit → lines_in (received_after limit before polls) ≡ drop (length (lines_through limit before)) (lines_through limit (before ++ polls))
+lines_after limit before [] some =
+    sym (ap (λ t. drop (length (lines_through limit before)) (lines_through limit t)) (append-nil before) ∙ ap (drop (length (lines_through limit before))) (sym (append-nil (lines_through limit before)))
+      ∙ drop-append_seam (lines_through limit before) [])
+lines_after limit before (poll ∷ polls) some =
+    let after = before ++ poll ∷ [] in
+    let mine = lines_through limit before in
+    let one = one_longer limit before poll some in
+    let all = longer limit after polls some in
+    map-append (λ r. r.line) (received_at poll.moment (drop (length mine) (lines_through limit after))) (received_after limit after polls)
+      ∙ ap (λ t. t ++ lines_in (received_after limit after polls)) (lines_at poll.moment (drop (length mine) (lines_through limit after)) ∙ ap (drop (length mine)) one.1 ∙ drop-append_seam mine one.0)
+      ∙ ap (λ t. one.0 ++ t) (lines_after limit after polls some ∙ ap (drop (length (lines_through limit after))) all.1 ∙ drop-append_seam (lines_through limit after) all.0)
+      ∙ sym (ap (drop (length mine)) (ap (lines_through limit) (sym (append_assoc before (poll ∷ []) polls)) ∙ all.1 ∙ ap (λ t. t ++ all.0) one.1 ∙ append_assoc mine one.0 all.0) ∙ drop-append_seam mine (one.0 ++ all.0))
+
+-- the lines that came are those of all bytes
+pub received-lines : (limit : ℕ) (polls : List Poll) → 0 < limit → map (λ r. r.line) (received limit polls) ≡ lines_through limit polls
+unfolding received
+received-lines limit polls some = lines_after limit [] polls some ∙ ap (λ n. drop n (lines_through limit polls)) (ap length (lines_left-nil limit false some))

@@ -1,7 +1,8 @@
 -- One poll after another.
-use Rattle.std.proofs.Common.{◌≡◌, ◌≢◌, ◌≤◌, ◌<◌, ℕ, ℤ, Bool, true, false, List, [], ◌∷◌, ◌++◌, map, Option, refl, sym, ap, ◌∙◌, subst, arith, append_assoc, append-nil}
+use Rattle.std.proofs.Common.{◌≡◌, ◌≢◌, ◌≤◌, ◌<◌, ℕ, ℤ, Bool, true, false, List, [], ◌∷◌, ◌++◌, map, length, take, drop, Option, Result, Ok, Err, IsOk, IsErr, OnOk, refl, sym, ap, ◌∙◌, subst, arith, append_assoc, append-nil}
 use Rattle.std.specs.List.{flat_map}
 use Rattle.std.proofs.lemmas.List.{map-append}
+use Rattle.std.proofs.Math.Seq.{take-append_seam}
 use Rattle.std.proofs.lemmas.List.Concat.{flat_map-append}
 use Rattle.outside.specs.Pieces.{Piece, Came, End, Nothing, bytes_in, piece_list}
 use Rattle.outside.specs.Telling.{Grows, GrowsInPart, Shrinks, IsAtEnd}
@@ -17,7 +18,7 @@ use Rattle.byte_lines.proofs.Giving.{unread, rest_of-none_left}
 use Rattle.in_lines.specs.Polls.{Poll, joined, joined_with, is_ended, ended_with, received, received_at, rest_through, lines_by}
 use Rattle.in_lines.specs.Events.{event_of, events_of}
 use Rattle.in_lines.specs.Rows.{out_bytes}
-use Rattle.in_lines.proofs.Receiving.{joined-append, is_ended-append, received-more, rest_through-more, rest_through-nothing}
+use Rattle.in_lines.proofs.Receiving.{joined-append, is_ended-append, received-nil, received-lines, received-more, rest_through-nil, rest_through-more, rest_through-nothing}
 use Rattle.logstash_top.specs.declared.world.ThinWorld.{ThinWorld}
 use Rattle.logstash_top.specs.Rows.{rows_at}
 use Rattle.logstash_top.specs.Runs.{line_limit, pieces_in, Polled, Finished, Ran}
@@ -28,6 +29,24 @@ poll_of moment piece = record { moment = moment; piece = piece }
 
 some : 0 < line_limit
 some = omega arith
+
+-- a room that was filled as a whole
+pub whole_room : (len : ℕ) (new items : List ℕ) → length new ≡ len → take len (new ++ drop (length new) items) ≡ new
+whole_room len new items is = ap (λ n. take n (new ++ drop (length new) items)) (sym is) ∙ take-append_seam new (drop (length new) items)
+
+pub no_rows : out_bytes (events_of line_limit []) ≡ []
+no_rows = ap (λ r. out_bytes (map event_of r)) (received-nil line_limit)
+
+pub no_rest : rest_through line_limit [] ≡ []
+no_rest = rest_through-nil line_limit some
+
+on_ok : {T E P : Type 0} (result : Result T E) → IsOk result → OnOk result P → P
+on_ok (Ok x) ok p = p
+on_ok (Err e) ok p = absurd cc
+
+pub not_both : {T E : Type 0} (result : Result T E) → IsOk result → IsErr result → ⊥
+not_both (Ok x) ok err = cc
+not_both (Err e) ok err = cc
 
 pub still_more : (polls : List Poll) (moment : ℤ) (piece : Piece) → is_ended polls ≡ false → ended_with piece false ≡ false → is_ended (polls ++ poll_of moment piece ∷ []) ≡ false
 still_more polls moment piece still other = is_ended-append polls (poll_of moment piece ∷ []) still ∙ other
@@ -90,13 +109,11 @@ module _ {I O K : Type 0} (source : SourceWords I) (sink : SinkWords O) (clock :
         left = shrinks_by (ap (λ t. joined polls ++ t) (sym (joined_one piece)) ∙ sym (joined-append polls one still)) (shrinks_then so_far.left left);
       }
 
-  -- the clock was asked for nothing since
-  pub polled_paused : (old mid new : ThinWorld I O K) (polls : List Poll) → Polled source sink clock old mid polls → new.stdin ≡ mid.stdin → Grows (clock.given mid.clock) (clock.given new.clock) [] → Polled source sink clock old new polls
-  polled_paused old mid new polls so_far same paused = record {
-    asked = grows_still so_far.asked paused;
-    came = subst (λ s. Grows (source.given old.stdin) (source.given s) (pieces_in polls)) (sym same) so_far.came;
-    left = subst (λ s. Shrinks (source.left old.stdin) (source.left s) (joined polls)) (sym same) so_far.left;
-  }
+  -- a poll that found nothing
+  pub polled_waited : (old mid new : ThinWorld I O K) (polls : List Poll) (moment : ℤ) → is_ended polls ≡ false → Polled source sink clock old mid polls
+      → Grows (clock.given mid.clock) (clock.given new.clock) (moment ∷ []) → Grows (source.given mid.stdin) (source.given new.stdin) [] → Shrinks (source.left mid.stdin) (source.left new.stdin) []
+      → Polled source sink clock old new (polls ++ poll_of moment Nothing ∷ [])
+  polled_waited old mid new polls moment still so_far asked came left = polled_more old mid new polls moment Nothing still so_far asked came left
 
   -- a run that isn't done
   pub stopped : (old new : ThinWorld I O K) (is_done : Type 0) (polls : List Poll) → Polled source sink clock old new polls
@@ -111,3 +128,25 @@ module _ {I O K : Type 0} (source : SourceWords I) (sink : SinkWords O) (clock :
   stopped_in_part old mid new is_done polls moment piece lines still polled are before part other =
       stopped old new is_done (polls ++ poll_of moment piece ∷ []) polled
       (subst (GrowsInPart (sink.taken old.stdout) (sink.taken new.stdout)) (ap (λ l. out_bytes (events_of line_limit polls) ++ rows_at moment l) are ∙ sym (rows_more polls moment piece still)) (in_part_then before part)) other
+
+  -- a run whose last poll met the end, and whose last rows were written, or not
+  pub ended : {E : Type 0} (old mid new : ThinWorld I O K) (result : Result (Unit {0}) E) (polls : List Poll) (moment : ℤ) (lines : List (List ℕ)) → is_ended polls ≡ false
+      → Polled source sink clock old new (polls ++ poll_of moment End ∷ []) → IsAtEnd (source.left new.stdin) → lines ≡ lines_by line_limit (rest_through line_limit polls) End
+      → Grows (sink.taken old.stdout) (sink.taken mid.stdout) (out_bytes (events_of line_limit polls))
+      → OnOk result (Grows (sink.taken mid.stdout) (sink.taken new.stdout) (rows_at moment lines)) → GrowsInPart (sink.taken mid.stdout) (sink.taken new.stdout) (rows_at moment lines)
+      → Ran source sink clock old new (IsOk result)
+  ended old mid new result polls moment lines still polled at_end are before whole part =
+      let all = polls ++ poll_of moment End ∷ [] in
+      let rows = ap (λ l. out_bytes (events_of line_limit polls) ++ rows_at moment l) are ∙ sym (rows_more polls moment End still) in
+      let end : is_ended all ≡ true = is_ended-append polls (poll_of moment End ∷ []) still in
+      record {
+        polls = all;
+        polled = polled;
+        wrote = subst (GrowsInPart (sink.taken old.stdout) (sink.taken new.stdout)) rows (in_part_then before part);
+        done = λ ok. record {
+          ended = end;
+          at_end = at_end;
+          lines = received-lines line_limit all some ∙ ap (λ e. lines_left (unread line_limit (joined all) e)) end;
+          wrote = grows_by rows (grows_then before (on_ok result ok whole));
+        };
+      }

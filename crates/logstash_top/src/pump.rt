@@ -88,6 +88,7 @@ fn take_piece<O: Sink>(
     ensures ok { OnOk result (Grows (O.taken sink.old) (O.taken sink.new) (rows_at moment (lines_left (record reader.old { bytes = reader.old.bytes ++ bytes.now })))) }
     ensures part { GrowsInPart (O.taken sink.old) (O.taken sink.new) (rows_at moment (lines_left (record reader.old { bytes = reader.old.bytes ++ bytes.now }))) }
     ensures cause { HasCause (O.faults sink.old) (O.faults sink.new) (result ≡ Err Stop.Output) }
+    ensures not_input { ¬ (result ≡ Err Stop.Input) }
     ensures left { OnOk result (lines_left reader.new ≡ []) }
     ensures rest { OnOk result (rest_of reader.new ≡ rest_of (record reader.old { bytes = reader.old.bytes ++ bytes.now })) }
     ensures ended { OnOk result (reader.new.ended ≡ false) }

@@ -26,6 +26,7 @@ pub(crate) fn write_lines<O: Sink>(
     ensures ok { OnOk result (Grows (O.taken sink.old) (O.taken sink.new) (rows_at moment (lines_left reader.old))) }
     ensures part { GrowsInPart (O.taken sink.old) (O.taken sink.new) (rows_at moment (lines_left reader.old)) }
     ensures cause { HasCause (O.faults sink.old) (O.faults sink.new) (result ≡ Err Stop.Output) }
+    ensures not_input { ¬ (result ≡ Err Stop.Input) }
     ensures left { OnOk result (lines_left reader.new ≡ []) }
     ensures rest { OnOk result (reader.old.ended ≡ false → rest_of reader.new ≡ rest_of reader.old) }
     ensures ended { reader.new.ended ≡ reader.old.ended }
@@ -54,6 +55,7 @@ fn write_line<O: Sink>(
     ensures ok { OnOk result (Grows (O.taken sink.old) (O.taken sink.new) (row_of (event_of (record { line = line.now; moment = moment })))) }
     ensures part { GrowsInPart (O.taken sink.old) (O.taken sink.new) (row_of (event_of (record { line = line.now; moment = moment }))) }
     ensures cause { HasCause (O.faults sink.old) (O.faults sink.new) (result ≡ Err Stop.Output) }
+    ensures not_input { ¬ (result ≡ Err Stop.Input) }
 {
     let event = line_event(alloc, line, moment)?;
     row.clear();

@@ -1,0 +1,126 @@
+use Rattle.std.proofs.Common.{◌≡◌, ◌≤◌, ◌++◌, [], ◌∷◌, ℕ, false, true, List, Ok, Err, take, refl, sym, ap, ◌∙◌, subst, arith, append-nil}
+use Rattle.outside.specs.Pieces.{Piece, Came, End, Nothing}
+use Rattle.outside.specs.Telling.{Grows}
+use Rattle.outside.proofs.Growth.{grows_same, grows_by, grows_then, grows_still, shrinks_by, in_part_whole, in_part_none, in_part_of}
+use Rattle.outside.proofs.Causes.{cause_from, cause_of, no_cause}
+use Rattle.in_lines.specs.Polls.{is_ended, lines_by, rest_through}
+use Rattle.in_lines.specs.Events.{events_of}
+use Rattle.in_lines.specs.Rows.{out_bytes}
+use Rattle.in_lines.proofs.Receiving.{is_ended-append}
+use Rattle.byte_lines.specs.Unread.{lines_left}
+use Rattle.byte_lines.proofs.Giving.{unread}
+use Rattle.logstash_top.specs.Rows.{rows_at}
+use Rattle.logstash_top.specs.Runs.{line_limit}
+use Rattle.logstash_top.proofs.PumpLemmas.{poll_of, whole_room, no_rows, no_rest, not_both, ended, still_more, rows_more, fed_lines, fed_rest, waited_rest, ended_lines, polled_none, polled_more, polled_waited, stopped, stopped_in_part}
+use Rattle.logstash_top.proofs.pump.pump.Goals as goal
+
+pub returns-in_err-room-clause-ran : goal.returns-in_err-room-clause-ran
+returns-in_err-room-clause-ran g c =
+    stopped g.I.Source g.O.Sink g.K.Clock _ _ _ [] (polled_none g.I.Source g.O.Sink g.K.Clock _) (in_part_none _ (grows_same _)) (λ ok. not_both c.from_residual.result ok c.from_residual.ensures.0)
+
+pub loop-init : goal.loop-init
+loop-init g c = record {
+  can = tt;
+  ends = tt;
+  polls = [];
+  polled = polled_none g.I.Source g.O.Sink g.K.Clock _;
+  still = refl;
+  wrote = grows_by (sym no_rows) (grows_same _);
+  reader = c.new-reader.ensures ∙ ap (λ b. unread line_limit b false) (sym no_rest);
+  stderr = refl;
+  read_later = omega arith;
+  write_later = omega arith;
+}
+
+-- nothing came
+pub returns-in-Err-clause-ran : goal.returns-in-Err-clause-ran
+returns-in-Err-clause-ran g c =
+    let i = c.loop.invariant in
+    let e = c.in-Err.ensures in
+    let m = c.now-moment.result in
+    stopped_in_part g.I.Source g.O.Sink g.K.Clock _ c.loop.world _ _ i.polls m Nothing [] i.still
+      (polled_more g.I.Source g.O.Sink g.K.Clock _ c.loop.world _ i.polls m Nothing i.still i.polled c.now-moment.ensures e.given e.left) refl i.wrote (in_part_none [] (grows_same _)) (λ is. cc)
+
+pub returns-in-Err-clause-read_cause : goal.returns-in-Err-clause-read_cause
+returns-in-Err-clause-read_cause g c = cause_from c.loop.invariant.read_later (cause_of (λ _. refl) c.in-Err.ensures.cause)
+
+pub returns-in-Err-clause-write_cause : goal.returns-in-Err-clause-write_cause
+returns-in-Err-clause-write_cause g c = no_cause c.loop.invariant.write_later (λ is. cc)
+
+pub loop-preserved : goal.loop-preserved
+loop-preserved g c =
+    let i = c.loop.invariant in
+    let e = rw c.in-Ok-NotYet.field-0-is at c.in-Ok-NotYet.ensures in
+    let m = c.now-moment.result in
+    record {
+      can = tt;
+      ends = tt;
+      polls = i.polls ++ poll_of m Nothing ∷ [];
+      polled = polled_waited g.I.Source g.O.Sink g.K.Clock _ c.loop.world _ i.polls m i.still i.polled (grows_still c.now-moment.ensures c.pause.ensures) e.given e.left;
+      still = still_more i.polls m Nothing i.still refl;
+      wrote = grows_by (sym (rows_more i.polls m Nothing i.still ∙ append-nil _)) i.wrote;
+      reader = waited_rest i.polls m _ i.still i.reader;
+      stderr = i.stderr;
+      read_later = omega (arith, i.read_later, e.cause.later);
+      write_later = i.write_later;
+    }
+
+-- bytes came
+pub loop-preserved-in-Ok : goal.loop-preserved-in-Ok
+loop-preserved-in-Ok g c =
+    let i = c.loop.invariant in
+    let e = rw c.in-Ok-Bytes.field-0-is at c.in-Ok-Bytes.ensures in
+    let m = c.now-moment.result in
+    let same = sym (c.deref.ensures.value ∙ whole_room _ _ _ (omega (arith, c.read.auto.into, c.deref_mut.ensures.len))) in
+    let bytes = take c.in-Ok-Bytes.count c.deref.result.now in
+    let lines = fed_lines (rest_through line_limit i.polls) bytes c.loop.reader i.reader in
+    record {
+      can = tt;
+      ends = tt;
+      polls = i.polls ++ poll_of m (Came bytes) ∷ [];
+      polled = polled_more g.I.Source g.O.Sink g.K.Clock _ c.loop.world _ i.polls m (Came bytes) i.still i.polled c.now-moment.ensures (grows_by (ap (λ t. Came (take c.in-Ok-Bytes.count t) ∷ []) same) e.given) (shrinks_by (ap (take c.in-Ok-Bytes.count) same) e.left);
+      still = still_more i.polls m (Came bytes) i.still refl;
+      wrote = grows_by (ap (λ l. out_bytes (events_of line_limit i.polls) ++ rows_at m l) lines ∙ sym (rows_more i.polls m (Came bytes) i.still)) (grows_then i.wrote c.in-Ok.ensures.ok);
+      reader = fed_rest i.polls m bytes c.loop.reader c.take_piece.new.reader i.still i.reader c.in-Ok.ensures.left c.in-Ok.ensures.rest c.in-Ok.ensures.ended c.in-Ok.ensures.limit;
+      stderr = i.stderr;
+      read_later = omega (arith, i.read_later, e.cause.later);
+      write_later = omega (arith, i.write_later, c.in-Ok.ensures.cause.later);
+    }
+
+pub returns-in-Err-take_piece-clause-ran : goal.returns-in-Err-take_piece-clause-ran
+returns-in-Err-take_piece-clause-ran g c =
+    let i = c.loop.invariant in
+    let e = rw c.in-Ok-Bytes.field-0-is at c.in-Ok-Bytes.ensures in
+    let m = c.now-moment.result in
+    let same = sym (c.deref.ensures.value ∙ whole_room _ _ _ (omega (arith, c.read.auto.into, c.deref_mut.ensures.len))) in
+    let bytes = take c.in-Ok-Bytes.count c.deref.result.now in
+    stopped_in_part g.I.Source g.O.Sink g.K.Clock _ c.loop.world _ _ i.polls m (Came bytes) _ i.still
+      (polled_more g.I.Source g.O.Sink g.K.Clock _ c.loop.world _ i.polls m (Came bytes) i.still i.polled c.now-moment.ensures (grows_by (ap (λ t. Came (take c.in-Ok-Bytes.count t) ∷ []) same) e.given) (shrinks_by (ap (take c.in-Ok-Bytes.count) same) e.left))
+      (fed_lines (rest_through line_limit i.polls) bytes c.loop.reader i.reader) i.wrote c.in-Err-take_piece.ensures.part (λ is. cc)
+
+pub returns-in-Err-take_piece-clause-read_cause : goal.returns-in-Err-take_piece-clause-read_cause
+returns-in-Err-take_piece-clause-read_cause g c =
+    let e = rw c.in-Ok-Bytes.field-0-is at c.in-Ok-Bytes.ensures in
+    no_cause (omega (arith, c.loop.invariant.read_later, e.cause.later)) c.in-Err-take_piece.ensures.not_input
+
+pub returns-in-Err-take_piece-clause-write_cause : goal.returns-in-Err-take_piece-clause-write_cause
+returns-in-Err-take_piece-clause-write_cause g c = cause_from c.loop.invariant.write_later c.in-Err-take_piece.ensures.cause
+
+-- the end came
+pub returns-in-Ok-End-clause-ran : goal.returns-in-Ok-End-clause-ran
+returns-in-Ok-End-clause-ran g c =
+    let i = c.loop.invariant in
+    let e = rw c.in-Ok-End.field-0-is at c.in-Ok-End.ensures in
+    let m = c.now-moment.result in
+    let lines = ap lines_left c.end.ensures ∙ ended_lines i.polls c.loop.reader i.reader in
+    ended g.I.Source g.O.Sink g.K.Clock _ c.loop.world _ c.write_lines.result i.polls m _ i.still
+      (polled_more g.I.Source g.O.Sink g.K.Clock _ c.loop.world _ i.polls m End i.still i.polled c.now-moment.ensures e.given e.left)
+      (e.end refl) lines i.wrote c.write_lines.ensures.ok c.write_lines.ensures.part
+
+pub returns-in-Ok-End-clause-read_cause : goal.returns-in-Ok-End-clause-read_cause
+returns-in-Ok-End-clause-read_cause g c =
+    let e = rw c.in-Ok-End.field-0-is at c.in-Ok-End.ensures in
+    no_cause (omega (arith, c.loop.invariant.read_later, e.cause.later)) c.write_lines.ensures.not_input
+
+pub returns-in-Ok-End-clause-write_cause : goal.returns-in-Ok-End-clause-write_cause
+returns-in-Ok-End-clause-write_cause g c = cause_from c.loop.invariant.write_later c.write_lines.ensures.cause

@@ -1,0 +1,21 @@
+use Rattle.std.proofs.Common.{◌≡◌, ◌≤◌, ℕ, List, false}
+use Rattle.outside.specs.Telling.{Grows}
+use Rattle.in_lines.specs.Polls.{Poll, is_ended, rest_through}
+use Rattle.in_lines.specs.Events.{events_of}
+use Rattle.in_lines.specs.Rows.{out_bytes}
+use Rattle.logstash_top.specs.Runs.{Polled, line_limit}
+use Rattle.logstash_top.proofs.pump.pump.Given as goal
+
+abbrev pub invariant-loop : goal.invariant-loop
+invariant-loop g l = record {
+  can : (goal.iterator-loop g).can_next l.iterator';
+  ends : (goal.iterator-loop g).is_finite l.iterator';
+  polls : List Poll;
+  polled : Polled g.I.Source g.O.Sink g.K.Clock l.fn.world l.world polls;
+  still : is_ended polls ≡ false;
+  wrote : Grows (g.O.Sink.taken l.fn.world.stdout) (g.O.Sink.taken l.world.stdout) (out_bytes (events_of line_limit polls));
+  reader : l.reader ≡ record { limit = line_limit; bytes = rest_through line_limit polls; ended = false };
+  stderr : l.world.stderr ≡ l.fn.world.stderr;
+  read_later : g.I.Source.faults l.fn.world.stdin ≤ g.I.Source.faults l.world.stdin;
+  write_later : g.O.Sink.faults l.fn.world.stdout ≤ g.O.Sink.faults l.world.stdout;
+}
