@@ -6,7 +6,7 @@ use Rattle.std.proofs.Math.Seq.{take-append_seam}
 use Rattle.std.proofs.lemmas.List.Concat.{flat_map-append}
 use Rattle.outside.specs.Pieces.{Piece, Came, End, Nothing, bytes_in, piece_list}
 use Rattle.outside.specs.Telling.{Grows, GrowsInPart, Shrinks, IsAtEnd}
-use Rattle.outside.proofs.Growth.{grows_same, grows_by, grows_then, grows_still, shrinks_same, shrinks_by, shrinks_then, shrinks_still, in_part, in_part_whole, in_part_of, in_part_then, in_part_still}
+use Rattle.outside.proofs.Growth.{grows_same, grows_by, grows_then, grows_still, shrinks_same, shrinks_by, shrinks_then, shrinks_still, in_part, in_part_whole, in_part_none, in_part_of, in_part_then, in_part_still}
 use Rattle.outside.specs.declared.sources.Source.{Ghosts as SourceWords}
 use Rattle.outside.specs.declared.sinks.Sink.{Ghosts as SinkWords}
 use Rattle.outside.specs.declared.clocks.Clock.{Ghosts as ClockWords}
@@ -150,3 +150,7 @@ module _ {I O K : Type 0} (source : SourceWords I) (sink : SinkWords O) (clock :
           wrote = grows_by rows (grows_then before (on_ok result ok whole));
         };
       }
+
+  -- nothing was done
+  pub unmoved : (world : ThinWorld I O K) (is_done : Type 0) → (is_done → ⊥) → Ran source sink clock world world is_done
+  unmoved world is_done other = stopped world world is_done [] (polled_none world) (in_part_none _ (grows_same _)) other

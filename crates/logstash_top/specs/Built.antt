@@ -9,10 +9,18 @@ is_blank b = (b == 32) || (b == 9) || (b == 10) || (b == 13)
 abbrev pub is_brace : ℕ → Bool
 is_brace b = (b == 123) || (b == 125)
 
--- a byte of a word stands at the front
+-- any other byte belongs to a word
+abbrev pub is_word : ℕ → Bool
+is_word b = not (is_blank b || is_brace b)
+
 abbrev pub begins_word : List ℕ → Bool
 begins_word [] = false
-begins_word (b ∷ bytes) = not (is_blank b || is_brace b)
+begins_word (b ∷ bytes) = is_word b
+
+-- a token stands at the front
+abbrev pub BeginsToken : List ℕ → Type 0
+BeginsToken [] = ⊥
+BeginsToken (b ∷ bytes) = is_blank b ≡ false
 
 -- the byte before the first token, as a part of it
 abbrev pub before_first : ℕ → List (List ℕ) → List (List ℕ)

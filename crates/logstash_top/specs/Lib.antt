@@ -3,3 +3,4 @@ pub mod Built
 pub mod Status
 pub mod Rows
 pub mod Runs
+pub mod Parts

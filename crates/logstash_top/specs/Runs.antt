@@ -40,3 +40,11 @@ module _ {I O K : Type 0} (source : SourceWords I) (sink : SinkWords O) (clock :
     pub polled : Polled old new polls
     pub wrote : GrowsInPart (sink.taken old.stdout) (sink.taken new.stdout) (out_bytes (events_of line_limit polls))
     pub done : is_done → Finished old new polls
+
+-- worlds, whatever their objects tell
+module _ {I O K : Type 0} where
+  -- nothing was read, nothing written to stdout, and the clock not asked
+  pub record IsUntouched (old new : ThinWorld I O K) : Type 0 where
+    pub stdin : new.stdin ≡ old.stdin
+    pub stdout : new.stdout ≡ old.stdout
+    pub clock : new.clock ≡ old.clock

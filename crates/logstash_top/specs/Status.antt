@@ -6,6 +6,8 @@ use Rattle.logstash_top.specs.declared.status.WordsFault.{WordsFault}
 use Rattle.logstash_top.specs.declared.status.WordsFault.TheVariants.{Unread}
 use Rattle.logstash_top.specs.declared.status.ConfigFault.{ConfigFault}
 use Rattle.logstash_top.specs.declared.status.ConfigFault.TheVariants.{Thin}
+use Rattle.logstash_top.specs.declared.stop.Stop.{Stop}
+use Rattle.logstash_top.specs.declared.stop.Stop.TheVariants.{Input, Output, Memory}
 use Rattle.logstash_top.specs.Words.{IsCommand}
 use Rattle.logstash_top.specs.Built.{IsBuilt}
 
@@ -42,8 +44,30 @@ input_fault = InputFault main_id input_id
 abbrev pub output_fault : Status
 output_fault = OutputFault output_id
 
+abbrev pub thin_fault : Status
+thin_fault = BadConfig main_id Thin
+
+-- the status of a run that stopped
+abbrev pub status_of : Stop → Status
+status_of Input = input_fault
+status_of Output = output_fault
+status_of Memory = NoMemory
+
 -- the answers that the words allow
 pub record Answers (words : List (List ℕ)) (status : Status) : Type 0 where
   pub unread : ((text : List ℕ) → ¬ (IsCommand words text)) → status ≡ BadWords Unread
-  pub not_built : (text : List ℕ) → IsCommand words text → ¬ (IsBuilt text) → (status ≡ BadConfig main_id Thin) ⊎ (status ≡ NoMemory)
+  pub not_built : (text : List ℕ) → IsCommand words text → ¬ (IsBuilt text) → (status ≡ thin_fault) ⊎ (status ≡ NoMemory)
   pub built : (text : List ℕ) → IsCommand words text → IsBuilt text → (status ≡ Done) ⊎ ((status ≡ input_fault) ⊎ ((status ≡ output_fault) ⊎ (status ≡ NoMemory)))
+
+-- the words, or the text of the configuration, are refused
+abbrev pub IsRefused : Status → Type 0
+IsRefused Done = ⊥
+IsRefused (BadWords fault) = Unit {0}
+IsRefused (BadConfig pipeline fault) = Unit {0}
+IsRefused (InputFault pipeline input) = ⊥
+IsRefused (OutputFault output) = ⊥
+IsRefused NoMemory = ⊥
+
+-- where the words have a text that is built, the run is done, or memory ran out
+abbrev pub Completes : List (List ℕ) → Status → Type 0
+Completes words status = (text : List ℕ) → IsCommand words text → IsBuilt text → (status ≡ Done) ⊎ (status ≡ NoMemory)

@@ -2,11 +2,16 @@
 //! that it is handed.
 #![tactic(auto)]
 
+mod built;
+mod parts;
 mod pump;
 mod rows;
 mod status;
 mod stop;
+mod top;
+mod words;
 mod world;
 
 pub use status::{ConfigFault, Status, WordsFault};
+pub use top::logstash;
 pub use world::ThinWorld;

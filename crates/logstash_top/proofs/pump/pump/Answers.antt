@@ -71,7 +71,7 @@ loop-preserved-in-Ok g c =
     let i = c.loop.invariant in
     let e = rw c.in-Ok-Bytes.field-0-is at c.in-Ok-Bytes.ensures in
     let m = c.now-moment.result in
-    let same = sym (c.deref.ensures.value ∙ whole_room _ _ _ (omega (arith, c.read.auto.into, c.deref_mut.ensures.len))) in
+    let same : c.read.new.into ≡ c.deref.result.now = sym (c.deref.ensures.value ∙ whole_room _ _ _ (omega (arith, c.read.auto.into, c.deref_mut.ensures.len))) in
     let bytes = take c.in-Ok-Bytes.count c.deref.result.now in
     let lines = fed_lines (rest_through line_limit i.polls) bytes c.loop.reader i.reader in
     record {
@@ -92,7 +92,7 @@ returns-in-Err-take_piece-clause-ran g c =
     let i = c.loop.invariant in
     let e = rw c.in-Ok-Bytes.field-0-is at c.in-Ok-Bytes.ensures in
     let m = c.now-moment.result in
-    let same = sym (c.deref.ensures.value ∙ whole_room _ _ _ (omega (arith, c.read.auto.into, c.deref_mut.ensures.len))) in
+    let same : c.read.new.into ≡ c.deref.result.now = sym (c.deref.ensures.value ∙ whole_room _ _ _ (omega (arith, c.read.auto.into, c.deref_mut.ensures.len))) in
     let bytes = take c.in-Ok-Bytes.count c.deref.result.now in
     stopped_in_part g.I.Source g.O.Sink g.K.Clock _ c.loop.world _ _ i.polls m (Came bytes) _ i.still
       (polled_more g.I.Source g.O.Sink g.K.Clock _ c.loop.world _ i.polls m (Came bytes) i.still i.polled c.now-moment.ensures (grows_by (ap (λ t. Came (take c.in-Ok-Bytes.count t) ∷ []) same) e.given) (shrinks_by (ap (take c.in-Ok-Bytes.count) same) e.left))
