@@ -1,6 +1,6 @@
 -- How changes of told lists compose.
-use Rattle.std.proofs.Common.{◌≡◌, List, [], ◌++◌, Option, Some, refl, sym, ap, ◌∙◌, subst, append_assoc, append-nil}
-use Rattle.outside.specs.Telling.{Grows, GrowsInPart, Shrinks}
+use Rattle.std.proofs.Common.{◌≡◌, ℕ, List, [], ◌++◌, Option, Some, None, length, refl, sym, ap, ◌∙◌, subst, append_assoc, append-nil, length-append, arith}
+use Rattle.outside.specs.Telling.{Grows, GrowsInPart, Shrinks, IsWithin}
 
 -- a told list that stays grows by nothing
 pub grows_same : {X : Type 0} (a : Option (List X)) → Grows a a []
@@ -63,3 +63,17 @@ in_part_then {before = before} one other =
     in_part (before ++ other.part) other.rest
     (ap (λ t. before ++ t) other.whole ∙ sym (append_assoc before other.part other.rest))
     (grows_then one other.grows)
+
+-- the first bytes of all are no more than all
+pub within_front : (flushed held : List ℕ) → IsWithin (Some (flushed ++ held)) (length flushed)
+within_front flushed held = record { most = λ now told. omega (arith, length-append flushed held, ap length (some_same told)) }
+  where
+    some_same : {a b : List ℕ} → Some a ≡ Some b → a ≡ b
+    some_same told = cc
+
+-- of bytes that aren't told nothing is said
+pub within_untold : (flushed : ℕ) → IsWithin None flushed
+within_untold flushed = record { most = λ now told. absurd (untold now told) }
+  where
+    untold : (now : List ℕ) → None ≡ Some now → ⊥
+    untold now told = cc

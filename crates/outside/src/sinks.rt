@@ -1,4 +1,4 @@
-ghost use Rattle.std.specs.Prelude.{◌≡◌, ◌≤◌, ◌<◌, ℕ, List, [], Option, IsErr, IfOk, OnOk, OnErr, length, take};
+ghost use Rattle.std.specs.Prelude.{◌≤◌, ◌<◌, ℕ, List, [], Option, IsErr, IfOk, OnOk, OnErr, length, take};
 ghost use Rattle.outside.specs.Counts.{HasCause};
 ghost use Rattle.outside.specs.Telling.{Grows, GrowsInPart, IsFlushed, IsWithin};
 

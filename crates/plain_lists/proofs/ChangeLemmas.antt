@@ -1,5 +1,5 @@
 -- What a change at a key leaves at that key and at the others, and that members are told apart by what `get` answers.
-use Rattle.std.proofs.Common.{◌≡◌, ◌≢◌, ℕ, zero, suc, Bool, true, false, cond, List, [], ◌∷◌, ◌++◌, Option, Some, None, refl, sym, ap, subst, ◌∙◌, slice_get, IsTrue, ◌↔◌, rules}
+use Rattle.std.proofs.Common.{◌≡◌, ◌≢◌, ℕ, zero, suc, false, cond, List, [], ◌∷◌, ◌++◌, Some, None, refl, sym, ap, subst, ◌∙◌, slice_get, IsTrue, ◌↔◌, rules}
 use Rattle.std.specs.Map.{keys_of}
 use Rattle.std.specs.Option.{option_map}
 use Rattle.std.specs.Ordering.{is_eq}
@@ -36,7 +36,7 @@ module _ {V : Type 0} (k : List ℕ) where
   insert_member-found v [] x rises found = absurd (search (found, rules))
   insert_member-found v (m ∷ ms) x rises found = order_cases (text_cmp k m.0)
       (λ e. let none : get_member k ms ≡ None = get_member-below k ms (Below-trans k m.0 (keys_of ms) e rises.0) in
-        absurd (search (sym none ∙ (rw e at found), rules)))
+      absurd (search (sym none ∙ (rw e at found), rules)))
       (λ e. rw e (ap (λ (l : List ℕ). (l, v) ∷ ms) (same_from_Equal k m.0 e)))
       (λ e. rw e (ap (λ ns. m ∷ ns) (insert_member-found v ms x rises.1 (rw e at found))))
 
@@ -98,10 +98,10 @@ module _ {V : Type 0} where
   tails_same m n ms ns key below below' k same =
       let beyond : same_key k m.0 ≡ false → get_member k ms ≡ get_member k ns = λ o. let p : same_key k n.0 ≡ false = ap (same_key k) (sym key) ∙ o in rw p at (rw o at same) in
       order_cases (text_cmp k m.0)
-        (λ e. beyond (ap is_eq e))
-        (λ e. let at : k ≡ m.0 = same_from_Equal k m.0 e in
-          get_member-below k ms (subst (λ l. Below l (keys_of ms)) (sym at) below) ∙ sym (get_member-below k ns (subst (λ l. Below l (keys_of ns)) (sym (at ∙ key)) below')))
-        (λ e. beyond (ap is_eq e))
+      (λ e. beyond (ap is_eq e))
+      (λ e. let at : k ≡ m.0 = same_from_Equal k m.0 e in
+      get_member-below k ms (subst (λ l. Below l (keys_of ms)) (sym at) below) ∙ sym (get_member-below k ns (subst (λ l. Below l (keys_of ns)) (sym (at ∙ key)) below')))
+      (λ e. beyond (ap is_eq e))
 
   -- members at keys that rise are the same where `get` answers the same at each key
   pub same_members : (ms ns : List (List ℕ × V)) → Rises ms → Rises ns → ((k : List ℕ) → get_member k ms ≡ get_member k ns) → ms ≡ ns
@@ -111,20 +111,22 @@ module _ {V : Type 0} where
   same_members (m ∷ ms) (n ∷ ns) rises rises' same = order_cases (text_cmp m.0 n.0)
       (λ e. first_not_in m ms (n ∷ ns) (e, Below-trans m.0 n.0 (keys_of ns) e rises'.0) (same m.0))
       (λ e.
-        let key : m.0 ≡ n.0 = same_from_Equal m.0 n.0 e in
-        let there : Some m.1 ≡ Some n.1 = rw e at (rw (text_cmp-self m.0) at (same m.0)) in
-        let value : m.1 ≡ n.1 = search (there, rules) in
-        let rest = same_members ms ns rises.1 rises'.1 (λ k. tails_same m n ms ns key rises.0 rises'.0 k (same k)) in
-        λ i. (key i, value i) ∷ rest i)
+      let key : m.0 ≡ n.0 = same_from_Equal m.0 n.0 e in
+      let there : Some m.1 ≡ Some n.1 = rw e at (rw (text_cmp-self m.0) at (same m.0)) in
+      let value : m.1 ≡ n.1 = search (there, rules) in
+      let rest = same_members ms ns rises.1 rises'.1 (λ k. tails_same m n ms ns key rises.0 rises'.0 k (same k)) in
+      λ i. (key i, value i) ∷ rest i)
       (λ e.
-        let less : text_cmp n.0 m.0 ≡ Less = text_cmp-flip m.0 n.0 Greater e in
-        first_not_in n ns (m ∷ ms) (less, Below-trans n.0 m.0 (keys_of ms) less rises.0) (sym (same n.0)))
+      let less : text_cmp n.0 m.0 ≡ Less = text_cmp-flip m.0 n.0 Greater e in
+      first_not_in n ns (m ∷ ms) (less, Below-trans n.0 m.0 (keys_of ms) less rises.0) (sym (same n.0)))
 
 pub text_cmp-decides : (k l : List ℕ) → (text_cmp k l ≡ Equal) ↔ (k ≡ l)
 text_cmp-decides k l = (same_from_Equal k l, λ same. subst (λ m. text_cmp k m ≡ Equal) same (text_cmp-self k))
 
 pub same_key-decides : (k l : List ℕ) → IsTrue (same_key k l) ↔ (k ≡ l)
-same_key-decides k l = (λ test. order_cases (text_cmp k l) (λ e. absurd (search ((rw e at test), rules))) (same_from_Equal k l) (λ e. absurd (search ((rw e at test), rules))),
-    λ same. ap is_eq ((text_cmp-decides k l).1 same))
+same_key-decides k l = (
+  λ test. order_cases (text_cmp k l) (λ e. absurd (search ((rw e at test), rules))) (same_from_Equal k l) (λ e. absurd (search ((rw e at test), rules))),
+  λ same. ap is_eq ((text_cmp-decides k l).1 same),
+)
 
 pub ruleset laws = (text_cmp-decides, same_key-decides, get_member-insert_member, get_member-insert_member-other, get_member-set_member, get_member-set_member-other, get_member-remove_member, get_member-remove_member-other, insert_member-found, insert_member-above, same_members, Rises-insert_member, Rises-set_member, Rises-remove_member, Rises-push)

@@ -1,5 +1,5 @@
 -- Where a key stands among keys that rise, and what that says of a change there.
-use Rattle.std.proofs.Common.{◌≡◌, ℕ, zero, suc, ◌+◌, ◌<◌, ◌≤◌, List, [], ◌∷◌, length, Option, Some, None, Result, Ok, Err, refl, sym, ap, subst, ◌∙◌, arith, slice_get, rules}
+use Rattle.std.proofs.Common.{◌≡◌, ℕ, zero, suc, ◌<◌, ◌≤◌, List, [], ◌∷◌, length, Some, None, Result, Ok, Err, refl, sym, ap, subst, ◌∙◌, arith, slice_get, rules}
 use Rattle.std.specs.Map.{keys_of}
 use Rattle.std.specs.Ordering.{match_ordering}
 use Rattle.std.specs.declared.cmp.Ordering.TheVariants.{Less, Equal, Greater}
@@ -118,7 +118,7 @@ module _ {V : Type 0} (k : List ℕ) where
       (λ e. absurd (search ((rw e at is), rules)))
       (λ e. let first : 0 ≡ i = search ((rw e at is), rules) in subst (IsFoundAt k (n ∷ ms)) first (found_first n ms e))
       (λ e. let later = further-Ok (find_member k ms) i (rw e at is) in
-        subst (IsFoundAt k (n ∷ ms)) later.2 (found_later n ms later.0 e (found_at ms later.0 later.1)))
+      subst (IsFoundAt k (n ∷ ms)) later.2 (found_later n ms later.0 e (found_at ms later.0 later.1)))
 
   absent_first : (n : List ℕ × V) (ms : List (List ℕ × V)) → Rises (n ∷ ms) → text_cmp k n.0 ≡ Less → IsAbsentAt k (n ∷ ms) 0
   absent_first n ms rises e =
@@ -141,4 +141,4 @@ module _ {V : Type 0} (k : List ℕ) where
       (λ e. let first : 0 ≡ i = search ((rw e at is), rules) in subst (IsAbsentAt k (n ∷ ms)) first (absent_first n ms rises e))
       (λ e. absurd (search ((rw e at is), rules)))
       (λ e. let later = further-Err (find_member k ms) i (rw e at is) in
-        subst (IsAbsentAt k (n ∷ ms)) later.2 (absent_later n ms later.0 e (absent_at ms later.0 rises.1 later.1)))
+      subst (IsAbsentAt k (n ∷ ms)) later.2 (absent_later n ms later.0 e (absent_at ms later.0 rises.1 later.1)))

@@ -1,5 +1,6 @@
 -- Lists that are compared and members that are cloned one by one.
 use Rattle.std.proofs.Common.{◌≡◌, ℕ, Bool, true, false, ◌&&◌, IsTrue, ◌↔◌, List, [], ◌∷◌, nat_eq, refl, sym, ap, subst, ◌∙◌, rules}
+use Rattle.std.proofs.lemmas.Bool.Decides.{Decides-eqb}
 use Rattle.std.specs.List.{AllZip}
 use Rattle.std.specs.Cmp.Lexicographic.{pointwise, pointwise_decides, bytes_decides}
 use Rattle.std.specs.Map.{keys_of}
@@ -31,18 +32,32 @@ both_true false t both = absurd (search (both, rules))
 
 module _ {X : Type 0} (test : X → X → Bool) (decides : (x y : X) → IsTrue (test x y) ↔ (x ≡ y)) where
   -- where a test of elements tells which are the same, so does the test of lists
-  pub pointwise-exact : (xs ys : List X) (r : Bool) → r ≡ pointwise test xs ys → IsTrue r ↔ (xs ≡ ys)
-  pointwise-exact xs ys r is = let both = pointwise_decides decides xs ys in (λ t. both.0 (sym is ∙ t), λ same. is ∙ both.1 same)
+  pub items_exact : (xs ys : List X) (r : Bool) → r ≡ pointwise test xs ys → IsTrue r ↔ (xs ≡ ys)
+  items_exact xs ys r is = let both = pointwise_decides decides xs ys in (λ t. both.0 (sym is ∙ t), λ same. is ∙ both.1 same)
 
   -- and the test of members
-  pub member_eq-exact : (m n : List ℕ × X) → IsTrue (member_eq test m n) ↔ (m ≡ n)
-  member_eq-exact m n =
-      (λ t.
+  pub member_exact : (m n : List ℕ × X) → IsTrue (member_eq test m n) ↔ (m ≡ n)
+  member_exact m n = (
+    λ t.
         let both = both_true (pointwise nat_eq m.0 n.0) (test m.1 n.1) t in
         let key : m.0 ≡ n.0 = (bytes_decides m.0 n.0).0 both.0 in
         let value : m.1 ≡ n.1 = (decides m.1 n.1).0 both.1 in
         λ i. (key i, value i),
-      λ same.
+    λ same.
         let key : pointwise nat_eq m.0 n.0 ≡ true = (bytes_decides m.0 n.0).1 (ap (λ (x : List ℕ × X). x.0) same) in
         let value : test m.1 n.1 ≡ true = (decides m.1 n.1).1 (ap (λ (x : List ℕ × X). x.1) same) in
-        λ i. key i && value i)
+        λ i. key i && value i,
+  )
+
+  -- where a test of values tells which are the same, so does that of members in order
+  pub fields_exact : (ms ns : List (List ℕ × X)) (r : Bool) → r ≡ pointwise (member_eq test) ms ns → IsTrue r ↔ (ms ≡ ns)
+  fields_exact ms ns r is = let both = pointwise_decides member_exact ms ns in (λ t. both.0 (sym is ∙ t), λ same. is ∙ both.1 same)
+
+pub text_exact : (k l : List ℕ) → IsTrue (pointwise nat_eq k l) ↔ (k ≡ l)
+text_exact = bytes_decides
+
+pub nat_exact : (m n : ℕ) → IsTrue (nat_eq m n) ↔ (m ≡ n)
+nat_exact = Decides-eqb
+
+-- what `==` answers at lists and fields of numbers and of texts
+pub ruleset exact = (items_exact, fields_exact, text_exact, nat_exact)

@@ -1,9 +1,9 @@
 -- Members at keys that rise.
-use Rattle.std.proofs.Common.{◌≡◌, ℕ, zero, suc, List, [], ◌∷◌, ◌++◌, take, slice_index_or, ◌<◌, Option, Some, None, refl, sym, ap, subst, ◌∙◌, slice_get, length, ◌-◌, Bool, IsTrue, ◌↔◌, arith, rules}
+use Rattle.std.proofs.Common.{◌≡◌, ℕ, zero, suc, List, [], ◌∷◌, ◌++◌, take, slice_index_or, ◌<◌, Some, None, refl, sym, ap, subst, ◌∙◌, slice_get, length, ◌-◌, Bool, IsTrue, ◌↔◌, arith, rules}
 use Rattle.std.proofs.lemmas.Option.{slice_get_read}
 use Rattle.std.specs.Map.{keys_of}
 use Rattle.std.specs.Ordering.{is_lt}
-use Rattle.std.specs.declared.cmp.Ordering.TheVariants.{Less, Equal, Greater}
+use Rattle.std.specs.declared.cmp.Ordering.TheVariants.{Less, Greater}
 use Rattle.plain_lists.specs.Keys.{text_cmp, Below, Ascends}
 use Rattle.plain_lists.specs.Members.{Rises, AllBelow, get_member, set_member, insert_member, remove_member}
 use Rattle.plain_lists.proofs.KeyLemmas.{order_cases, Less-from_is_lt, same_from_Equal, text_cmp-flip, text_cmp-trans, Below-trans}

@@ -1,7 +1,7 @@
 -- Members as those before a key, at it and behind it. What is made of all members one by one, as a sum, is known after a change from these parts.
-use Rattle.std.proofs.Common.{◌≡◌, ℕ, List, [], ◌∷◌, ◌++◌, Option, Some, None, refl, sym, ap, ◌∙◌, rules}
+use Rattle.std.proofs.Common.{◌≡◌, ℕ, List, [], ◌∷◌, ◌++◌, Some, None, refl, sym, ap, ◌∙◌, rules}
 use Rattle.std.specs.Map.{keys_of}
-use Rattle.std.specs.declared.cmp.Ordering.TheVariants.{Less, Equal, Greater}
+use Rattle.std.specs.declared.cmp.Ordering.TheVariants.{Equal, Greater}
 use Rattle.plain_lists.specs.Keys.{text_cmp}
 use Rattle.plain_lists.specs.Members.{Rises, get_member, set_member, insert_member, remove_member}
 use Rattle.plain_lists.proofs.KeyLemmas.{order_cases, same_from_Equal, Below-trans}
@@ -48,7 +48,7 @@ module _ {V : Type 0} (k : List ℕ) where
   stands [] x rises found = absurd (search (found, rules))
   stands (m ∷ ms) x rises found = order_cases (text_cmp k m.0)
       (λ e. let none : get_member k ms ≡ None = get_member-below k ms (Below-trans k m.0 (keys_of ms) e rises.0) in
-        absurd (search (sym none ∙ (rw e at found), rules)))
+      absurd (search (sym none ∙ (rw e at found), rules)))
       (λ e. stands_first m ms x e (search ((rw e at found), rules)))
       (λ e. stands_later m ms x e (stands ms x rises.1 (rw e at found)))
 

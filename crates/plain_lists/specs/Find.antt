@@ -1,5 +1,5 @@
 -- Where a key stands among members, and what that says of them.
-use Rattle.std.specs.Prelude.{◌≡◌, ℕ, ◌<◌, ◌≤◌, List, Option, Some, None, length, slice_index_or, slice_set, insert, remove}
+use Rattle.std.specs.Prelude.{◌≡◌, ℕ, ◌<◌, ◌≤◌, List, Some, None, length, slice_index_or, slice_set, insert, remove}
 use Rattle.plain_lists.specs.Members.{get_member, set_member, insert_member, remove_member}
 
 -- the key k stands at place i, where a change of the list is a change at k

@@ -212,10 +212,7 @@ impl<V: PartialEq> PartialEq for Fields<V> {
 
     ghost laws = { lists_per (member_per V.laws) };
 
-    fn eq(&self, other: &Self) -> bool
-        ensures gives { result ≡ pointwise (member_eq V.eq) self.now other.now }
-        ensures exact { ((x y : V) → IsTrue (V.eq x y) ↔ (x ≡ y)) → (IsTrue result ↔ (self.now ≡ other.now)) }
-    {
+    fn eq(&self, other: &Self) -> bool {
         self.members == other.members
     }
 }

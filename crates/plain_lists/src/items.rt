@@ -212,10 +212,7 @@ impl<T: PartialEq> PartialEq for Items<T> {
 
     ghost laws = { lists_per T.laws };
 
-    fn eq(&self, other: &Self) -> bool
-        ensures gives { result ≡ pointwise T.eq self.now other.now }
-        ensures exact { ((x y : T) → IsTrue (T.eq x y) ↔ (x ≡ y)) → (IsTrue result ↔ (self.now ≡ other.now)) }
-    {
+    fn eq(&self, other: &Self) -> bool {
         self.elements == other.elements
     }
 }

@@ -9,3 +9,6 @@ mod text;
 pub use fields::Fields;
 pub use items::Items;
 pub use text::Text;
+
+#[cfg(test)]
+mod tests;

@@ -69,7 +69,7 @@ module _ (R R' : RattleType) (h : R.Denot → R'.Denot) where
   member_places : Alike R R' h → Alike (member_of R) (member_of R') (with_value h)
   member_places alike =
       struct_places (tuple_type (text.the_row ∷ R ∷ [])) (tuple_type (text.the_row ∷ R' ∷ [])) ((λ key. key), (h, tt)) (with_value h)
-        (λ member. refl) refl (stays text.the_row, (laid R R' h alike, tt))
+      (λ member. refl) refl (stays text.the_row, (laid R R' h alike, tt))
 
   stored_places : Alike R R' h → Alike (inside.the_row R) (inside.the_row R') (stored.map R.Denot R'.Denot h)
   stored_places alike =
@@ -79,16 +79,16 @@ module _ (R R' : RattleType) (h : R.Denot → R'.Denot) where
   pub the_places : Alike R R' h → Alike (its.the_row R) (its.the_row R') ((the_former this).map R.Denot R'.Denot h)
   the_places alike =
       view_places stored (the_former this) view (λ X Y k fields. refl) (λ X fields. refl) R.Denot R'.Denot h
-        (its.the_row R).coded (its.the_row R').coded (invariant R.Denot) (invariant R'.Denot)
-        (λ fields. Ascends-prop _) (λ fields. Ascends-prop _)
-        (λ fields ascends. subst Ascends (sym (same_keys h fields.members.items)) ascends)
-        (λ fields ascends. subst Ascends (same_keys h fields.members.items) ascends)
-        (over (inside.the_row R)) (over (inside.the_row R')) (stored_places alike)
+      (its.the_row R).coded (its.the_row R').coded (invariant R.Denot) (invariant R'.Denot)
+      (λ fields. Ascends-prop _) (λ fields. Ascends-prop _)
+      (λ fields ascends. subst Ascends (sym (same_keys h fields.members.items)) ascends)
+      (λ fields ascends. subst Ascends (same_keys h fields.members.items) ascends)
+      (over (inside.the_row R)) (over (inside.the_row R')) (stored_places alike)
 
   pub the_codes_placed : Recodes R R' h → Recodes (its.the_row R) (its.the_row R') ((the_former this).map R.Denot R'.Denot h)
   the_codes_placed same members =
       sym (code_map (coded× text.the_row.coded R.coded).code (coded× text.the_row.coded R'.coded).code (with_value h)
-        (λ m. ap (λ value. gcons (text.the_row.coded.code m.0) value) (sym (same m.1))) members)
+      (λ m. ap (λ value. gcons (text.the_row.coded.code m.0) value) (sym (same m.1))) members)
 
 -- the tests of two members go by their keys and values
 pub the_eq_natural : (X Y : Type 0) (h : X → Y) (value : eq.Ghosts Y) (ms ns : List (List ℕ × X))

@@ -49,9 +49,9 @@ module _ (R R' : RattleType) (h : R.Denot → R'.Denot) where
   pub the_places : Alike R R' h → Alike (its.the_row R) (its.the_row R') ((the_former this).map R.Denot R'.Denot h)
   the_places alike =
       view_places stored (the_former this) view (λ X Y k fields. refl) (λ X fields. refl) R.Denot R'.Denot h
-        (its.the_row R).coded (its.the_row R').coded (invariant R.Denot) (invariant R'.Denot)
-        (λ fields a b. refl) (λ fields a b. refl) (λ fields a. tt) (λ fields a. tt)
-        (over (inside.the_row R)) (over (inside.the_row R')) (stored_places alike)
+      (its.the_row R).coded (its.the_row R').coded (invariant R.Denot) (invariant R'.Denot)
+      (λ fields a b. refl) (λ fields a b. refl) (λ fields a. tt) (λ fields a. tt)
+      (over (inside.the_row R)) (over (inside.the_row R')) (stored_places alike)
 
   pub the_codes_placed : Recodes R R' h → Recodes (its.the_row R) (its.the_row R') ((the_former this).map R.Denot R'.Denot h)
   the_codes_placed same elements = sym (code_map R.coded.code R'.coded.code h (λ x. sym (same x)) elements)

@@ -1,4 +1,4 @@
-use Rattle.std.proofs.Common.{◌≡◌, Some, sym, ap, subst, ◌∙◌, slice_set}
+use Rattle.std.proofs.Common.{Some, sym, ap, subst, ◌∙◌}
 use Rattle.plain_lists.specs.Find.{IsFoundAt}
 use Rattle.plain_lists.specs.Members.{Rises, get_member, set_member}
 use Rattle.plain_lists.proofs.MemberLemmas.{Rises-set_member}
@@ -18,6 +18,7 @@ returns-in-Ok g c =
     let k = c.args.key.now in
     let m = c.index_mut-member.result.now in
     let found = subst (λ l. IsFoundAt k l c.in-Ok.at) c.as_slice.ensures.value c.in-Ok.ensures in
-    let is = c.index_mut-member.ensures.value in
-    (λ i. inl (c.value_of.result.ghost_name, λ v. (found.set m v is ∙ ap (set_member k v) c.self.view_is) i),
-    ap Some c.value_of.ensures.value ∙ sym (found.get m is) ∙ ap (get_member k) c.self.view_is)
+    let is = c.index_mut-member.ensures.value in (
+      λ i. inl (c.value_of.result.ghost_name, λ v. (found.set m v is ∙ ap (set_member k v) c.self.view_is) i),
+      ap Some c.value_of.ensures.value ∙ sym (found.get m is) ∙ ap (get_member k) c.self.view_is,
+    )

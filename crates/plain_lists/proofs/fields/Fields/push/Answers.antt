@@ -1,5 +1,5 @@
 use Rattle.std.proofs.Common.{sym, subst}
-use Rattle.plain_lists.specs.Members.{Rises, AllBelow}
+use Rattle.plain_lists.specs.Members.{AllBelow}
 use Rattle.plain_lists.proofs.MemberLemmas.{Rises-push}
 use Rattle.plain_lists.proofs.fields.Fields.push.Goals as goal
 

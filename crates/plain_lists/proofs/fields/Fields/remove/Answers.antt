@@ -1,4 +1,4 @@
-use Rattle.std.proofs.Common.{◌≡◌, sym, subst}
+use Rattle.std.proofs.Common.{sym, subst}
 use Rattle.plain_lists.specs.Find.{IsFoundAt}
 use Rattle.plain_lists.specs.Members.{Rises}
 use Rattle.plain_lists.proofs.MemberLemmas.{Rises-remove_member}

@@ -1,0 +1,104 @@
+ghost use Rattle.std.specs.Prelude.{◌≡◌, ◌<◌, ◌≤◌, ◌%◌, [], ◌∷◌, length, replicate};
+ghost use Rattle.crc_frame.specs.Crc.{crc32, divide_bit, is_checked, remainder_after};
+
+use crate::tables::TABLES;
+use byteorder::{BigEndian, ByteOrder, LittleEndian};
+
+// The generator polynomial without its highest term, the coefficient of x^31 in the lowest bit.
+const GENERATOR: u32 = 0xEDB8_8320;
+
+// One step of the division.
+fn divide_bit(remainder: u32, bit: u32) -> u32
+    ensures { result ≡ divide_bit remainder bit }
+{
+    if remainder % 2 == bit {
+        remainder / 2
+    } else {
+        (remainder / 2) ^ GENERATOR
+    }
+}
+
+fn divide_byte_bitwise(remainder: u32, byte: u8) -> u32
+    ensures { result ≡ remainder_after remainder (byte ∷ []) }
+{
+    let mut remainder = remainder;
+    for place in 0..u8::BITS {
+        remainder = divide_bit(remainder, u32::from(byte >> place) % 2);
+    }
+    remainder
+}
+
+/// The CRC-32 of these bytes, divided bit by bit as the standard defines it.
+///
+/// It gives what [`crc32`] gives, and serves to test that one: it is some hundred times slower.
+pub fn crc32_bitwise(bytes: &[u8]) -> u32
+    ensures { result ≡ crc32 bytes.now }
+{
+    let mut remainder = u32::MAX;
+    for byte in bytes {
+        remainder = divide_byte_bitwise(remainder, *byte);
+    }
+    !remainder
+}
+
+// The remainder of the lowest byte of `sum` with this many zero bytes behind it.
+#[inline]
+fn entry(behind: usize, sum: u64) -> u32
+    requires { behind < 8 }
+    ensures { result ≡ remainder_after 0 ((sum % 256) ∷ replicate behind 0) }
+{
+    TABLES[behind][(sum % 256) as usize]
+}
+
+#[inline]
+fn divide_byte(remainder: u32, byte: u8) -> u32
+    ensures { result ≡ remainder_after remainder (byte ∷ []) }
+{
+    entry(0, u64::from(remainder ^ u32::from(byte))) ^ (remainder >> 8)
+}
+
+// Eight bytes at a step. A remainder may be added to the bytes that follow it, and the remainder of a sum
+// is the sum of remainders: here of the eight bytes, each with those behind it taken as zeros.
+#[inline]
+fn divide_chunk(remainder: u32, chunk: &[u8; 8]) -> u32
+    ensures { result ≡ remainder_after remainder chunk.now }
+{
+    let mut sum = LittleEndian::read_u64(chunk) ^ u64::from(remainder);
+    let mut after = 0;
+    for behind in (0..8).rev() {
+        after ^= entry(behind, sum);
+        sum >>= 8;
+    }
+    after
+}
+
+/// The CRC-32 of these bytes: the frame check sequence of ITU-T V.42 (section 8.1.1.6.2) and ISO 3309,
+/// as PNG, gzip and zlib compute it. The generator polynomial, its bits reversed, is EDB88320, and the
+/// division begins with all ones and ends with their complement.
+///
+/// That of no bytes is 0, and that of the ASCII text `123456789` is CBF43926.
+pub fn crc32(bytes: &[u8]) -> u32
+    ensures { result ≡ crc32 bytes.now }
+{
+    let (chunks, tail) = bytes.as_chunks::<8>();
+    let mut remainder = u32::MAX;
+    for chunk in chunks {
+        remainder = divide_chunk(remainder, chunk);
+    }
+    for byte in tail {
+        remainder = divide_byte(remainder, *byte);
+    }
+    !remainder
+}
+
+/// The length in bytes of a CRC-32.
+pub(crate) const CRC_LEN: usize = 4;
+
+/// Whether these bytes end with the CRC-32 of all before it, big endian.
+pub(crate) fn is_checked(bytes: &[u8]) -> bool
+    requires { CRC_LEN ≤ length bytes.now }
+    ensures { result ≡ is_checked bytes.now }
+{
+    let (covered, crc) = bytes.split_at(bytes.len() - CRC_LEN);
+    BigEndian::read_u32(crc) == crc32(covered)
+}

@@ -1,0 +1,16 @@
+//! Checksums, frames and slots: how the files of a persistent queue say what was written whole.
+#![tactic(auto)]
+
+mod crc;
+mod framing;
+pub mod laws;
+mod slots;
+mod tables;
+#[cfg(test)]
+mod tests;
+mod unframing;
+
+pub use crc::{crc32, crc32_bitwise};
+pub use framing::frame;
+pub use slots::{Slot, newest};
+pub use unframing::{Frame, unframe};
