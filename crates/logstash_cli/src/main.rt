@@ -14,8 +14,11 @@ use store_disk::{StdinSource, SystemClock, WriteSink};
 const NO_MEMORY: u8 = 8;
 
 /// The real outside.
-type RealWorld<'a> =
-    ThinWorld<StdinSource<Stdin>, WriteSink<StandardOutput>, SystemClock<&'a HostRuntime>>;
+type RealWorld<'a> = ThinWorld<
+    StdinSource<Stdin>,
+    WriteSink<StandardOutput>,
+    SystemClock<&'a HostRuntime>,
+>;
 
 fn main(rt: HostRuntime) -> ExitCode {
     let (Ok(words), Ok(world)) = (words(&rt), real_world(&rt)) else {

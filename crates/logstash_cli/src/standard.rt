@@ -14,9 +14,7 @@ pub enum StandardOutput {
 impl StandardOutput {
     /// stdout through a buffer. The only error is want of memory.
     pub fn buffered(alloc: Global, stdout: Stdout) -> io::Result<Self> {
-        Ok(StandardOutput::Out(BufWriter::with_capacity(
-            alloc, BUFFER_LEN, stdout,
-        )?))
+        Ok(StandardOutput::Out(BufWriter::with_capacity(alloc, BUFFER_LEN, stdout)?))
     }
 }
 

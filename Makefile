@@ -1,0 +1,29 @@
+# The program goes to bin/logstash. Proving all that it stands on takes some minutes of processor time
+# the first time, and seconds after that.
+
+PROGRAM = crates/logstash_cli
+RUNS = 'input { stdin {} } output { stdout {} }'
+
+.PHONY: all test try bench clean
+
+# Proves the program and builds it.
+all:
+	cd $(PROGRAM) && rt run -- -e $(RUNS) </dev/null
+	mkdir -p bin
+	cp $(PROGRAM)/out/logstash_cli bin/logstash
+
+# Proves everything from nothing, tries the edits that must be refused, and runs every test and program.
+test:
+	bash .ci/run
+
+# The quickest build and run, which proves nothing: for development.
+try:
+	cd $(PROGRAM) && printf 'hello\n' | rt try -- -e $(RUNS)
+
+# How fast the program and its parts are, beside others on the same machine.
+bench: all
+	bash bench/lines.sh
+	bash bench/crc.sh
+
+clean:
+	rm -rf bin crates/*/out
