@@ -1,9 +1,12 @@
 ghost use Rattle.std.specs.Prelude.{◌≡◌, ◌∷◌, ◌++◌, [], length, OnOk, OnErr, IfOk, IsTrue, IsSome, ◌↔◌, None, MatchResult};
 ghost use Rattle.std.specs.List.{AllZip};
 ghost use Rattle.std.specs.Cmp.Lexicographic.{pointwise, lists_per, lists_equiv};
-ghost use Rattle.plain_lists.specs.MemberImpls.{member_clone, member_eq, member_per, member_equiv};
 ghost use Rattle.std.specs.Option.{option_copied, option_copied_mut};
 ghost use Rattle.std.specs.Borrow.{sem};
+ghost use Rattle.plain_lists.specs.Find.{IsFoundAt, IsAbsentAt};
+ghost use Rattle.plain_lists.specs.MemberImpls.{member_clone, member_eq, member_per, member_equiv};
+ghost use Rattle.plain_lists.specs.MemberLends.{lends_member_value};
+ghost use Rattle.plain_lists.specs.Members.{Rises, AllBelow, get_member, insert_member, remove_member};
 
 use crate::text::Text;
 use std::alloc::{AllocError, Global};
@@ -33,7 +36,6 @@ impl<V> Model for Fields<V> {
 }
 
 impl<V> Fields<V> {
-    ghost use Rattle.plain_lists.specs.Members.{Rises, AllBelow, get_member, insert_member, remove_member};
     ghost use Rattle.plain_lists.specs.FieldsLends.{lends_value};
 
     /// No members, and no memory yet.
@@ -220,10 +222,6 @@ impl<V: PartialEq> PartialEq for Fields<V> {
 impl<V: Eq> Eq for Fields<V> {
     ghost laws = { lists_equiv (member_equiv V.Eq.laws) };
 }
-
-ghost use Rattle.plain_lists.specs.MemberLends.{lends_member_value};
-ghost use Rattle.plain_lists.specs.Members.{Rises};
-ghost use Rattle.plain_lists.specs.Find.{IsFoundAt, IsAbsentAt};
 
 // The value of a member, to write to.
 fn value_of<V>(member: &mut (Text, V)) -> &mut V
