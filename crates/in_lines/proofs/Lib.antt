@@ -1,2 +1,4 @@
 pub mod Made
 pub mod Receiving
+pub mod Cutting
+pub mod Polled

@@ -1,5 +1,5 @@
 -- An object that is made member by member.
-use Rattle.std.proofs.Common.{◌≡◌, ℕ, List, [], ◌∷◌, ◌++◌, refl, ap, ◌∙◌}
+use Rattle.std.proofs.Common.{◌≡◌, List, [], ◌∷◌, ◌++◌, ap, ◌∙◌}
 
 pub four_pushed : {X : Type 0} {a b c d e : List X} {one two three four : X} → a ≡ [] → b ≡ a ++ one ∷ [] → c ≡ b ++ two ∷ [] → d ≡ c ++ three ∷ [] → e ≡ d ++ four ∷ []
     → e ≡ one ∷ two ∷ three ∷ four ∷ []

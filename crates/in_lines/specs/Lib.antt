@@ -1,3 +1,4 @@
 pub mod Polls
 pub mod Events
 pub mod Rows
+pub mod Given

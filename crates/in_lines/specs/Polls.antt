@@ -49,7 +49,7 @@ abbrev pub received_after : ℕ → List Poll → List Poll → List Received
 received_after limit before [] = []
 received_after limit before (poll ∷ polls) =
     received_at poll.moment (drop (length (lines_through limit before)) (lines_through limit (before ++ poll ∷ [])))
-      ++ received_after limit (before ++ poll ∷ []) polls
+    ++ received_after limit (before ++ poll ∷ []) polls
 
 unfoldable pub received : ℕ → List Poll → List Received
 received limit polls = received_after limit [] polls

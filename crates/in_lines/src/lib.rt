@@ -1,8 +1,22 @@
 //! Lines as events: what an input makes of the lines of its bytes, and what an output writes of events.
+//!
+//! - An input looks at its source again and again. Each look is a poll: the moment of the clock at which it was
+//!   made, and what the read gave. A line has the moment of the poll that made it whole.
+//! - An event holds the line as `message` and as `[event][original]`, that moment as `@timestamp`, and `@version`.
+//! - A row is the JSON text of an event and a line feed.
 #![tactic(auto)]
 
+mod by_poll;
 mod event;
+mod laws;
+mod poll;
 mod row;
 
+pub use by_poll::events_of_polls;
 pub use event::{LINE_LIMIT, line_event};
+pub use laws::{
+    cutting_a_piece_changes_no_line, each_poll_adds_the_lines_that_it_makes_whole,
+    received_lines_are_those_of_all_bytes,
+};
+pub use poll::{Piece, Poll};
 pub use row::write_row;
