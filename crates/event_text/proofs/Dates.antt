@@ -1,15 +1,14 @@
 -- The year, month and day that the text of an instant names are those of the calendar's date.
-use Rattle.std.proofs.Common.{◌≡◌, ◌==◌, ℕ, zero, suc, ◌+◌, ◌-◌, ◌*◌, ◌/◌, ◌%◌, ◌<◌, ◌≤◌, ◌⊎◌, Bool, true, false, if◌then◌else◌, inl, inr, refl, sym, ap, subst, ◌∙◌, arith, rules, ℤ, pos, negsuc, ◌+ℤ◌, ◌*ℤ◌, ◌-ℤ◌, ◌≤ℤ◌, ◌<ℤ◌, unsigned_abs, to_z, of_z, to_z-of_z}
+use Rattle.std.proofs.Common.{◌≡◌, ◌==◌, ℕ, zero, suc, ◌+◌, ◌-◌, ◌/◌, ◌%◌, ◌<◌, ◌≤◌, ◌⊎◌, Bool, true, false, if◌then◌else◌, inl, inr, refl, sym, ap, subst, ◌∙◌, arith, rules, ℤ, pos, negsuc, ◌+ℤ◌, ◌-ℤ◌, ◌≤ℤ◌, ◌<ℤ◌, unsigned_abs, to_z, of_z, to_z-of_z}
 use Rattle.std.specs.Int.{w128}
 use Rattle.std.proofs.lemmas.Bool.{cases_order}
 use Rattle.std.proofs.lemmas.Int.{ints, by_lt_z}
 use borrow.Rule.Slice.PartMut.{put_mid}
 use Rattle.std.proofs.Math.ListN.{replicate}
-use Rattle.std.specs.Prelude.{int_le, List, ◌++◌, take, drop, slice_set}
+use Rattle.std.specs.Prelude.{int_le, List, ◌++◌, take, slice_set}
 use Rattle.jiff_core.specs.declared.civil.date.Date.{Date}
-use Rattle.jiff_core.specs.declared.civil.time.Time.{Time}
 use Rattle.jiff_core.specs.declared.civil.datetime.DateTime.{DateTime}
-use Rattle.jiff_core.specs.Calendar.{days_from_civil, days_in_month, day_count, days_of_years, days_of_months}
+use Rattle.jiff_core.specs.Calendar.{days_from_civil, day_count, days_of_years, days_of_months}
 use Rattle.jiff_core.specs.Date.{epoch_day}
 use Rattle.jiff_core.specs.Time.{time_nanos}
 use Rattle.jiff_core.specs.DateTime.{civil_nanos}
@@ -108,11 +107,10 @@ time_is dt = omega (arith, signed_arith, civil_nanos-parts dt, time_nanos_bound 
 year_is : (dt : DateTime) → pos 1 ≤ℤ dt.date.year → year_of (civil_nanos dt) ≡ unsigned_abs dt.date.year
 year_is dt low = ap (last_year 9999) (sym (epoch_day-civil_nanos dt)) ∙ last_year-date 9999 (unsigned_abs dt.date.year) dt.date (pos_abs dt.date.year low) (year_bounds dt.date.year low dt.date.year_in.1).0 (year_bounds dt.date.year low dt.date.year_in.1).1 (omega arith)
 
-
 month_is : (dt : DateTime) → pos 1 ≤ℤ dt.date.year → month_of (civil_nanos dt) ≡ dt.date.month
 month_is dt low =
     ap (λ y. last_month 12 (pos y) (day_of (civil_nanos dt))) (year_is dt low) ∙ ap (λ y. last_month 12 y (day_of (civil_nanos dt))) (pos_abs dt.date.year low)
-      ∙ ap (last_month 12 dt.date.year) (sym (epoch_day-civil_nanos dt)) ∙ last_month-date 12 dt.date dt.date.month_in.1 (omega arith)
+    ∙ ap (last_month 12 dt.date.year) (sym (epoch_day-civil_nanos dt)) ∙ last_month-date 12 dt.date dt.date.month_in.1 (omega arith)
 
 day_part : (y : ℤ) (m d : ℕ) (day : ℤ) → day ≡ days_from_civil y m d → 1 ≤ d → unsigned_abs (day -ℤ days_from_civil y m 1) + 1 ≡ d
 day_part y m d day e low = let n : (day -ℤ days_from_civil y m 1) ≡ pos (d - 1) = omega (arith, signed_arith, e, days_from_civil-day y m 1 d (omega arith) low) in rw n (omega arith)
@@ -121,9 +119,9 @@ day_is : (dt : DateTime) → pos 1 ≤ℤ dt.date.year → day_in_month (civil_n
 day_is dt low =
     let day = day_of (civil_nanos dt) in
     ap (λ y. unsigned_abs (day -ℤ days_from_civil (pos y) (month_of (civil_nanos dt)) 1) + 1) (year_is dt low)
-      ∙ ap (λ y. unsigned_abs (day -ℤ days_from_civil y (month_of (civil_nanos dt)) 1) + 1) (pos_abs dt.date.year low)
-      ∙ ap (λ m. unsigned_abs (day -ℤ days_from_civil dt.date.year m 1) + 1) (month_is dt low)
-      ∙ day_part dt.date.year dt.date.month dt.date.day day (sym (epoch_day-civil_nanos dt)) dt.date.day_in.0
+    ∙ ap (λ y. unsigned_abs (day -ℤ days_from_civil y (month_of (civil_nanos dt)) 1) + 1) (pos_abs dt.date.year low)
+    ∙ ap (λ m. unsigned_abs (day -ℤ days_from_civil dt.date.year m 1) + 1) (month_is dt low)
+    ∙ day_part dt.date.year dt.date.month dt.date.day day (sym (epoch_day-civil_nanos dt)) dt.date.day_in.0
 
 pub shown : (dt : DateTime) → pos 1 ≤ℤ dt.date.year → Shown (civil_nanos dt) dt
 shown dt low = record {
@@ -169,7 +167,7 @@ text_is : (nanos : ℤ) (dt : DateTime) → Shown nanos dt
 unfolding time_text_of
 text_is nanos dt is =
     let same : (y m d h i s f y2 m2 d2 h2 i2 s2 f2 : ℕ) → y2 ≡ y → m2 ≡ m → d2 ≡ d → h2 ≡ h → i2 ≡ i → s2 ≡ s → f2 ≡ f
-        → date_time_text (date_text y m d) (clock_text h i s) (fraction_text f) ≡ date_time_text (date_text y2 m2 d2) (clock_text h2 i2 s2) (fraction_text f2) = λ y m d h i s f y2 m2 d2 h2 i2 s2 f2 a b c e g j k. rw (a, b, c, e, g, j, k) refl in
+    → date_time_text (date_text y m d) (clock_text h i s) (fraction_text f) ≡ date_time_text (date_text y2 m2 d2) (clock_text h2 i2 s2) (fraction_text f2) = λ y m d h i s f y2 m2 d2 h2 i2 s2 f2 a b c e g j k. rw (a, b, c, e, g, j, k) refl in
     same _ _ _ _ _ _ _ _ _ _ _ _ _ _ is.year is.month is.day is.hour is.minute is.second is.fraction
 
 pub filled : (nanos : ℤ) (dt : DateTime) (date clock fraction : List ℕ) (decimals : ℕ) → Shown nanos dt
@@ -179,8 +177,8 @@ pub filled : (nanos : ℤ) (dt : DateTime) (date clock fraction : List ℕ) (dec
 filled nanos dt date clock fraction decimals is date_is clock_is fraction_is decimals_are =
     let f = dt.time.subsec_nanosecond in
     ap (λ k. take (21 + k) (slice_set (buffer date clock fraction) (20 + k) 90)) decimals_are
-      ∙ ap (λ l. take (21 + decimals_of f) (slice_set (buffer l clock fraction) (20 + decimals_of f) 90)) date_is
-      ∙ ap (λ l. take (21 + decimals_of f) (slice_set (buffer (date_text (unsigned_abs dt.date.year) dt.date.month dt.date.day) l fraction) (20 + decimals_of f) 90)) clock_is
-      ∙ ap (λ l. take (21 + decimals_of f) (slice_set (buffer (date_text (unsigned_abs dt.date.year) dt.date.month dt.date.day) (clock_text dt.time.hour dt.time.minute dt.time.second) l) (20 + decimals_of f) 90)) fraction_is
-      ∙ buffer_holds _ _ _ _ _ _ f (decimals_of f) (three_six_nine f)
-      ∙ text_is nanos dt is
+    ∙ ap (λ l. take (21 + decimals_of f) (slice_set (buffer l clock fraction) (20 + decimals_of f) 90)) date_is
+    ∙ ap (λ l. take (21 + decimals_of f) (slice_set (buffer (date_text (unsigned_abs dt.date.year) dt.date.month dt.date.day) l fraction) (20 + decimals_of f) 90)) clock_is
+    ∙ ap (λ l. take (21 + decimals_of f) (slice_set (buffer (date_text (unsigned_abs dt.date.year) dt.date.month dt.date.day) (clock_text dt.time.hour dt.time.minute dt.time.second) l) (20 + decimals_of f) 90)) fraction_is
+    ∙ buffer_holds _ _ _ _ _ _ f (decimals_of f) (three_six_nine f)
+    ∙ text_is nanos dt is

@@ -1,8 +1,8 @@
 -- Digits, zeros in front of them and a point among them.
-use Rattle.std.proofs.Common.{◌≡◌, ℕ, zero, suc, ◌+◌, ◌-◌, ◌<◌, ◌≤◌, List, [], ◌∷◌, ◌++◌, length, take, drop, refl, sym, ap, ◌∙◌, arith, length-append, unsigned_abs}
+use Rattle.std.proofs.Common.{◌≡◌, ℕ, zero, suc, ◌+◌, ◌-◌, ◌<◌, ◌≤◌, List, ◌∷◌, ◌++◌, length, take, drop, refl, ap, ◌∙◌, arith, length-append, unsigned_abs}
 use Rattle.std.specs.Prelude.{decimal}
 use Rattle.event_tree.specs.Number.{Num}
-use Rattle.event_text.specs.Json.{zeros, pointed, padded, sign_of, number_text}
+use Rattle.event_text.specs.Json.{zeros, pointed, sign_of, number_text}
 
 pub take-zeros : (n m : ℕ) → n ≤ m → take n (zeros m) ≡ zeros n
 take-zeros zero m h = refl

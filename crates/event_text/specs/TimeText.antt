@@ -72,5 +72,5 @@ unfoldable pub time_text_of : ℤ → List ℕ
 time_text_of nanos =
     let time = nanos_in_day nanos in
     date_time_text (date_text (year_of nanos) (month_of nanos) (day_in_month nanos))
-      (clock_text (time / 3600000000000) (time / 60000000000 % 60) (time / 1000000000 % 60))
-      (fraction_text (time % 1000000000))
+    (clock_text (time / 3600000000000) (time / 60000000000 % 60) (time / 1000000000 % 60))
+    (fraction_text (time % 1000000000))

@@ -1,4 +1,4 @@
-use Rattle.std.proofs.Common.{◌≡◌, ◌++◌, ◌∷◌, [], drop, map, false, ◌+◌, ◌*◌}
+use Rattle.std.proofs.Common.{◌≡◌, ◌++◌, drop, map, false, ◌+◌, ◌*◌}
 use Rattle.event_tree.specs.Values.{on_values, depth, items_depth, members_depth}
 use Rattle.event_text.specs.Json.{json, items_json, members_json}
 use Rattle.event_text.specs.Adds.{Keeps}

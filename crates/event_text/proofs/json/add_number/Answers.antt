@@ -21,6 +21,6 @@ returns-clause-ok c =
     let digits : c.as_bytes.result.now ≡ decimal (unsigned_abs n.mantissa) = c.as_bytes.ensures.value ∙ c.format-digits.ensures.text ∙ ap decimal (c.unsigned_abs.ensures.value ∙ ap unsigned_abs (to_z-of_z w64 c.mantissa-2.result fits ∙ c.mantissa-2.ensures)) in
     let Rest : ℕ → List ℕ → Type 0 = λ s d. OnOk c.add_pointed.result (Adds (pointed s (zeros (s + 1 - length d) ++ d)) c.add_sign.new.to.items c.add_pointed.new.to.items) in
     adds_two c.add_pointed.result (sign_of n.mantissa) (pointed n.scale (zeros (n.scale + 1 - length (decimal (unsigned_abs n.mantissa))) ++ decimal (unsigned_abs n.mantissa))) _ c.args.to.now.items c.add_sign.new.to.items c.add_pointed.new.to.items
-      (number_parts n)
-      (subst (λ z. Adds (sign_of z) c.args.to.now.items c.add_sign.new.to.items) (to_z-of_z w64 c.mantissa.result signed ∙ c.mantissa.ensures) c.in_ok-add_sign.ensures.ok)
-      (subst (Rest n.scale) digits (subst (λ s. Rest s c.as_bytes.result.now) c.scale.ensures.value c.add_pointed.ensures.ok))
+    (number_parts n)
+    (subst (λ z. Adds (sign_of z) c.args.to.now.items c.add_sign.new.to.items) (to_z-of_z w64 c.mantissa.result signed ∙ c.mantissa.ensures) c.in_ok-add_sign.ensures.ok)
+    (subst (Rest n.scale) digits (subst (λ s. Rest s c.as_bytes.result.now) c.scale.ensures.value c.add_pointed.ensures.ok))

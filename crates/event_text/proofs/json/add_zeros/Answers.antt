@@ -1,4 +1,4 @@
-use Rattle.std.proofs.Common.{subst, OnOk, arith}
+use Rattle.std.proofs.Common.{subst, OnOk}
 use Rattle.event_text.specs.Adds.{Adds}
 use Rattle.event_text.proofs.Numbers.{take-zeros}
 use Rattle.event_text.proofs.json.add_zeros.Goals as goal

@@ -1,4 +1,4 @@
-use Rattle.std.proofs.Common.{◌≡◌, ◌≤ℤ◌, ℤ, pos, negsuc, sym, ap, subst, ◌∙◌}
+use Rattle.std.proofs.Common.{◌≡◌, ◌≤ℤ◌, sym, subst, ◌∙◌}
 use Rattle.jiff_core.specs.DateTime.{civil_nanos}
 use Rattle.time_instant.specs.Calendar.{first_moment}
 use Rattle.event_text.proofs.Dates.{is_nanos, instant_year, shown, filled, Shown}
@@ -17,4 +17,4 @@ returns-clause-text c =
     let year = instant_year dt (subst (λ z. first_moment ≤ℤ z) (sym (nanos ∙ c.nanos.ensures.value)) c.nanos.ensures.moment.from_first) in
     let parts : Shown c.args.moment dt = subst (λ z. Shown z dt) (nanos ∙ c.nanos.ensures.value) (shown dt year) in
     filled c.args.moment dt c.copy_from_slice.new.self c.copy_from_slice-2.new.self c.copy_from_slice-3.new.self c.decimals-decimals.result parts
-      (c.copy_from_slice.ensures.after ∙ c.date_bytes.ensures) (c.copy_from_slice-2.ensures.after ∙ c.clock_bytes.ensures) (c.copy_from_slice-3.ensures.after ∙ c.fraction_bytes.ensures) c.decimals-decimals.ensures.value
+    (c.copy_from_slice.ensures.after ∙ c.date_bytes.ensures) (c.copy_from_slice-2.ensures.after ∙ c.clock_bytes.ensures) (c.copy_from_slice-3.ensures.after ∙ c.fraction_bytes.ensures) c.decimals-decimals.ensures.value
