@@ -1,2 +1,16 @@
 pub mod Least
 pub mod Depths
+pub mod DepthLemmas
+pub mod Sizes
+pub mod Orders
+pub mod ListLemmas
+pub mod Digits
+pub mod Puts
+pub mod TakeSteps
+pub mod PutLaws
+pub mod TakeLaws
+pub mod EventPuts
+pub mod PathLemmas
+pub mod DigitRuns
+pub mod Tens
+pub mod DecimalLemmas

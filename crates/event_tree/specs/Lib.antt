@@ -1,2 +1,11 @@
 pub mod Number
 pub mod Values
+pub mod Sizes
+pub mod Ordered
+pub mod Paths
+pub mod Growth
+pub mod Events
+pub mod Outcomes
+pub mod PathTexts
+pub mod NumberTexts
+pub mod DecimalViews

@@ -1,13 +1,17 @@
-ghost use Rattle.std.specs.Prelude.{◌≡◌};
+ghost use Rattle.std.specs.Prelude.{◌≡◌, ◌≢◌, ◌<◌, ◌≤◌, ◌%◌, ◌^◌, length, if◌then◌else◌};
 ghost use Rattle.event_tree.specs.Number.{Num, IsLeast, least};
+ghost use Rattle.event_tree.specs.NumberTexts.{AreDigits, NumberReads, ValueReads, signed, most};
+ghost use Rattle.event_tree.specs.DecimalViews.{seen};
 
+use crate::decimal::{Digits, digits_of};
+use crate::significand::{number_behind, number_of, raised, trimmed};
 use std::marker::Model;
 
 /// A decimal number in least form: `mantissa` divided by ten `scale` times.
 ///
 /// The scale is at most 18, and the mantissa has no trailing zero unless the scale is 0. So equal
 /// numbers have equal parts, and no floating point is used.
-#[derive(Clone, Copy, Drop)]
+#[derive(Clone, Copy, Debug, PartialEq, Eq)]
 pub struct Number {
     mantissa: i64,
     scale: u8,
@@ -49,6 +53,18 @@ impl Number {
         }
     }
 
+    /// The number that a text of JSON writes (RFC 8259, section 6). It is none exactly where the text
+    /// is no such number, or where no least form of 64 bits with at most 18 places has its value. It
+    /// takes no memory.
+    pub fn read(text: &str) -> Option<Number>
+        ensures { NumberReads result text.now }
+    {
+        match digits_of(text.as_bytes()) {
+            Some(digits) => value_of(&digits),
+            None => None,
+        }
+    }
+
     /// The digits, with the sign.
     pub fn mantissa(&self) -> i64
         ensures { result ≡ self.now.mantissa }
@@ -62,5 +78,84 @@ impl Number {
         ensures least { IsLeast self.now.mantissa self.now.scale }
     {
         self.scale
+    }
+}
+
+// How large an exponent may be that is not out of reach of any other digits of a text.
+const MOST_EXPONENT: u128 = 1 << 100;
+
+// How large the digits of a number may be.
+fn most_digits(negative: bool) -> u128
+    ensures { result ≡ most negative }
+{
+    if negative {
+        9_223_372_036_854_775_808
+    } else {
+        9_223_372_036_854_775_807
+    }
+}
+
+// The value of a decimal.
+fn value_of(digits: &Digits) -> Option<Number>
+    requires whole { AreDigits digits.now.whole.now }
+    requires fraction { AreDigits digits.now.fraction.now }
+    ensures { ValueReads result (seen digits.now) }
+{
+    let limit = most_digits(digits.negative);
+    let places = count_of(digits.fraction);
+    let all = count_of(digits.whole) + places;
+    let (whole, fraction) = trimmed(digits.whole, digits.fraction);
+    let Some(value) = number_of(whole, fraction, limit) else {
+        return None;
+    };
+    if value == 0 {
+        return Some(with_sign(digits.negative, 0, 0));
+    }
+    let Some(exponent) = number_behind(0, digits.exponent, MOST_EXPONENT) else {
+        return None;
+    };
+    let (raise, lower) = exponents(digits.lower, exponent);
+    let up = all - (count_of(whole) + count_of(fraction)) + raise;
+    let down = places + lower;
+    if down <= up {
+        match raised(value, up - down, limit) {
+            Some(value) => Some(with_sign(digits.negative, value, 0)),
+            None => None,
+        }
+    } else if down - up <= 18 {
+        Some(with_sign(digits.negative, value, (down - up) as u8))
+    } else {
+        None
+    }
+}
+
+fn count_of(digits: &[u8]) -> u128
+    ensures same { result ≡ length digits.now }
+    ensures small { result < 2 ^ 64 }
+{
+    digits.len() as u128
+}
+
+// By how many powers of ten an exponent raises a number, and by how many it lowers it.
+fn exponents(lower: bool, exponent: u128) -> (u128, u128)
+    ensures raised { result.0 ≡ (if lower then 0 else exponent) }
+    ensures lowered { result.1 ≡ (if lower then exponent else 0) }
+{
+    if lower { (0, exponent) } else { (exponent, 0) }
+}
+
+// The number with these digits, this sign and so many places.
+fn with_sign(negative: bool, value: u128, places: u8) -> Number
+    requires fits { value ≤ most negative }
+    requires few { places ≤ 18 }
+    requires trimmed { 0 < places → value % 10 ≢ 0 }
+    ensures mantissa { result.mantissa ≡ signed negative value }
+    ensures scale { result.scale ≡ places }
+{
+    let value = value as i128;
+    let mantissa = if negative { -value } else { value };
+    Number {
+        mantissa: mantissa as i64,
+        scale: places,
     }
 }

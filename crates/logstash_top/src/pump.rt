@@ -91,6 +91,7 @@ fn take_piece<O: Sink>(
     ensures not_input { ¬ (result ≡ Err Stop.Input) }
     ensures left { OnOk result (lines_left reader.new ≡ []) }
     ensures rest { OnOk result (rest_of reader.new ≡ rest_of (record reader.old { bytes = reader.old.bytes ++ bytes.now })) }
+    ensures flushed { OnOk result (IsFlushed (O.taken sink.new) (O.flushed sink.new)) }
     ensures ended { OnOk result (reader.new.ended ≡ false) }
     ensures limit { OnOk result (reader.new.limit ≡ reader.old.limit) }
 {

@@ -1,0 +1,18 @@
+use Rattle.std.proofs.Common.{[], arith, refl}
+use Rattle.event_tree.proofs.Depths.{depth-Object}
+use Rattle.event_tree.proofs.Sizes.{size-Object}
+use Rattle.event_tree.proofs.Orders.{ordered_rises}
+use Rattle.event_tree.proofs.event.Event.new.Goals as goal
+
+pub invariant_of-result : goal.invariant_of-result
+invariant_of-result c = rw (c.new.ensures, c.new-2.ensures) (
+  (record {
+    fields_object = ([], refl);
+    meta_object = ([], refl);
+    small = omega (arith, size-Object []);
+    shallow = omega (arith, depth-Object []);
+    fields_ordered = ordered_rises [] tt refl;
+    meta_ordered = ordered_rises [] tt refl;
+  }),
+  omega (arith, size-Object []),
+)

@@ -1,0 +1,339 @@
+use logstash_top::{Status, ThinWorld, logstash};
+use std::alloc::{AllocError, Global};
+use std::process::Abort;
+use std::sync::Wait;
+use std::test::Fail;
+use store_disk::{Instant, ListClock, MemorySink, MemorySource, Script};
+
+type World = ThinWorld<MemorySource, MemorySink, ListClock>;
+
+const BUILT: &str = "input { stdin {} } output { stdout { codec => json_lines } }";
+
+const LINE_LIMIT: usize = 1_048_576;
+
+// 2024-01-01T00:00:00Z
+const NEW_YEAR: i128 = 1_704_067_200_000_000_000;
+
+const INPUT_FAULT: &[u8] = b"logstash: pipeline main: input fault input_1\n";
+
+const OUTPUT_FAULT: &[u8] = b"logstash: output fault output_1\n";
+
+// What a run is handed.
+#[derive(Clone, Copy)]
+struct Case<'a> {
+    words: &'a [&'a str],
+    stdin: &'a [u8],
+    // How many bytes a read gives at most, and a write takes at most.
+    read_most: usize,
+    write_most: usize,
+    // The calls of each object that fail, and the reads that find nothing yet.
+    failing_reads: &'a [u64],
+    waiting_reads: &'a [u64],
+    failing_writes: &'a [u64],
+    failing_stderr: &'a [u64],
+}
+
+impl<'a> Case<'a> {
+    fn of(stdin: &'a [u8]) -> Case<'a> {
+        Case {
+            words: &["-e", BUILT],
+            stdin,
+            read_most: usize::MAX,
+            write_most: usize::MAX,
+            failing_reads: &[],
+            waiting_reads: &[],
+            failing_writes: &[],
+            failing_stderr: &[],
+        }
+    }
+}
+
+fn run<R: Wait>(rt: &R, alloc: Global, case: &Case<'_>) -> Result<(Status, World), Fail> {
+    let mut words = Vec::new(alloc);
+    for word in case.words {
+        words.push(String::from_str(alloc, word)?)?;
+    }
+    let reads = Script::new(alloc, case.failing_reads, case.waiting_reads)?;
+    let writes = Script::new(alloc, case.failing_writes, &[])?;
+    let told = Script::new(alloc, case.failing_stderr, &[])?;
+    let moment = Instant::from_nanos(NEW_YEAR).ok_or("2024")?;
+    let mut world = ThinWorld {
+        stdin: MemorySource::new(alloc, case.stdin, case.read_most, reads)?,
+        stdout: MemorySink::new(alloc, case.write_most, writes),
+        stderr: MemorySink::new(alloc, usize::MAX, told),
+        clock: ListClock::new(alloc, &[moment])?,
+    };
+    let status = logstash(rt, alloc, &words, &mut world);
+    Ok((status, world))
+}
+
+// The rows of events at 2024-01-01T00:00:00Z, whose messages are given as they stand in JSON text.
+fn rows(alloc: Global, messages: &[&[u8]]) -> Result<Vec<u8>, AllocError> {
+    let mut rows = Vec::new(alloc);
+    for message in messages {
+        rows.extend_from_slice(
+            b"{\"@timestamp\":\"2024-01-01T00:00:00.000Z\",\"@version\":\"1\",\"event\":{\"original\":\"",
+        )?;
+        rows.extend_from_slice(message)?;
+        rows.extend_from_slice(b"\"},\"message\":\"")?;
+        rows.extend_from_slice(message)?;
+        rows.extend_from_slice(b"\"}\n")?;
+    }
+    Ok(rows)
+}
+
+#[test]
+fn each_line_gives_a_row(rt: HostRuntime) -> Result<(), Fail> {
+    let row =
+        r#"{"@timestamp":"2024-01-01T00:00:00.000Z","@version":"1","event":{"original":"hello"},"message":"hello"}"#;
+    for text in [
+        BUILT,
+        "input { stdin {} } output { stdout {} }",
+        "input{stdin{}}output{stdout{codec => json_lines}}",
+        "\tinput\r\n{ stdin\n{\t}\n}\n\noutput { stdout { codec\n=>\tjson_lines } }\n",
+    ] {
+        let case = Case {
+            words: &["-e", text],
+            ..Case::of(b"hello\n")
+        };
+        let (status, world) = run(&rt, rt.alloc(), &case)?;
+        assert_eq!(rt; status.number(), 0, "{text}");
+        assert_eq!(rt;
+            world.stdout.taken(),
+            format!(in rt.alloc(); "{row}\n")?.as_bytes()
+        );
+        // a write and a flush for the one read, and the flush at the end
+        assert_eq!(rt; world.stdout.script().made(), 3);
+        assert!(rt; world.stderr.taken().is_empty());
+    }
+
+    let cases: [(&[u8], &[&[u8]]); 14] = [
+        (b"", &[]),
+        (b"a\nb", &[b"a", b"b"]),
+        (b"a\r\nb\r\n", &[b"a", b"b"]),
+        (b"a\rb\n\r\n", &[b"a\\rb", b""]),
+        (b"a\r\r\nb\r", &[b"a\\r", b"b\\r"]),
+        (b"\r", &[b"\\r"]),
+        (b"\n", &[b""]),
+        (b"a\n\n\nb\n", &[b"a", b"", b"", b"b"]),
+        (b"a\xffb\n", &[b"a\xef\xbf\xbdb"]),
+        // each byte that begins no character gives one U+FFFD
+        (b"\xe2\x82A", &[b"\xef\xbf\xbd\xef\xbf\xbdA"]),
+        (
+            b"\xe2\x82\n\xac\n",
+            &[b"\xef\xbf\xbd\xef\xbf\xbd", b"\xef\xbf\xbd"],
+        ),
+        (
+            b"\xc3\xa9\xe2\x82\xac\xf0\x9f\x98\x80\n",
+            &[b"\xc3\xa9\xe2\x82\xac\xf0\x9f\x98\x80"],
+        ),
+        (b"\"a\\b\"\t\0\n", &[b"\\\"a\\\\b\\\"\\t\\u0000"]),
+        (b"hello", &[b"hello"]),
+    ];
+    let waits: [&[u64]; 3] = [
+        &[],
+        &[0, 2, 4, 6, 8, 10, 12, 14, 16, 18],
+        &[0, 1, 2, 4, 5, 9],
+    ];
+    for (stdin, messages) in cases {
+        let wanted = rows(rt.alloc(), messages)?;
+        for read_most in [1, 2, 3, 100] {
+            for waiting_reads in waits {
+                let case = Case {
+                    read_most,
+                    waiting_reads,
+                    ..Case::of(stdin)
+                };
+                let (status, world) = run(&rt, rt.alloc(), &case)?;
+                assert_eq!(rt; status.number(), 0, "{stdin:?}");
+                assert_eq!(rt;
+                    world.stdout.taken(),
+                    wanted.as_slice(),
+                    "{stdin:?} by {read_most}"
+                );
+                assert_eq!(rt; world.stdout.flushed(), wanted.len());
+                assert!(rt; world.stderr.taken().is_empty());
+            }
+        }
+    }
+    Ok(())
+}
+
+#[test]
+fn other_words_and_other_texts_are_refused(rt: HostRuntime) -> Result<(), Fail> {
+    let cases: [&[&str]; 7] = [
+        &[],
+        &["--nope"],
+        &["-e"],
+        &["-E", BUILT],
+        &[BUILT, "-e"],
+        &["-e", BUILT, "-e"],
+        &["-f", "x"],
+    ];
+    for words in cases {
+        is_refused(&rt, rt.alloc(), words, 1, b"logstash: words: unread\n")?;
+    }
+    for text in [
+        "",
+        "input { stdin {} }",
+        "# lines\ninput { stdin {} } output { stdout {} }",
+        "input { \"stdin\" {} } output { stdout {} }",
+        "input { stdin {} } output { stdout { codec=>json_lines } }",
+        "input { stdin {} } output { stdout { codec => json_lines } } }",
+    ] {
+        is_refused(
+            &rt,
+            rt.alloc(),
+            &["-e", text],
+            3,
+            b"logstash: pipeline main: not built\n",
+        )?;
+    }
+    Ok(())
+}
+
+// Nothing is read and nothing written to stdout. Where the line fails, at a write or at the flush, the
+// number is the same.
+fn is_refused<R: Wait + Abort>(
+    rt: &R,
+    alloc: Global,
+    words: &[&str],
+    number: u8,
+    line: &[u8],
+) -> Result<(), Fail> {
+    let failing: [&[u64]; 4] = [&[], &[0], &[1], &[3]];
+    for failing_stderr in failing {
+        let case = Case {
+            words,
+            failing_stderr,
+            ..Case::of(b"hello\n")
+        };
+        let (status, world) = run(rt, alloc, &case)?;
+        assert_eq!(rt; status.number(), number, "{words:?}");
+        assert_eq!(rt; world.stdin.script().made(), 0);
+        assert_eq!(rt; world.stdout.script().made(), 0);
+        assert!(rt; line.starts_with(world.stderr.taken()));
+        if failing_stderr.is_empty() {
+            assert_eq!(rt; world.stderr.flushed(), line.len());
+        }
+    }
+    Ok(())
+}
+
+// Three lines, of which the last has no line feed.
+const LINES: &[u8] = b"a\nbc\nd";
+
+#[test]
+fn a_fault_ends_the_run(rt: HostRuntime) -> Result<(), Fail> {
+    // the messages of the lines that are whole before each read
+    let reads: [&[&[u8]]; 7] = [
+        &[],
+        &[],
+        &[b"a"],
+        &[b"a"],
+        &[b"a"],
+        &[b"a", b"bc"],
+        &[b"a", b"bc"],
+    ];
+    let mut read = 0_u64;
+    for messages in reads {
+        let wanted = rows(rt.alloc(), messages)?;
+        read_fails(&rt, rt.alloc(), read, &wanted)?;
+        read = read.saturating_add(1);
+    }
+
+    let wanted = rows(rt.alloc(), &[b"a", b"bc", b"d"])?;
+    let calls = whole_run(&rt, rt.alloc(), &wanted)?;
+    for call in 0..calls {
+        write_fails(&rt, rt.alloc(), call, &wanted)?;
+    }
+    Ok(())
+}
+
+// A read fails. A fault of stderr then changes neither the number nor stdout.
+fn read_fails<R: Wait + Abort>(
+    rt: &R,
+    alloc: Global,
+    read: u64,
+    wanted: &[u8],
+) -> Result<(), Fail> {
+    let failing: [&[u64]; 2] = [&[], &[0]];
+    for failing_stderr in failing {
+        let case = Case {
+            read_most: 1,
+            failing_reads: &[read],
+            failing_stderr,
+            ..Case::of(LINES)
+        };
+        let (status, world) = run(rt, alloc, &case)?;
+        assert_eq!(rt; status.number(), 5, "at read {read}");
+        assert_eq!(rt; world.stdout.taken(), wanted, "at read {read}");
+        assert_eq!(rt; world.stdout.flushed(), wanted.len(), "at read {read}");
+        if failing_stderr.is_empty() {
+            assert_eq!(rt; world.stderr.taken(), INPUT_FAULT);
+        } else {
+            assert!(rt; world.stderr.taken().is_empty());
+        }
+    }
+    Ok(())
+}
+
+// A write or a flush of stdout fails.
+fn write_fails<R: Wait + Abort>(
+    rt: &R,
+    alloc: Global,
+    call: u64,
+    wanted: &[u8],
+) -> Result<(), Fail> {
+    let case = Case {
+        read_most: 1,
+        write_most: 7,
+        failing_writes: &[call],
+        ..Case::of(LINES)
+    };
+    let (status, world) = run(rt, alloc, &case)?;
+    assert_eq!(rt; status.number(), 6, "at call {call}");
+    assert!(rt; wanted.starts_with(world.stdout.taken()), "at call {call}");
+    assert_eq!(rt; world.stderr.taken(), OUTPUT_FAULT);
+    Ok(())
+}
+
+// How many calls of stdout a run makes where none of them fails; the flush of stderr does.
+fn whole_run<R: Wait + Abort>(rt: &R, alloc: Global, wanted: &[u8]) -> Result<u64, Fail> {
+    let case = Case {
+        read_most: 1,
+        write_most: 7,
+        failing_stderr: &[0],
+        ..Case::of(LINES)
+    };
+    let (status, world) = run(rt, alloc, &case)?;
+    assert_eq!(rt; status.number(), 0);
+    assert_eq!(rt; world.stdout.taken(), wanted);
+    Ok(world.stdout.script().made())
+}
+
+#[test]
+fn a_line_is_cut_at_its_limit(rt: HostRuntime) -> Result<(), Fail> {
+    let alloc = rt.alloc();
+    let mut longest = vec![in alloc; b'a'; LINE_LIMIT]?;
+    let whole = rows(alloc, &[&longest, b""])?;
+    let one_more = rows(alloc, &[&longest, b"a"])?;
+    longest.truncate(LINE_LIMIT - 1);
+    longest.extend_from_slice(b"\xef\xbf\xbd")?;
+    let in_a_character = rows(alloc, &[&longest, b"\xef\xbf\xbd"])?;
+    longest.truncate(LINE_LIMIT - 1);
+    for (behind, wanted) in [
+        (b"a\n".as_slice(), &whole),
+        (b"aa\n", &one_more),
+        (b"\xc3\xa9\n", &in_a_character),
+    ] {
+        let mut stdin = longest.clone()?;
+        stdin.extend_from_slice(behind)?;
+        let (status, world) = run(&rt, alloc, &Case::of(&stdin))?;
+        assert_eq!(rt; status.number(), 0);
+        assert_eq!(rt; world.stdout.taken().len(), wanted.len());
+        assert!(rt; world.stdout.taken() == wanted.as_slice());
+        assert!(rt; world.stderr.taken().is_empty());
+    }
+    Ok(())
+}
