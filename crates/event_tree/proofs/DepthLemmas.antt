@@ -1,5 +1,5 @@
 -- What one change of a list or of an object does to depth.
-use Rattle.std.proofs.Common.{◌≡◌, ℕ, zero, suc, ◌+◌, ◌≤◌, max, List, [], ◌∷◌, ◌++◌, length, Option, Some, None, refl, sym, ap, ◌∙◌, arith, rules, slice_get, slice_set, remove}
+use Rattle.std.proofs.Common.{◌≡◌, ℕ, zero, suc, ◌+◌, ◌≤◌, max, List, [], ◌∷◌, ◌++◌, length, Some, ap, arith, rules, slice_get, slice_set, remove}
 use Rattle.plain_lists.specs.Keys.{text_cmp}
 use Rattle.plain_lists.specs.Members.{get_member, set_member, insert_member, remove_member}
 use Rattle.plain_lists.proofs.KeyLemmas.{order_cases}

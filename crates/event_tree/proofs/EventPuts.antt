@@ -1,8 +1,8 @@
 -- A put into one of the two objects of an event, where there is room for so many more bytes.
-use Rattle.std.proofs.Common.{◌≡◌, ℕ, zero, suc, ◌+◌, ◌-◌, ◌<◌, ◌≤◌, max, List, [], ◌∷◌, length, Bool, true, false, cond, Option, Some, None, IsSome, option_map, option_and_then, Result, Ok, Err, nat_lt, refl, sym, ap, subst, ◌∙◌, arith, rules}
+use Rattle.std.proofs.Common.{◌≡◌, ℕ, ◌+◌, ◌-◌, ◌<◌, ◌≤◌, max, List, [], ◌∷◌, length, Bool, true, false, cond, Option, Some, None, option_map, option_and_then, Ok, Err, nat_lt, refl, sym, ap, subst, ◌∙◌, arith, rules}
 use Rattle.std.specs.Prelude.{is_some}
 use Rattle.std.proofs.lemmas.Bool.Decides.{nat_tests}
-use Rattle.event_tree.specs.Values.{Members, depth}
+use Rattle.event_tree.specs.Values.{depth}
 use Rattle.event_tree.specs.Sizes.{size, less}
 use Rattle.event_tree.specs.Ordered.{ordered}
 use Rattle.event_tree.specs.Paths.{put}
@@ -14,7 +14,7 @@ use Rattle.event_tree.specs.declared.value.Value.TheOpen.{Value-F}
 use Rattle.event_tree.specs.declared.value.Value.TheVariants as v
 use Rattle.event_tree.specs.declared.fault.PutFault.{PutFault}
 use Rattle.event_tree.specs.declared.fault.PutFault.TheVariants.{ThroughScalar, Deep, Large, Memory}
-use Rattle.event_tree.proofs.PutLaws.{Grown, PutCases, refused, done, put_cases}
+use Rattle.event_tree.proofs.PutLaws.{Grown, refused, done, put_cases}
 use Rattle.event_tree.proofs.Sizes.{size-Object}
 
 pub less_none : (n m : ℕ) → less n m ≡ None → n < m

@@ -1,5 +1,5 @@
 -- The equations of ordered, and that each change of a list or of an object keeps it.
-use Rattle.std.proofs.Common.{◌≡◌, ℕ, zero, suc, List, [], ◌∷◌, ◌++◌, Bool, true, false, ◌&&◌, ℤ, Option, Some, None, refl, sym, ap, subst, ◌∙◌, rules, slice_get, slice_set, remove, map}
+use Rattle.std.proofs.Common.{◌≡◌, ℕ, zero, suc, List, [], ◌∷◌, ◌++◌, Bool, true, false, ◌&&◌, ℤ, Some, refl, sym, ap, subst, ◌∙◌, rules, slice_get, slice_set, remove}
 use Rattle.std.specs.Map.{keys_of}
 use Rattle.std.specs.Ordering.{is_lt}
 use Rattle.plain_lists.specs.Keys.{text_cmp, Below, Ascends}

@@ -1,10 +1,10 @@
 -- What a put does to the length of the encoding, to depth and to order, and that the growth tells where it has a way.
-use Rattle.std.proofs.Common.{◌≡◌, ℕ, zero, suc, ◌+◌, ◌<◌, ◌≤◌, max, List, [], ◌∷◌, ◌++◌, length, true, Option, Some, None, option_map, option_and_then, refl, sym, ap, subst, ◌∙◌, arith, rules, slice_get, slice_set}
+use Rattle.std.proofs.Common.{◌≡◌, ℕ, ◌+◌, ◌<◌, ◌≤◌, max, List, [], ◌∷◌, ◌++◌, length, true, Option, Some, None, option_map, refl, sym, ap, subst, ◌∙◌, arith, slice_get, slice_set}
 use Rattle.plain_lists.specs.Members.{get_member, set_member, insert_member}
 use Rattle.event_tree.specs.Values.{Members, depth}
 use Rattle.event_tree.specs.Sizes.{size}
 use Rattle.event_tree.specs.Ordered.{ordered}
-use Rattle.event_tree.specs.Paths.{place, over, change_in, put, wrap, wrap_size}
+use Rattle.event_tree.specs.Paths.{place, change_in, put, wrap, wrap_size}
 use Rattle.event_tree.specs.Growth.{growth_in, growth}
 use Rattle.event_tree.specs.Events.{IsObject}
 use Rattle.event_tree.specs.declared.value.Value.{Value, out-Value, roll-Value, roll-out-Value}

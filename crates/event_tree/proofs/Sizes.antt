@@ -1,5 +1,5 @@
 -- The equations of size, and what one change of a list or of an object does to it.
-use Rattle.std.proofs.Common.{◌≡◌, ℕ, zero, suc, ◌+◌, ◌≤◌, List, [], ◌∷◌, ◌++◌, length, Bool, ℤ, Option, Some, None, refl, sym, ap, ◌∙◌, arith, rules, slice_get, slice_set, remove}
+use Rattle.std.proofs.Common.{◌≡◌, ℕ, zero, suc, ◌+◌, ◌≤◌, List, [], ◌∷◌, ◌++◌, length, Bool, ℤ, Some, None, sym, ap, ◌∙◌, arith, rules, slice_get, slice_set, remove}
 use Rattle.plain_lists.specs.Keys.{text_cmp}
 use Rattle.plain_lists.specs.Members.{get_member, set_member, insert_member, remove_member}
 use Rattle.plain_lists.proofs.KeyLemmas.{order_cases, same_from_Equal}

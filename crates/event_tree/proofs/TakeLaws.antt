@@ -1,5 +1,5 @@
 -- What take does to depth and to order.
-use Rattle.std.proofs.Common.{◌≡◌, ℕ, zero, suc, ◌+◌, ◌<◌, ◌≤◌, max, List, [], ◌∷◌, length, true, Option, Some, None, option_map, option_and_then, refl, sym, ap, subst, ◌∙◌, arith, rules, slice_get, slice_set, remove}
+use Rattle.std.proofs.Common.{◌≡◌, ℕ, ◌≤◌, List, [], ◌∷◌, length, true, Option, Some, None, option_map, option_and_then, refl, sym, ap, subst, ◌∙◌, arith, rules, slice_get, slice_set, remove}
 use Rattle.plain_lists.specs.Members.{get_member, set_member, remove_member}
 use Rattle.event_tree.specs.Values.{Members, depth}
 use Rattle.event_tree.specs.Ordered.{ordered}

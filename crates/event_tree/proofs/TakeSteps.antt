@@ -1,5 +1,5 @@
 -- One step of take, through an object or a list.
-use Rattle.std.proofs.Common.{◌≡◌, ℕ, zero, suc, ◌+◌, ◌<◌, ◌≤◌, List, [], ◌∷◌, length, Option, Some, None, IfSome, option_map, refl, sym, ap, ◌∙◌, arith, rules, slice_get, slice_set}
+use Rattle.std.proofs.Common.{◌≡◌, ℕ, ◌+◌, ◌<◌, ◌≤◌, List, [], ◌∷◌, length, Option, Some, None, IfSome, option_map, refl, sym, ap, ◌∙◌, arith, slice_get, slice_set}
 use Rattle.std.proofs.lemmas.Option.{slice_get_past}
 use Rattle.plain_lists.specs.Members.{get_member, set_member, remove_member}
 use Rattle.plain_lists.proofs.MemberLemmas.{remove_member-absent}
@@ -7,7 +7,7 @@ use Rattle.event_tree.specs.Paths.{place, cut_in, through_in, take}
 use Rattle.event_tree.specs.Sizes.{size}
 use Rattle.event_tree.specs.Outcomes.{Takes}
 use Rattle.event_tree.specs.declared.cut.Cut.{Cut}
-use Rattle.event_tree.specs.declared.value.Value.{Value, out-Value}
+use Rattle.event_tree.specs.declared.value.Value.{Value}
 use Rattle.event_tree.specs.declared.value.Value.TheVariants as v
 use Rattle.event_tree.proofs.Puts.{set_member-same, slice_set-same}
 use Rattle.event_tree.proofs.Sizes.{size-List, size-Object, items_size-set, members_size-set}

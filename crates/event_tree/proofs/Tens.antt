@@ -1,8 +1,7 @@
 -- Powers of ten, and numbers that are digits with zeros behind them.
-use Rattle.std.proofs.Common.{◌≡◌, ◌≢◌, ℕ, zero, suc, ◌+◌, ◌-◌, ◌*◌, ◌%◌, ◌/◌, ◌<◌, ◌≤◌, ◌⊎◌, List, [], ◌∷◌, ◌++◌, length, take, get_or, nat_le, Bool, true, false, cond, Option, Some, None, inl, inr, refl, sym, ap, subst, ◌∙◌, arith, rules}
+use Rattle.std.proofs.Common.{◌≡◌, ◌≢◌, ℕ, zero, suc, ◌+◌, ◌-◌, ◌*◌, ◌%◌, ◌<◌, ◌≤◌, List, [], ◌∷◌, ◌++◌, length, take, get_or, nat_le, Bool, true, false, cond, Some, None, refl, sym, ap, subst, ◌∙◌, arith, rules}
 use Rattle.std.proofs.lemmas.Bool.Decides.{nat_tests}
-use Rattle.std.proofs.Math.Seq.{take-suc, take-length}
-use Rattle.event_tree.specs.NumberTexts.{is_digit, AreDigits, number, tens, IsSignificand}
+use Rattle.event_tree.specs.NumberTexts.{is_digit, AreDigits, number, tens}
 use Rattle.event_tree.specs.Paths.{at_most}
 
 pub tens-ten : (n k : ℕ) → tens (10 * n) k ≡ 10 * tens n k

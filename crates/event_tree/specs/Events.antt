@@ -1,5 +1,5 @@
 -- Events, and what a path leads to in them.
-use Rattle.std.specs.Prelude.{◌≡◌, ℕ, max, ◌+◌, ◌-◌, ◌≤◌, List, [], ◌∷◌, Bool, true, false, if◌then◌else◌, nat_lt, Option, Some, None, option_map, option_and_then, Result, Ok, Err}
+use Rattle.std.specs.Prelude.{◌≡◌, ℕ, max, ◌+◌, ◌-◌, ◌≤◌, List, [], ◌∷◌, Bool, true, if◌then◌else◌, nat_lt, Option, Some, None, option_map, option_and_then, Result, Ok, Err}
 use Rattle.event_tree.specs.Values.{Members, depth}
 use Rattle.event_tree.specs.Sizes.{size}
 use Rattle.event_tree.specs.Ordered.{ordered}
@@ -8,7 +8,7 @@ use Rattle.event_tree.specs.declared.value.Value.{Value, out-Value}
 use Rattle.event_tree.specs.declared.value.Value.TheOpen.{Value-F}
 use Rattle.event_tree.specs.declared.value.Value.TheVariants as v
 use Rattle.event_tree.specs.declared.fault.PutFault.{PutFault}
-use Rattle.event_tree.specs.declared.fault.PutFault.TheVariants.{ThroughScalar, Deep, Large, Memory}
+use Rattle.event_tree.specs.declared.fault.PutFault.TheVariants.{ThroughScalar, Deep, Large}
 
 -- two objects
 pub record Ev : Type 0 where

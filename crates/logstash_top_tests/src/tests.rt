@@ -1,9 +1,10 @@
+use in_lines::{Piece, Poll, events_of_polls, write_row};
 use logstash_top::{Status, ThinWorld, logstash};
 use std::alloc::{AllocError, Global};
 use std::process::Abort;
 use std::sync::Wait;
 use std::test::Fail;
-use store_disk::{Instant, ListClock, MemorySink, MemorySource, Script};
+use store_disk::{Gave, Instant, ListClock, MemorySink, MemorySource, Script};
 
 type World = ThinWorld<MemorySource, MemorySink, ListClock>;
 
@@ -334,6 +335,51 @@ fn a_line_is_cut_at_its_limit(rt: HostRuntime) -> Result<(), Fail> {
         assert_eq!(rt; world.stdout.taken().len(), wanted.len());
         assert!(rt; world.stdout.taken() == wanted.as_slice());
         assert!(rt; world.stderr.taken().is_empty());
+    }
+    Ok(())
+}
+
+// The rows that the definition gives for the pieces that the source gave.
+fn defined_rows(alloc: Global, given: &[Gave]) -> Result<Vec<u8>, Fail> {
+    let moment = Instant::from_nanos(NEW_YEAR).ok_or("2024")?;
+    let mut polls = Vec::new(alloc);
+    for gave in given {
+        let piece = match gave {
+            Gave::Bytes(bytes) => Piece::Bytes(bytes.clone()?),
+            Gave::End => Piece::End,
+        };
+        polls.push(Poll { moment, piece })?;
+    }
+    let mut rows = Vec::new(alloc);
+    for event in events_of_polls(alloc, LINE_LIMIT, &polls)?.as_slice() {
+        write_row(event, &mut rows)?;
+    }
+    Ok(rows)
+}
+
+#[test]
+fn stdout_holds_what_the_definition_says(rt: HostRuntime) -> Result<(), Fail> {
+    let inputs: [&[u8]; 5] = [
+        b"",
+        b"a\nb",
+        b"\r\n\n\xe2\x82\xac\r\r\nx",
+        b"\xe2\x82\n\xac\xff\n\n",
+        b"one\ntwo\nthree\n",
+    ];
+    for stdin in inputs {
+        for read_most in [1, 2, 3, 100] {
+            let case = Case {
+                read_most,
+                ..Case::of(stdin)
+            };
+            let (_, world) = run(&rt, rt.alloc(), &case)?;
+            let rows = defined_rows(rt.alloc(), world.stdin.given())?;
+            assert_eq!(rt;
+                world.stdout.taken(),
+                rows.as_slice(),
+                "{stdin:?} by {read_most}"
+            );
+        }
     }
     Ok(())
 }

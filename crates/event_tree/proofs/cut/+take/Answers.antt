@@ -1,4 +1,4 @@
-use Rattle.std.proofs.Common.{◌≡◌, ◌<◌, ◌≤◌, [], length, Some, None, refl, sym, ap, ◌∙◌, arith, rules, slice_get, remove}
+use Rattle.std.proofs.Common.{◌≡◌, ◌<◌, length, Some, refl, sym, ap, ◌∙◌, arith, rules, slice_get, remove}
 use Rattle.std.specs.Option.{option_map, option_copied_mut}
 use Rattle.plain_lists.specs.Members.{get_member, remove_member}
 use Rattle.event_tree.specs.Paths.{place}

@@ -1,6 +1,6 @@
 use Rattle.std.specs.Bool.{if◌then◌else◌}
-use Rattle.std.proofs.Common.{◌≡◌, ◌≢◌, ◌+◌, ◌-◌, ◌<◌, ◌≤◌, ◌++◌, ℕ, length, Some, None, sym, ap, ◌∙◌, arith, rules}
-use Rattle.event_tree.specs.NumberTexts.{Decimal, IsSignificand, number, tens, signed, most, raised_by, lowered_by}
+use Rattle.std.proofs.Common.{◌≡◌, ◌≢◌, ◌+◌, ◌-◌, ◌<◌, ◌≤◌, ◌++◌, length, sym, ap, ◌∙◌, arith}
+use Rattle.event_tree.specs.NumberTexts.{IsSignificand, number, tens, most, raised_by, lowered_by}
 use Rattle.event_tree.specs.DecimalViews.{seen}
 use Rattle.event_tree.proofs.Tens.{at_most_none, at_most_some}
 use Rattle.event_tree.proofs.DecimalLemmas.{not_above, not_raised, not_lowered, no_exponent, zero_stands, raised_stands, lowered_stands}

@@ -1,4 +1,4 @@
-use Rattle.std.proofs.Common.{◌≡◌, ◌-◌, ◌<◌, true, length, take, drop, get_or, inr, sym, ap, subst, ◌∙◌, arith}
+use Rattle.std.proofs.Common.{◌≡◌, ◌-◌, ◌<◌, true, length, take, drop, get_or, inr, ap, subst, arith}
 use Rattle.event_tree.specs.PathTexts.{is_bracket, NoBracket}
 use Rattle.event_tree.proofs.PathLemmas.{stray_inside}
 use Rattle.event_tree.proofs.path.read_bare.Goals as goal

@@ -1,5 +1,5 @@
-use Rattle.std.proofs.Common.{◌≡◌, ◌<◌, ◌+◌, ◌*◌, ◌-◌, suc, drop, get_or, None, sym, ap, ◌∙◌, arith}
-use Rattle.event_tree.specs.Paths.{digits_from, at_most}
+use Rattle.std.proofs.Common.{◌+◌, ◌*◌, ◌-◌, suc, drop, get_or, sym, ap, ◌∙◌, arith}
+use Rattle.event_tree.specs.Paths.{at_most}
 use Rattle.event_tree.proofs.Digits.{digits_step, past_limit}
 use Rattle.event_tree.proofs.place.number_in.Goals as goal
 

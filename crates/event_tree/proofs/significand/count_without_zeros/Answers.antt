@@ -1,4 +1,4 @@
-use Rattle.std.proofs.Common.{◌≡◌, ◌<◌, ◌-◌, ◌*◌, suc, length, take, get_or, sym, ap, ◌∙◌, arith}
+use Rattle.std.proofs.Common.{◌≡◌, ◌<◌, ◌-◌, suc, length, take, sym, ap, ◌∙◌, arith}
 use Rattle.event_tree.specs.NumberTexts.{number, tens}
 use Rattle.event_tree.proofs.Tens.{number-zero, tens-ten}
 use Rattle.event_tree.proofs.significand.count_without_zeros.Goals as goal

@@ -1,4 +1,4 @@
-use Rattle.std.proofs.Common.{◌≡◌, ◌+◌, ◌-◌, ◌*◌, ◌<◌, ◌≤◌, suc, length, take, drop, get_or, sym, ap, ◌∙◌, arith, drop-cons}
+use Rattle.std.proofs.Common.{◌≡◌, ◌+◌, ◌-◌, ◌*◌, ◌<◌, suc, drop, get_or, sym, ap, arith, drop-cons}
 use Rattle.event_tree.specs.NumberTexts.{number}
 use Rattle.event_tree.proofs.Tens.{number-grows, at_most_past}
 use Rattle.event_tree.proofs.significand.number_behind.Goals as goal

@@ -1,4 +1,4 @@
-use Rattle.std.proofs.Common.{◌≡◌, ◌++◌, ◌<◌, Some, None, sym, ap, ◌∙◌, arith}
+use Rattle.std.proofs.Common.{◌++◌, Some, sym, ap, ◌∙◌, arith}
 use Rattle.event_tree.specs.Paths.{at_most}
 use Rattle.event_tree.specs.NumberTexts.{number}
 use Rattle.event_tree.proofs.Tens.{number-append, number-grows, at_most_none, at_most_some, at_most_past}

@@ -1,4 +1,4 @@
-use Rattle.std.proofs.Common.{◌≡◌, ◌+◌, ◌-◌, ◌*◌, ◌<◌, ◌≤◌, suc, sym, ap, ◌∙◌, arith}
+use Rattle.std.proofs.Common.{◌≡◌, ◌-◌, ◌*◌, suc, sym, ap, ◌∙◌, arith}
 use Rattle.event_tree.specs.NumberTexts.{tens}
 use Rattle.event_tree.proofs.Tens.{tens-ten, tens-le, at_most_past}
 use Rattle.event_tree.proofs.significand.raised.Goals as goal

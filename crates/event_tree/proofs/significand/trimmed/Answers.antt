@@ -1,6 +1,6 @@
 use Rattle.std.proofs.Common.{◌≡◌, ◌≢◌, ◌<◌, ◌≤◌, ◌+◌, ◌-◌, ◌%◌, ℕ, zero, suc, List, [], ◌++◌, length, take, get_or, refl, sym, ap, ◌∙◌, arith, length-take}
 use Rattle.std.proofs.lemmas.List.{append-nil}
-use Rattle.event_tree.specs.NumberTexts.{AreDigits, number, tens, IsSignificand}
+use Rattle.event_tree.specs.NumberTexts.{AreDigits, number, tens}
 use Rattle.event_tree.proofs.Tens.{number-append, number-trimmed, tens-add}
 use Rattle.event_tree.proofs.significand.trimmed.Goals as goal
 

@@ -1,4 +1,4 @@
-use Rattle.std.proofs.Common.{rules, ◌≡◌, ◌<◌, ◌+◌, length, Some, refl, sym, ap, ◌∙◌, arith, slice_get, get_or}
+use Rattle.std.proofs.Common.{rules, ◌≡◌, ◌<◌, length, Some, refl, arith, slice_get}
 use Rattle.std.proofs.lemmas.Option.{slice_get_read}
 use Rattle.event_tree.proofs.Depths.{falls_member}
 use Rattle.event_tree.proofs.ListLemmas.{same_step}

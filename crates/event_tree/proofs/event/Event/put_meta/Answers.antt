@@ -1,4 +1,4 @@
-use Rattle.std.proofs.Common.{◌≡◌, ◌+◌, ◌-◌, ◌≤◌, Err, sym, ap, subst, ◌∙◌, arith}
+use Rattle.std.proofs.Common.{◌≡◌, ◌+◌, ◌-◌, Err, subst, arith}
 use Rattle.std.specs.Option.{option_map}
 use Rattle.event_tree.specs.Events.{both, event_size, object_put, with_meta, limited}
 use Rattle.event_tree.specs.Outcomes.{PutsEvent}
