@@ -23,6 +23,7 @@ try:
 # How fast the program and its parts are, beside others on the same machine.
 bench: all
 	bash bench/lines.sh
+	bash bench/events.sh
 	bash bench/crc.sh
 
 clean:

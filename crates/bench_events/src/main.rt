@@ -1,0 +1,102 @@
+//! Makes calls on an event of thirty fields, to be timed from outside (bench/events.sh).
+#![tactic(auto)]
+
+use anyhow::{Context, Result};
+use event_tree::{Event, Path, Text, Value};
+use std::alloc::Global;
+use std::env;
+
+/// How many fields the event has.
+const FIELDS: u8 = 30;
+
+fn main(rt: HostRuntime) -> Result<()> {
+    let alloc = rt.alloc();
+    let words: Vec<String> = env::args(&rt)?.skip(1).collect(alloc)?;
+    let [call, rounds] = words.as_slice() else {
+        println!(rt; "usage: bench_events get|put|take|copy ROUNDS")?;
+        return Ok(());
+    };
+    let rounds = rounds.as_str().parse::<u32>().context("rounds")?;
+    let paths = paths(alloc)?;
+    let mut event = event(alloc, &paths)?;
+    let done = match call.as_str() {
+        "get" => gets(&event, &paths, rounds),
+        "put" => puts(alloc, &mut event, &paths, rounds)?,
+        "take" => takes(&mut event, &paths, rounds)?,
+        _ => copies(&event, rounds)?,
+    };
+    println!(rt; "{done}")?;
+    Ok(())
+}
+
+/// The paths of the fields, of one and of two parts.
+fn paths(alloc: Global) -> Result<Vec<Path>> {
+    let mut paths = Vec::new(alloc);
+    for i in 0..FIELDS {
+        let text = if i % 2 == 0 {
+            format!(in alloc; "field{i:02}")?
+        } else {
+            format!(in alloc; "[group][field{i:02}]")?
+        };
+        paths.push(Path::read(alloc, text.as_str())?)?;
+    }
+    Ok(paths)
+}
+
+fn event(alloc: Global, paths: &[Path]) -> Result<Event> {
+    let mut event = Event::new(alloc);
+    for path in paths {
+        event.put(path, text(alloc)?)?;
+    }
+    Ok(event)
+}
+
+fn text(alloc: Global) -> Result<Value> {
+    Ok(Value::Text(Text::of(alloc, "a value of some bytes")?))
+}
+
+fn gets(event: &Event, paths: &[Path], rounds: u32) -> u64 {
+    let mut found = 0u64;
+    for _ in 0..rounds {
+        for path in paths {
+            if event.get(path).is_some() {
+                found = found.wrapping_add(1);
+            }
+        }
+    }
+    found
+}
+
+fn puts(alloc: Global, event: &mut Event, paths: &[Path], rounds: u32) -> Result<u64> {
+    let mut done = 0u64;
+    for _ in 0..rounds {
+        for path in paths {
+            event.put(path, text(alloc)?)?;
+            done = done.wrapping_add(1);
+        }
+    }
+    Ok(done)
+}
+
+/// Takes each value away and puts it back.
+fn takes(event: &mut Event, paths: &[Path], rounds: u32) -> Result<u64> {
+    let mut done = 0u64;
+    for _ in 0..rounds {
+        for path in paths {
+            if let Some(value) = event.take(path) {
+                event.put(path, value)?;
+                done = done.wrapping_add(1);
+            }
+        }
+    }
+    Ok(done)
+}
+
+fn copies(event: &Event, rounds: u32) -> Result<u64> {
+    let mut done = 0u64;
+    for _ in 0..rounds {
+        let _copy = event.copy()?;
+        done = done.wrapping_add(1);
+    }
+    Ok(done)
+}
