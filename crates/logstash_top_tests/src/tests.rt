@@ -12,6 +12,9 @@ const BUILT: &str = "input { stdin {} } output { stdout { codec => json_lines } 
 
 const LINE_LIMIT: usize = 1_048_576;
 
+// The number of a call that no run here makes.
+const NEVER: u64 = u64::MAX;
+
 // 2024-01-01T00:00:00Z
 const NEW_YEAR: i128 = 1_704_067_200_000_000_000;
 
@@ -19,10 +22,9 @@ const INPUT_FAULT: &[u8] = b"logstash: pipeline main: input fault input_1\n";
 
 const OUTPUT_FAULT: &[u8] = b"logstash: output fault output_1\n";
 
-// What a run is handed.
+// What a run is handed besides its words.
 #[derive(Clone, Copy)]
 struct Case<'a> {
-    words: &'a [&'a str],
     stdin: &'a [u8],
     // How many bytes a read gives at most, and a write takes at most.
     read_most: usize,
@@ -37,7 +39,6 @@ struct Case<'a> {
 impl<'a> Case<'a> {
     fn of(stdin: &'a [u8]) -> Case<'a> {
         Case {
-            words: &["-e", BUILT],
             stdin,
             read_most: usize::MAX,
             write_most: usize::MAX,
@@ -49,10 +50,15 @@ impl<'a> Case<'a> {
     }
 }
 
-fn run<R: Wait>(rt: &R, alloc: Global, case: &Case<'_>) -> Result<(Status, World), Fail> {
-    let mut words = Vec::new(alloc);
-    for word in case.words {
-        words.push(String::from_str(alloc, word)?)?;
+fn run<R: Wait>(
+    rt: &R,
+    alloc: Global,
+    words: &[&str],
+    case: &Case<'_>,
+) -> Result<(Status, World), Fail> {
+    let mut owned = Vec::new(alloc);
+    for word in words {
+        owned.push(String::from_str(alloc, word)?)?;
     }
     let reads = Script::new(alloc, case.failing_reads, case.waiting_reads)?;
     let writes = Script::new(alloc, case.failing_writes, &[])?;
@@ -64,7 +70,7 @@ fn run<R: Wait>(rt: &R, alloc: Global, case: &Case<'_>) -> Result<(Status, World
         stderr: MemorySink::new(alloc, usize::MAX, told),
         clock: ListClock::new(alloc, &[moment])?,
     };
-    let status = logstash(rt, alloc, &words, &mut world);
+    let status = logstash(rt, alloc, &owned, &mut world);
     Ok((status, world))
 }
 
@@ -93,11 +99,7 @@ fn each_line_gives_a_row(rt: HostRuntime) -> Result<(), Fail> {
         "input{stdin{}}output{stdout{codec => json_lines}}",
         "\tinput\r\n{ stdin\n{\t}\n}\n\noutput { stdout { codec\n=>\tjson_lines } }\n",
     ] {
-        let case = Case {
-            words: &["-e", text],
-            ..Case::of(b"hello\n")
-        };
-        let (status, world) = run(&rt, rt.alloc(), &case)?;
+        let (status, world) = run(&rt, rt.alloc(), &["-e", text], &Case::of(b"hello\n"))?;
         assert_eq!(rt; status.number(), 0, "{text}");
         assert_eq!(rt;
             world.stdout.taken(),
@@ -145,7 +147,7 @@ fn each_line_gives_a_row(rt: HostRuntime) -> Result<(), Fail> {
                     waiting_reads,
                     ..Case::of(stdin)
                 };
-                let (status, world) = run(&rt, rt.alloc(), &case)?;
+                let (status, world) = run(&rt, rt.alloc(), &["-e", BUILT], &case)?;
                 assert_eq!(rt; status.number(), 0, "{stdin:?}");
                 assert_eq!(rt;
                     world.stdout.taken(),
@@ -172,7 +174,16 @@ fn other_words_and_other_texts_are_refused(rt: HostRuntime) -> Result<(), Fail> 
         &["-f", "x"],
     ];
     for words in cases {
-        is_refused(&rt, rt.alloc(), words, 1, b"logstash: words: unread\n")?;
+        for call in [0, 1, NEVER] {
+            is_refused(
+                &rt,
+                rt.alloc(),
+                words,
+                call,
+                1,
+                b"logstash: words: unread\n",
+            )?;
+        }
     }
     for text in [
         "",
@@ -182,41 +193,35 @@ fn other_words_and_other_texts_are_refused(rt: HostRuntime) -> Result<(), Fail> 
         "input { stdin {} } output { stdout { codec=>json_lines } }",
         "input { stdin {} } output { stdout { codec => json_lines } } }",
     ] {
-        is_refused(
-            &rt,
-            rt.alloc(),
-            &["-e", text],
-            3,
-            b"logstash: pipeline main: not built\n",
-        )?;
+        let line = b"logstash: pipeline main: not built\n";
+        for call in [0, 1, 3, NEVER] {
+            is_refused(&rt, rt.alloc(), &["-e", text], call, 3, line)?;
+        }
     }
     Ok(())
 }
 
-// Nothing is read and nothing written to stdout. Where the line fails, at a write or at the flush, the
-// number is the same.
+// Nothing is read, and nothing written to stdout, also where this call of stderr fails: a write or the
+// flush.
 fn is_refused<R: Wait + Abort>(
     rt: &R,
     alloc: Global,
     words: &[&str],
+    call: u64,
     number: u8,
     line: &[u8],
 ) -> Result<(), Fail> {
-    let failing: [&[u64]; 4] = [&[], &[0], &[1], &[3]];
-    for failing_stderr in failing {
-        let case = Case {
-            words,
-            failing_stderr,
-            ..Case::of(b"hello\n")
-        };
-        let (status, world) = run(rt, alloc, &case)?;
-        assert_eq!(rt; status.number(), number, "{words:?}");
-        assert_eq!(rt; world.stdin.script().made(), 0);
-        assert_eq!(rt; world.stdout.script().made(), 0);
-        assert!(rt; line.starts_with(world.stderr.taken()));
-        if failing_stderr.is_empty() {
-            assert_eq!(rt; world.stderr.flushed(), line.len());
-        }
+    let case = Case {
+        failing_stderr: &[call],
+        ..Case::of(b"hello\n")
+    };
+    let (status, world) = run(rt, alloc, words, &case)?;
+    assert_eq!(rt; status.number(), number);
+    assert_eq!(rt; world.stdin.script().made(), 0);
+    assert_eq!(rt; world.stdout.script().made(), 0);
+    assert!(rt; line.starts_with(world.stderr.taken()));
+    if call == NEVER {
+        assert_eq!(rt; world.stderr.flushed(), line.len());
     }
     Ok(())
 }
@@ -251,31 +256,25 @@ fn a_fault_ends_the_run(rt: HostRuntime) -> Result<(), Fail> {
     Ok(())
 }
 
-// A read fails. A fault of stderr then changes neither the number nor stdout.
+// A read fails, and the flush of stderr, which changes nothing.
 fn read_fails<R: Wait + Abort>(
     rt: &R,
     alloc: Global,
     read: u64,
     wanted: &[u8],
 ) -> Result<(), Fail> {
-    let failing: [&[u64]; 2] = [&[], &[0]];
-    for failing_stderr in failing {
-        let case = Case {
-            read_most: 1,
-            failing_reads: &[read],
-            failing_stderr,
-            ..Case::of(LINES)
-        };
-        let (status, world) = run(rt, alloc, &case)?;
-        assert_eq!(rt; status.number(), 5, "at read {read}");
-        assert_eq!(rt; world.stdout.taken(), wanted, "at read {read}");
-        assert_eq!(rt; world.stdout.flushed(), wanted.len(), "at read {read}");
-        if failing_stderr.is_empty() {
-            assert_eq!(rt; world.stderr.taken(), INPUT_FAULT);
-        } else {
-            assert!(rt; world.stderr.taken().is_empty());
-        }
-    }
+    let case = Case {
+        read_most: 1,
+        failing_reads: &[read],
+        failing_stderr: &[5],
+        ..Case::of(LINES)
+    };
+    let (status, world) = run(rt, alloc, &["-e", BUILT], &case)?;
+    assert_eq!(rt; status.number(), 5, "at read {read}");
+    assert_eq!(rt; world.stdout.taken(), wanted, "at read {read}");
+    assert_eq!(rt; world.stdout.flushed(), wanted.len(), "at read {read}");
+    assert_eq!(rt; world.stderr.taken(), INPUT_FAULT);
+    assert_eq!(rt; world.stderr.script().faults(), 1);
     Ok(())
 }
 
@@ -292,7 +291,7 @@ fn write_fails<R: Wait + Abort>(
         failing_writes: &[call],
         ..Case::of(LINES)
     };
-    let (status, world) = run(rt, alloc, &case)?;
+    let (status, world) = run(rt, alloc, &["-e", BUILT], &case)?;
     assert_eq!(rt; status.number(), 6, "at call {call}");
     assert!(rt; wanted.starts_with(world.stdout.taken()), "at call {call}");
     assert_eq!(rt; world.stderr.taken(), OUTPUT_FAULT);
@@ -307,7 +306,7 @@ fn whole_run<R: Wait + Abort>(rt: &R, alloc: Global, wanted: &[u8]) -> Result<u6
         failing_stderr: &[0],
         ..Case::of(LINES)
     };
-    let (status, world) = run(rt, alloc, &case)?;
+    let (status, world) = run(rt, alloc, &["-e", BUILT], &case)?;
     assert_eq!(rt; status.number(), 0);
     assert_eq!(rt; world.stdout.taken(), wanted);
     Ok(world.stdout.script().made())
@@ -330,7 +329,7 @@ fn a_line_is_cut_at_its_limit(rt: HostRuntime) -> Result<(), Fail> {
     ] {
         let mut stdin = longest.clone()?;
         stdin.extend_from_slice(behind)?;
-        let (status, world) = run(&rt, alloc, &Case::of(&stdin))?;
+        let (status, world) = run(&rt, alloc, &["-e", BUILT], &Case::of(&stdin))?;
         assert_eq!(rt; status.number(), 0);
         assert_eq!(rt; world.stdout.taken().len(), wanted.len());
         assert!(rt; world.stdout.taken() == wanted.as_slice());
@@ -341,6 +340,15 @@ fn a_line_is_cut_at_its_limit(rt: HostRuntime) -> Result<(), Fail> {
 
 // The rows that the definition gives for the pieces that the source gave.
 fn defined_rows(alloc: Global, given: &[Gave]) -> Result<Vec<u8>, Fail> {
+    let polls = polls_of(alloc, given)?;
+    let mut rows = Vec::new(alloc);
+    for event in events_of_polls(alloc, LINE_LIMIT, &polls)?.as_slice() {
+        write_row(event, &mut rows)?;
+    }
+    Ok(rows)
+}
+
+fn polls_of(alloc: Global, given: &[Gave]) -> Result<Vec<Poll>, Fail> {
     let moment = Instant::from_nanos(NEW_YEAR).ok_or("2024")?;
     let mut polls = Vec::new(alloc);
     for gave in given {
@@ -350,11 +358,7 @@ fn defined_rows(alloc: Global, given: &[Gave]) -> Result<Vec<u8>, Fail> {
         };
         polls.push(Poll { moment, piece })?;
     }
-    let mut rows = Vec::new(alloc);
-    for event in events_of_polls(alloc, LINE_LIMIT, &polls)?.as_slice() {
-        write_row(event, &mut rows)?;
-    }
-    Ok(rows)
+    Ok(polls)
 }
 
 #[test]
@@ -372,13 +376,9 @@ fn stdout_holds_what_the_definition_says(rt: HostRuntime) -> Result<(), Fail> {
                 read_most,
                 ..Case::of(stdin)
             };
-            let (_, world) = run(&rt, rt.alloc(), &case)?;
+            let (_, world) = run(&rt, rt.alloc(), &["-e", BUILT], &case)?;
             let rows = defined_rows(rt.alloc(), world.stdin.given())?;
-            assert_eq!(rt;
-                world.stdout.taken(),
-                rows.as_slice(),
-                "{stdin:?} by {read_most}"
-            );
+            assert_eq!(rt; world.stdout.taken(), rows.as_slice());
         }
     }
     Ok(())

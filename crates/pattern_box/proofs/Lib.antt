@@ -1,0 +1,7 @@
+mod Found
+mod TextParts
+mod Room
+mod Searching
+mod Grouped
+mod Replaced
+mod Refused

@@ -1,0 +1,120 @@
+use Rattle.std.proofs.Common.{◌≡◌, true, None, vec_len, option_map, IfSome, sym, ap, ◌∙◌, subst, arith, rules}
+use Rattle.regex_hir.specs.Find.{find, find_str}
+use Rattle.regex_vm.specs.Found.{span, group_cells}
+use Rattle.regex_meta.proofs.LeftmostLemmas.{are_bytes}
+use Rattle.regex_meta.proofs.ProgramLemmas.{none_of_option_map}
+use Rattle.regex.proofs.SearchLemmas.{leftmost_past, leftmost_none}
+use Rattle.pattern_box.specs.Patterns.{pattern_re}
+use Rattle.pattern_box.proofs.Searching.{match_within, match_here, match_inside, match_cuts}
+use Rattle.pattern_box.proofs.pattern.Pattern.find_in.Goals as goal
+
+pub returns-then-start-hay-clause-found : goal.returns-then-start-hay-clause-found
+returns-then-start-hay-clause-found c =
+    sym (ap (option_map span) (leftmost_past (pattern_re c.args.self.now) c.args.hay.now true _ c.if-start-hay.true))
+
+pub returns-then-start-hay-clause-cells : goal.returns-then-start-hay-clause-cells
+returns-then-start-hay-clause-cells c =
+    rw (leftmost_past (pattern_re c.args.self.now) c.args.hay.now true _ c.if-start-hay.true) tt
+
+pub returns-in_err-from-clause-found : goal.returns-in_err-from-clause-found
+returns-in_err-from-clause-found c =
+    let re = pattern_re c.args.self.now in
+    let hay = c.args.hay.now in
+    let at = c.loop-from.at in
+    let inv = c.loop-from.invariant in
+    let none = inv.2 ∙ leftmost_none re hay true at (none_of_option_map span _
+    (sym (c.in_err-from.ensures.found ∙ ap (λ p. option_map span (find p hay at)) inv.3.0))) in
+    let nothing : c.from_residual.result ≡ None = search rules in
+    nothing ∙ sym (ap (option_map span) none)
+
+pub returns-in_err-from-clause-cells : goal.returns-in_err-from-clause-cells
+returns-in_err-from-clause-cells c =
+    let re = pattern_re c.args.self.now in
+    let hay = c.args.hay.now in
+    let at = c.loop-from.at in
+    let inv = c.loop-from.invariant in
+    let none = inv.2 ∙ leftmost_none re hay true at (none_of_option_map span _
+    (sym (c.in_err-from.ensures.found ∙ ap (λ p. option_map span (find p hay at)) inv.3.0))) in
+    rw none tt
+
+pub returns-then-begins_character-clause-found : goal.returns-then-begins_character-clause-found
+returns-then-begins_character-clause-found c =
+    let re = pattern_re c.args.self.now in
+    let hay = c.args.hay.now in
+    let at = c.loop-from.at in
+    let inv = c.loop-from.invariant in
+    let found = c.in_ok-from.ensures.found ∙ ap (λ p. option_map span (find p hay at)) inv.3.0 in
+    let cut = sym c.begins_character.ensures ∙ c.if-begins_character.true in
+    found ∙ sym (ap (option_map span) (inv.2 ∙ match_here re hay at _ found cut))
+
+pub returns-then-begins_character-clause-cells : goal.returns-then-begins_character-clause-cells
+returns-then-begins_character-clause-cells c =
+    let re = pattern_re c.args.self.now in
+    let hay = c.args.hay.now in
+    let at = c.loop-from.at in
+    let inv = c.loop-from.invariant in
+    let found = c.in_ok-from.ensures.found ∙ ap (λ p. option_map span (find p hay at)) inv.3.0 in
+    let cut = sym c.begins_character.ensures ∙ c.if-begins_character.true in
+    let same = ap (λ p. find p hay at) inv.3.0 ∙ sym (inv.2 ∙ match_here re hay at _ found cut) in
+    let width : vec_len c.loop-from.self.cells ≡ vec_len c.args.self.now.cells =
+    omega (arith, c.loop-from.self.width, c.args.self.now.width, inv.3.1) in
+    subst (λ n. IfSome (find_str re hay c.args.start) (λ m. c.find_in_bytes.new.self.cells.items ≡ group_cells m n)) width
+    (subst (λ o. IfSome o (λ m. c.find_in_bytes.new.self.cells.items ≡ group_cells m (vec_len c.loop-from.self.cells))) same
+    c.in_ok-from.ensures.cells)
+
+pub returns-then-begins_character-clause-within : goal.returns-then-begins_character-clause-within
+returns-then-begins_character-clause-within c =
+    let re = pattern_re c.args.self.now in
+    let hay = c.args.hay.now in
+    let at = c.loop-from.at in
+    let inv = c.loop-from.invariant in
+    let found = c.in_ok-from.ensures.found ∙ ap (λ p. option_map span (find p hay at)) inv.3.0 in
+    let within = match_within re hay at _ found in
+    (omega (arith, within.0, inv.1), within.1, within.2)
+
+pub returns-then-begins_character-clause-cuts : goal.returns-then-begins_character-clause-cuts
+returns-then-begins_character-clause-cuts c =
+    let re = pattern_re c.args.self.now in
+    let hay = c.args.hay.now in
+    let at = c.loop-from.at in
+    let inv = c.loop-from.invariant in
+    let found = c.in_ok-from.ensures.found ∙ ap (λ p. option_map span (find p hay at)) inv.3.0 in
+    let cut = sym c.begins_character.ensures ∙ c.if-begins_character.true in
+    match_cuts re hay at _ found (are_bytes hay c.type_inv.hay) c.args.self.now.whole_characters c.requires cut
+
+pub overflow_add-at : goal.overflow_add-at
+overflow_add-at c =
+    let re = pattern_re c.args.self.now in
+    let hay = c.args.hay.now in
+    let at = c.loop-from.at in
+    let inv = c.loop-from.invariant in
+    let found = c.in_ok-from.ensures.found ∙ ap (λ p. option_map span (find p hay at)) inv.3.0 in
+    let inside = match_inside re hay at _ found (sym c.begins_character.ensures ∙ c.if-begins_character.false) in
+    omega (arith, inside.0)
+
+pub loop-from-smaller : goal.loop-from-smaller
+loop-from-smaller c =
+    let re = pattern_re c.args.self.now in
+    let hay = c.args.hay.now in
+    let at = c.loop-from.at in
+    let inv = c.loop-from.invariant in
+    let found = c.in_ok-from.ensures.found ∙ ap (λ p. option_map span (find p hay at)) inv.3.0 in
+    let within = match_within re hay at _ found in
+    let inside = match_inside re hay at _ found (sym c.begins_character.ensures ∙ c.if-begins_character.false) in
+    omega (arith, inside.0, within.0)
+
+pub loop-from-preserved : goal.loop-from-preserved
+loop-from-preserved c =
+    let re = pattern_re c.args.self.now in
+    let hay = c.args.hay.now in
+    let at = c.loop-from.at in
+    let inv = c.loop-from.invariant in
+    let found = c.in_ok-from.ensures.found ∙ ap (λ p. option_map span (find p hay at)) inv.3.0 in
+    let within = match_within re hay at _ found in
+    let inside = match_inside re hay at _ found (sym c.begins_character.ensures ∙ c.if-begins_character.false) in
+    let same = c.in_ok-from.ensures.same in (
+      omega (arith, inside.0),
+      omega (arith, within.0, inv.1),
+      inv.2 ∙ inside.1,
+      (same.0 ∙ inv.3.0, same.1 ∙ inv.3.1),
+    )
