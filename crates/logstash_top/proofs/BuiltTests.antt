@@ -1,5 +1,5 @@
 -- What the two tests of tokens say together.
-use Rattle.std.proofs.Common.{◌≡◌, ◌↔◌, ◌⊎◌, inl, inr, ℕ, Bool, true, false, List, IsTrue, codes, sym, ap, ◌∙◌}
+use Rattle.std.proofs.Common.{◌≡◌, ◌↔◌, inl, inr, ℕ, Bool, true, false, List, IsTrue, codes, sym, ap, ◌∙◌}
 use Rattle.logstash_top.specs.Built.{tokens_of, IsBuilt}
 
 abbrev plain : List ℕ

@@ -1,17 +1,15 @@
 -- One poll after another.
-use Rattle.std.proofs.Common.{◌≡◌, ◌≢◌, ◌≤◌, ◌<◌, ℕ, ℤ, Bool, true, false, List, [], ◌∷◌, ◌++◌, map, length, take, drop, Option, Result, Ok, Err, IsOk, IsErr, OnOk, refl, sym, ap, ◌∙◌, subst, arith, append_assoc, append-nil}
-use Rattle.std.specs.List.{flat_map}
+use Rattle.std.proofs.Common.{◌≡◌, ◌<◌, ℕ, ℤ, true, false, List, [], ◌∷◌, ◌++◌, map, length, take, drop, Result, Ok, Err, IsOk, IsErr, OnOk, refl, sym, ap, ◌∙◌, subst, arith, append-nil}
 use Rattle.std.proofs.lemmas.List.{map-append}
 use Rattle.std.proofs.Math.Seq.{take-append_seam}
 use Rattle.std.proofs.lemmas.List.Concat.{flat_map-append}
 use Rattle.outside.specs.Pieces.{Piece, Came, End, Nothing, bytes_in, piece_list}
 use Rattle.outside.specs.Telling.{Grows, GrowsInPart, Shrinks, IsAtEnd}
-use Rattle.outside.proofs.Growth.{grows_same, grows_by, grows_then, grows_still, shrinks_same, shrinks_by, shrinks_then, shrinks_still, in_part, in_part_whole, in_part_none, in_part_of, in_part_then, in_part_still}
+use Rattle.outside.proofs.Growth.{grows_same, grows_by, grows_then, shrinks_same, shrinks_by, shrinks_then, in_part_none, in_part_then}
 use Rattle.outside.specs.declared.sources.Source.{Ghosts as SourceWords}
 use Rattle.outside.specs.declared.sinks.Sink.{Ghosts as SinkWords}
 use Rattle.outside.specs.declared.clocks.Clock.{Ghosts as ClockWords}
-use Rattle.byte_lines.specs.Split.{Split, split_of}
-use Rattle.byte_lines.specs.Lines.{whole_lines, last_line, texts_of}
+use Rattle.byte_lines.specs.Lines.{whole_lines, texts_of}
 use Rattle.byte_lines.specs.Unread.{Unread, lines_left, rest_of}
 use Rattle.byte_lines.proofs.Splitting.{split_of-settled}
 use Rattle.byte_lines.proofs.Giving.{unread, rest_of-none_left}
@@ -21,7 +19,7 @@ use Rattle.in_lines.specs.Rows.{out_bytes}
 use Rattle.in_lines.proofs.Receiving.{joined-append, is_ended-append, received-nil, received-lines, received-more, rest_through-nil, rest_through-more, rest_through-nothing}
 use Rattle.logstash_top.specs.declared.world.ThinWorld.{ThinWorld}
 use Rattle.logstash_top.specs.Rows.{rows_at}
-use Rattle.logstash_top.specs.Runs.{line_limit, pieces_in, Polled, Finished, Ran}
+use Rattle.logstash_top.specs.Runs.{line_limit, pieces_in, Polled, Ran}
 use Rattle.logstash_top.proofs.RowLemmas.{out_bytes-append}
 
 abbrev pub poll_of : ℤ → Piece → Poll

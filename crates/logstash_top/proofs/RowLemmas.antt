@@ -1,6 +1,5 @@
 -- Rows of lines, one after another.
-use Rattle.std.proofs.Common.{◌≡◌, ℕ, ℤ, List, [], ◌∷◌, ◌++◌, map, Option, sym, ap, ◌∙◌, subst, append-nil, append_assoc}
-use Rattle.std.specs.List.{flat_map}
+use Rattle.std.proofs.Common.{◌≡◌, ℕ, ℤ, List, [], ◌∷◌, ◌++◌, map, Option, sym, ap, ◌∙◌, subst, append-nil}
 use Rattle.std.proofs.lemmas.List.{map-append}
 use Rattle.std.proofs.lemmas.List.Concat.{flat_map-append}
 use Rattle.event_tree.specs.declared.value.Value.{Value}
@@ -17,8 +16,8 @@ out_bytes-append xs ys = flat_map-append row_of xs ys
 pub rows_at-append : (moment : ℤ) (xs ys : List (List ℕ)) → rows_at moment (xs ++ ys) ≡ rows_at moment xs ++ rows_at moment ys
 rows_at-append moment xs ys =
     ap (λ l. out_bytes (map event_of l)) (map-append (λ line. record { line = line; moment = moment }) xs ys)
-      ∙ ap out_bytes (map-append event_of (received_at moment xs) (received_at moment ys))
-      ∙ out_bytes-append (map event_of (received_at moment xs)) (map event_of (received_at moment ys))
+    ∙ ap out_bytes (map-append event_of (received_at moment xs) (received_at moment ys))
+    ∙ out_bytes-append (map event_of (received_at moment xs)) (map event_of (received_at moment ys))
 
 row_at : (moment : ℤ) (line : List ℕ) → rows_at moment (line ∷ []) ≡ row_of (event_of (record { line = line; moment = moment }))
 row_at moment line = append-nil (row_of (event_of (record { line = line; moment = moment })))

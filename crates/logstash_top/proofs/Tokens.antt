@@ -1,5 +1,5 @@
 -- The tokens of a text, one by one.
-use Rattle.std.proofs.Common.{◌≡◌, ◌<◌, ◌≤◌, ◌+◌, ◌-◌, ℕ, zero, suc, Bool, true, false, not, ◌||◌, ◌&&◌, List, [], ◌∷◌, ◌++◌, length, take, drop, get_or, map, refl, sym, ap, ◌∙◌, subst, arith, length-take, if◌then◌else◌}
+use Rattle.std.proofs.Common.{◌≡◌, ◌<◌, ◌≤◌, ◌+◌, ◌-◌, ℕ, zero, suc, Bool, true, false, not, ◌||◌, ◌&&◌, List, [], ◌∷◌, ◌++◌, length, take, drop, get_or, refl, sym, ap, ◌∙◌, arith, length-take}
 use Rattle.std.specs.List.{list_all}
 use Rattle.std.proofs.Math.Seq.{take-length}
 use Rattle.std.proofs.lemmas.List.{take_more, take-append-drop}
@@ -42,7 +42,7 @@ tokens-word (b ∷ []) rest all some stops = last_byte b rest (both (is_word b) 
 tokens-word (b ∷ c ∷ word) rest all some stops =
     let split = both (is_word b) (list_all is_word (c ∷ word)) all in
     inner_byte b (c ∷ word ++ rest) split.0 (both (is_word c) (list_all is_word word) split.1).0
-      ∙ ap (before_first b) (tokens-word (c ∷ word) rest split.1 (omega arith) stops)
+    ∙ ap (before_first b) (tokens-word (c ∷ word) rest split.1 (omega arith) stops)
 
 -- the token at the front, where it is a brace
 pub brace_token : (text : List ℕ) → BeginsToken text → is_brace (get_or text 0 0) ≡ true → tokens_of text ≡ take 1 text ∷ tokens_of (drop 1 text)

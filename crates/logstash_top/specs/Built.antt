@@ -1,5 +1,5 @@
 -- The configurations that are built, by their tokens.
-use Rattle.std.specs.Prelude.{◌≡◌, ◌⊎◌, ℕ, Bool, true, false, not, ◌||◌, ◌==◌, List, [], ◌∷◌, if◌then◌else◌, codes}
+use Rattle.std.specs.Prelude.{◌≡◌, ◌⊎◌, ℕ, Bool, false, not, ◌||◌, ◌==◌, List, [], ◌∷◌, if◌then◌else◌, codes}
 
 -- space, tab, line feed and carriage return
 abbrev pub is_blank : ℕ → Bool

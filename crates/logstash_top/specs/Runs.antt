@@ -1,5 +1,5 @@
 -- What a run does to the outside.
-use Rattle.std.specs.Prelude.{◌≡◌, ℕ, ℤ, List, true, [], ◌∷◌, ◌++◌, Option, map}
+use Rattle.std.specs.Prelude.{◌≡◌, ℕ, List, true, map}
 use Rattle.std.specs.List.{flat_map}
 use Rattle.outside.specs.Pieces.{Piece, piece_list}
 use Rattle.outside.specs.Telling.{Grows, GrowsInPart, Shrinks, IsAtEnd}

@@ -1,10 +1,8 @@
 -- The statuses, their numbers and their lines on stderr.
-use Rattle.std.specs.Prelude.{◌≡◌, ◌⊎◌, ℕ, List, [], ◌∷◌, ◌++◌, codes}
+use Rattle.std.specs.Prelude.{◌≡◌, ◌⊎◌, ℕ, List, [], ◌++◌, codes}
 use Rattle.logstash_top.specs.declared.status.Status.{Status}
 use Rattle.logstash_top.specs.declared.status.Status.TheVariants.{Done, BadWords, BadConfig, InputFault, OutputFault, NoMemory}
-use Rattle.logstash_top.specs.declared.status.WordsFault.{WordsFault}
 use Rattle.logstash_top.specs.declared.status.WordsFault.TheVariants.{Unread}
-use Rattle.logstash_top.specs.declared.status.ConfigFault.{ConfigFault}
 use Rattle.logstash_top.specs.declared.status.ConfigFault.TheVariants.{Thin}
 use Rattle.logstash_top.specs.declared.stop.Stop.{Stop}
 use Rattle.logstash_top.specs.declared.stop.Stop.TheVariants.{Input, Output, Memory}

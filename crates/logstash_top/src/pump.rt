@@ -58,7 +58,14 @@ fn pump<R: Wait, I: Source, O: Sink, K: Clock>(
         match world.stdin.read(&mut room) {
             Ok(Step::Bytes(count)) => {
                 let bytes = &room[..count];
-                match take_piece(alloc, &mut reader, bytes, moment, &mut row, &mut world.stdout) {
+                match take_piece(
+                    alloc,
+                    &mut reader,
+                    bytes,
+                    moment,
+                    &mut row,
+                    &mut world.stdout,
+                ) {
                     Ok(()) => {}
                     Err(stop) => return Err(stop),
                 }

@@ -1,4 +1,4 @@
-use Rattle.std.proofs.Common.{◌≡◌, ◌≤◌, true, sym, ◌∙◌, arith}
+use Rattle.std.proofs.Common.{sym, ◌∙◌, arith}
 use Rattle.logstash_top.proofs.Tokens.{none_left, behind_blank, behind_length}
 use Rattle.logstash_top.proofs.built.first_token.Goals as goal
 

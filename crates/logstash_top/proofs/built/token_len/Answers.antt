@@ -1,5 +1,4 @@
-use Rattle.std.proofs.Common.{◌≡◌, true, false, sym, ◌∙◌}
-use Rattle.logstash_top.specs.Built.{is_brace}
+use Rattle.std.proofs.Common.{sym, ◌∙◌}
 use Rattle.logstash_top.proofs.Tokens.{brace_token, word_some, word_token}
 use Rattle.logstash_top.proofs.built.token_len.Goals as goal
 

@@ -1,4 +1,4 @@
-use Rattle.std.proofs.Common.{◌≡◌, ◌≤◌, ◌++◌, refl, arith}
+use Rattle.std.proofs.Common.{◌++◌, arith}
 use Rattle.outside.proofs.Growth.{grows_then}
 use Rattle.outside.proofs.Causes.{cause_from}
 use Rattle.logstash_top.proofs.PartsLemmas.{next_part, part_more, in_next_part}

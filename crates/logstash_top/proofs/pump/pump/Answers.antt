@@ -1,12 +1,10 @@
-use Rattle.std.proofs.Common.{◌≡◌, ◌≤◌, ◌++◌, [], ◌∷◌, ℕ, false, true, List, Ok, Err, take, refl, sym, ap, ◌∙◌, subst, arith, append-nil}
-use Rattle.outside.specs.Pieces.{Piece, Came, End, Nothing}
-use Rattle.outside.specs.Telling.{Grows}
-use Rattle.outside.proofs.Growth.{grows_same, grows_by, grows_then, grows_still, shrinks_by, in_part_whole, in_part_none, in_part_of}
+use Rattle.std.proofs.Common.{◌≡◌, ◌++◌, [], ◌∷◌, false, take, refl, sym, ap, ◌∙◌, arith, append-nil}
+use Rattle.outside.specs.Pieces.{Came, End, Nothing}
+use Rattle.outside.proofs.Growth.{grows_same, grows_by, grows_then, grows_still, shrinks_by, in_part_none}
 use Rattle.outside.proofs.Causes.{cause_from, cause_of, no_cause}
-use Rattle.in_lines.specs.Polls.{is_ended, lines_by, rest_through}
+use Rattle.in_lines.specs.Polls.{rest_through}
 use Rattle.in_lines.specs.Events.{events_of}
 use Rattle.in_lines.specs.Rows.{out_bytes}
-use Rattle.in_lines.proofs.Receiving.{is_ended-append}
 use Rattle.byte_lines.specs.Unread.{lines_left}
 use Rattle.byte_lines.proofs.Giving.{unread}
 use Rattle.logstash_top.specs.Rows.{rows_at}
@@ -39,7 +37,7 @@ returns-in-Err-clause-ran g c =
     let e = c.in-Err.ensures in
     let m = c.now-moment.result in
     stopped_in_part g.I.Source g.O.Sink g.K.Clock _ c.loop.world _ _ i.polls m Nothing [] i.still
-      (polled_more g.I.Source g.O.Sink g.K.Clock _ c.loop.world _ i.polls m Nothing i.still i.polled c.now-moment.ensures e.given e.left) refl i.wrote (in_part_none [] (grows_same _)) (λ is. cc)
+    (polled_more g.I.Source g.O.Sink g.K.Clock _ c.loop.world _ i.polls m Nothing i.still i.polled c.now-moment.ensures e.given e.left) refl i.wrote (in_part_none [] (grows_same _)) (λ is. cc)
 
 pub returns-in-Err-clause-read_cause : goal.returns-in-Err-clause-read_cause
 returns-in-Err-clause-read_cause g c = cause_from c.loop.invariant.read_later (cause_of (λ _. refl) c.in-Err.ensures.cause)
@@ -95,8 +93,8 @@ returns-in-Err-take_piece-clause-ran g c =
     let same : c.read.new.into ≡ c.deref.result.now = sym (c.deref.ensures.value ∙ whole_room _ _ _ (omega (arith, c.read.auto.into, c.deref_mut.ensures.len))) in
     let bytes = take c.in-Ok-Bytes.count c.deref.result.now in
     stopped_in_part g.I.Source g.O.Sink g.K.Clock _ c.loop.world _ _ i.polls m (Came bytes) _ i.still
-      (polled_more g.I.Source g.O.Sink g.K.Clock _ c.loop.world _ i.polls m (Came bytes) i.still i.polled c.now-moment.ensures (grows_by (ap (λ t. Came (take c.in-Ok-Bytes.count t) ∷ []) same) e.given) (shrinks_by (ap (take c.in-Ok-Bytes.count) same) e.left))
-      (fed_lines (rest_through line_limit i.polls) bytes c.loop.reader i.reader) i.wrote c.in-Err-take_piece.ensures.part (λ is. cc)
+    (polled_more g.I.Source g.O.Sink g.K.Clock _ c.loop.world _ i.polls m (Came bytes) i.still i.polled c.now-moment.ensures (grows_by (ap (λ t. Came (take c.in-Ok-Bytes.count t) ∷ []) same) e.given) (shrinks_by (ap (take c.in-Ok-Bytes.count) same) e.left))
+    (fed_lines (rest_through line_limit i.polls) bytes c.loop.reader i.reader) i.wrote c.in-Err-take_piece.ensures.part (λ is. cc)
 
 pub returns-in-Err-take_piece-clause-read_cause : goal.returns-in-Err-take_piece-clause-read_cause
 returns-in-Err-take_piece-clause-read_cause g c =
@@ -114,8 +112,8 @@ returns-in-Ok-End-clause-ran g c =
     let m = c.now-moment.result in
     let lines = ap lines_left c.end.ensures ∙ ended_lines i.polls c.loop.reader i.reader in
     ended g.I.Source g.O.Sink g.K.Clock _ c.loop.world _ c.write_lines.result i.polls m _ i.still
-      (polled_more g.I.Source g.O.Sink g.K.Clock _ c.loop.world _ i.polls m End i.still i.polled c.now-moment.ensures e.given e.left)
-      (e.end refl) lines i.wrote c.write_lines.ensures.ok c.write_lines.ensures.part
+    (polled_more g.I.Source g.O.Sink g.K.Clock _ c.loop.world _ i.polls m End i.still i.polled c.now-moment.ensures e.given e.left)
+    (e.end refl) lines i.wrote c.write_lines.ensures.ok c.write_lines.ensures.part
 
 pub returns-in-Ok-End-clause-read_cause : goal.returns-in-Ok-End-clause-read_cause
 returns-in-Ok-End-clause-read_cause g c =

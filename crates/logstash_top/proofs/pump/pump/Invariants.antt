@@ -1,4 +1,4 @@
-use Rattle.std.proofs.Common.{◌≡◌, ◌≤◌, ℕ, List, false}
+use Rattle.std.proofs.Common.{◌≡◌, ◌≤◌, List, false}
 use Rattle.outside.specs.Telling.{Grows}
 use Rattle.in_lines.specs.Polls.{Poll, is_ended, rest_through}
 use Rattle.in_lines.specs.Events.{events_of}

@@ -1,4 +1,4 @@
-use Rattle.std.proofs.Common.{◌≡◌, ◌≤◌, ◌++◌, [], ◌∷◌, ap, sym, ◌∙◌, arith, append_assoc}
+use Rattle.std.proofs.Common.{◌++◌, [], ◌∷◌, ap, sym, ◌∙◌, arith, append_assoc}
 use Rattle.std.specs.String.{string_bytes}
 use Rattle.byte_lines.specs.Unread.{lines_left}
 use Rattle.logstash_top.proofs.RowLemmas.{rows_then, rows_in_part}

@@ -1,4 +1,3 @@
-use Rattle.std.proofs.Common.{◌≡◌}
 use Rattle.logstash_top.proofs.PumpLemmas.{unmoved}
 use Rattle.logstash_top.proofs.Statuses.{thin_not_done}
 use Rattle.logstash_top.proofs.top.outcome.Goals as goal

@@ -7,12 +7,12 @@ use Rattle.logstash_top.proofs.top.write_line.Goals as goal
 pub returns-in-BadConfig-default-Thin-clause-ok : goal.returns-in-BadConfig-default-Thin-clause-ok
 returns-in-BadConfig-default-Thin-clause-ok g c =
     subst (λ l. OnOk c.write_parts-in-BadConfig-default-Thin.result (Grows (g.O.Sink.taken c.args.stderr.now) (g.O.Sink.taken c.write_parts-in-BadConfig-default-Thin.new.sink) l))
-      (config_line c.args.status.now c.in-BadConfig-default-Thin.pipeline c.as_str.result.now c.in-BadConfig-default-Thin.field-1 c.in-BadConfig-default-Thin.is c.as_str.ensures) c.write_parts-in-BadConfig-default-Thin.ensures.ok
+    (config_line c.args.status.now c.in-BadConfig-default-Thin.pipeline c.as_str.result.now c.in-BadConfig-default-Thin.field-1 c.in-BadConfig-default-Thin.is c.as_str.ensures) c.write_parts-in-BadConfig-default-Thin.ensures.ok
 
 pub returns-in-InputFault-clause-ok : goal.returns-in-InputFault-clause-ok
 returns-in-InputFault-clause-ok g c =
     subst (λ l. OnOk c.write_parts-in-InputFault.result (Grows (g.O.Sink.taken c.args.stderr.now) (g.O.Sink.taken c.write_parts-in-InputFault.new.sink) l))
-      (input_line c.args.status.now c.in-InputFault.pipeline c.in-InputFault.input c.as_str-in-InputFault.result.now c.as_str-in-InputFault-2.result.now c.in-InputFault.is c.as_str-in-InputFault.ensures c.as_str-in-InputFault-2.ensures) c.write_parts-in-InputFault.ensures.ok
+    (input_line c.args.status.now c.in-InputFault.pipeline c.in-InputFault.input c.as_str-in-InputFault.result.now c.as_str-in-InputFault-2.result.now c.in-InputFault.is c.as_str-in-InputFault.ensures c.as_str-in-InputFault-2.ensures) c.write_parts-in-InputFault.ensures.ok
 
 pub returns-in-NoMemory-clause-ok : goal.returns-in-NoMemory-clause-ok
 returns-in-NoMemory-clause-ok g c =
