@@ -25,6 +25,7 @@ bench: all
 	bash bench/lines.sh
 	bash bench/events.sh
 	bash bench/crc.sh
+	bash bench/patterns.sh
 
 clean:
 	rm -rf bin crates/*/out
