@@ -24,8 +24,12 @@ try:
 bench: all
 	bash bench/lines.sh
 	bash bench/events.sh
+	bash bench/elements.sh
+	bash bench/json_lines.sh
 	bash bench/crc.sh
 	bash bench/patterns.sh
+	bash bench/parse.sh
+	bash bench/store.sh
 
 clean:
 	rm -rf bin crates/*/out

@@ -4,34 +4,13 @@
 #
 # Each is run from outside on a file of 64 MiB, with 1 pass over it and with 17. The difference of the two
 # times is that of 16 passes, without the start and the reading of the file. The least of five runs counts.
-set -eu
+. "$(dirname "$0")/common.sh"
 
-root=$(cd "$(dirname "$0")/.." && pwd)
-work=$(mktemp -d)
-trap 'rm -rf "$work"' EXIT
-
-(cd "$root/crates/bench_crc" && rt run) >"$work/build.log" 2>&1 || {
-    tail -n 5 "$work/build.log"
-    exit 1
-}
+build bench_crc
 cc -O2 -o "$work/crc_bytes" "$root/bench/crc_bytes.c"
 python3 -c '
 import random, sys
 sys.stdout.buffer.write(random.Random(1).randbytes(64 << 20))' >"$work/input"
-
-# The least time of five runs of a command on the file, in nanoseconds.
-least_time() {
-    least=
-    for run in 1 2 3 4 5; do
-        start=$(date +%s%N)
-        "$@" >"$work/output"
-        time=$(($(date +%s%N) - start))
-        if [ -z "$least" ] || [ "$time" -lt "$least" ]; then
-            least=$time
-        fi
-    done
-    echo "$least"
-}
 
 # Prints the speed of a command in GB/s, and what it computed.
 measure() {
@@ -44,7 +23,7 @@ measure() {
     cat "$work/output" >>"$work/sums"
 }
 
-measure "crc_frame::crc32" "$root/crates/bench_crc/out/bench_crc"
+measure "crc_frame::crc32" "$program"
 measure "C, one table of bytes" "$work/crc_bytes"
 measure "zlib by python3" python3 "$root/bench/crc_zlib.py"
 if [ "$(sort -u "$work/sums" | wc -l)" -ne 1 ]; then

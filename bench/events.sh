@@ -3,28 +3,13 @@
 # rounds; the difference of the two times is that of the calls, without the start. The least of five
 # runs counts. A round of get, put or take is one call for each field (a take with the put that puts
 # back what was taken), a round of copy is one copy of the event.
-set -eu
+. "$(dirname "$0")/common.sh"
 
-root=$(cd "$(dirname "$0")/.." && pwd)
-program=$root/crates/bench_events/out/bench_events
-(cd "$root/crates/bench_events" && rt run) >/dev/null 2>&1
-
-least_time() {
-    least=
-    for _ in 1 2 3 4 5; do
-        start=$(date +%s%N)
-        "$program" "$1" "$2" >/dev/null
-        time=$(($(date +%s%N) - start))
-        if [ -z "$least" ] || [ "$time" -lt "$least" ]; then
-            least=$time
-        fi
-    done
-    echo "$least"
-}
+build bench_events
 
 measure() {
-    few=$(least_time "$1" 100)
-    many=$(least_time "$1" 20100)
+    few=$(least_time "$program" "$1" 100)
+    many=$(least_time "$program" "$1" 20100)
     echo "$1 $(((many - few) / 20000 / $2)) ns $3"
 }
 

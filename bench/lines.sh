@@ -2,11 +2,7 @@
 # How fast do lines become JSON lines? One million lines of 100 bytes from a file to /dev/null, through
 # bin/logstash and, in the same run, through cat, awk and python3. Prints wall and processor time, peak
 # memory and lines a second. Needs GNU time.
-set -eu
-
-root=$(cd "$(dirname "$0")/.." && pwd)
-work=$(mktemp -d)
-trap 'rm -rf "$work"' EXIT
+. "$(dirname "$0")/common.sh"
 
 awk 'BEGIN { line = sprintf("%099d", 0); gsub("0", "x", line); for (i = 0; i < 1000000; i++) print line }' >"$work/lines"
 
@@ -27,17 +23,14 @@ for line in sys.stdin:
     write(json.dumps(event, separators=(",", ":"), sort_keys=True) + "\n")
 PY
 
-# Runs a command on the lines three times, and prints the fastest run. The memory is what the command
-# itself held at most.
+# Runs a command on the lines, and prints its fastest run.
 measure() {
     name=$1
     shift
-    for _ in 1 2 3; do
-        /usr/bin/time -f '%e %U %S %M' -o "$work/row" "$@" <"$work/lines" >/dev/null
-        cat "$work/row"
-    done | sort -n | head -n 1 | awk -v name="$name" '{
+    best_run "$work/lines" "$@"
+    awk -v name="$name" '{
         printf "%-10s %7.2f s wall %7.2f s cpu %8d KiB %9d lines/s\n", name, $1, $2 + $3, $4, 1000000 / $1
-    }'
+    }' "$work/best"
 }
 
 measure logstash "$root/bin/logstash" -e 'input { stdin {} } output { stdout {} }'

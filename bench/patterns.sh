@@ -3,15 +3,10 @@
 # (bench/access_log.regex) through the program bench_patterns and, in the same run, through python3's re
 # and perl, and checks that they find the same. Then bench_patterns makes, searches and drops 20,000
 # patterns. Prints wall and processor time and peak memory of the fastest of three runs. Needs GNU time.
-set -eu
-
-root=$(cd "$(dirname "$0")/.." && pwd)
-program=$root/crates/bench_patterns/out/bench_patterns
+. "$(dirname "$0")/common.sh"
 pattern=$root/bench/access_log.regex
-work=$(mktemp -d)
-trap 'rm -rf "$work"' EXIT
 
-(cd "$root/crates/bench_patterns" && rt run) >/dev/null 2>&1
+build bench_patterns
 
 awk 'BEGIN {
     for (i = 0; i < 100000; i++)
@@ -51,11 +46,8 @@ PERL
 measure() {
     name=$1
     shift
-    for _ in 1 2 3; do
-        /usr/bin/time -f '%e %U %S %M' -o "$work/row" "$@" >"$work/found"
-        cat "$work/row"
-    done | sort -n | head -n 1 >"$work/best"
-    awk -v name="$name" -v found="$(cat "$work/found")" '{
+    best_run /dev/null "$@"
+    awk -v name="$name" -v found="$(cat "$work/output")" '{
         printf "%-28s %7.2f s wall %7.2f s cpu %8d KiB   found %d\n", name, $1, $2 + $3, $4, found
     }' "$work/best"
 }
@@ -63,7 +55,7 @@ measure() {
 # Searches the lines, and keeps what was found.
 search() {
     measure "$@" "$pattern" "$work/lines"
-    cat "$work/found" >>"$work/all_found"
+    cat "$work/output" >>"$work/all_found"
 }
 
 search "pattern_box" "$program" search

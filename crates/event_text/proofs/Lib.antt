@@ -1,4 +1,10 @@
-pub mod Written
-pub mod Jsons
-pub mod Dates
-pub mod Numbers
+pub mod Shows
+pub mod Runs
+pub mod Parts
+pub mod Steps
+pub mod PathReads
+pub mod Pieces
+pub mod Scans
+pub mod LawLemmas
+pub mod PathFaults
+pub mod Wholes

@@ -1,3 +1,4 @@
-pub mod TimeText
-pub mod Json
-pub mod Adds
+pub mod PathReading
+pub mod DateFormats
+pub mod Shown
+pub mod Template

@@ -1,8 +1,13 @@
-//! Events as text: JSON, and times.
+//! Events as text: JSON, templates, and times. What a value is shown by walks it once, and recurses
+//! once for each level of lists.
 #![tactic(auto)]
 
-mod json;
-mod time;
+mod date_format;
+pub mod laws;
+mod shown;
+mod template;
 
-pub use json::write_json;
-pub use time::time_text;
+pub use date_format::DatePart;
+pub use event_json::{JsonFault, read_json, time_text, write_json};
+pub use shown::value_text;
+pub use template::{Piece, Template};

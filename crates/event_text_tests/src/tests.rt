@@ -1,4 +1,5 @@
-use event_text::{time_text, write_json};
+use crate::is_written;
+use event_text::time_text;
 use event_tree::{Fields, Items, Number, Text, Value};
 use std::alloc::{AllocError, Global};
 use std::str::from_utf8;
@@ -19,14 +20,6 @@ fn object(alloc: Global, members: [(&str, Value); 3]) -> Result<Value, AllocErro
         let _ = fields.insert(Text::of(alloc, key)?, value)?;
     }
     Ok(Value::Object(fields))
-}
-
-/// Whether the JSON text of the value is the one wanted, added behind bytes that are there.
-fn is_written(alloc: Global, value: &Value, want: &str) -> Result<bool, AllocError> {
-    let mut bytes = Vec::new(alloc);
-    bytes.extend_from_slice(b"# ")?;
-    write_json(value, &mut bytes)?;
-    Ok(bytes.strip_prefix(b"# ") == Some(want.as_bytes()))
 }
 
 #[test]
@@ -108,10 +101,19 @@ fn times_are_written_in_utc_with_the_least_decimals(rt: HostRuntime) -> Result<(
     for (nanos, want) in [
         (0, "1970-01-01T00:00:00.000Z"),
         (1, "1970-01-01T00:00:00.000000001Z"),
+        (999_999_999, "1970-01-01T00:00:00.999999999Z"),
+        (1_000_000_001, "1970-01-01T00:00:01.000000001Z"),
         (-1, "1969-12-31T23:59:59.999999999Z"),
         (1_000, "1970-01-01T00:00:00.000001Z"),
         (1_000_000, "1970-01-01T00:00:00.001Z"),
+        (-1_000_000_000, "1969-12-31T23:59:59.000Z"),
         (-62_135_596_800_000_000_000, "0001-01-01T00:00:00.000Z"),
+        (
+            -62_135_596_799_999_999_999,
+            "0001-01-01T00:00:00.000000001Z",
+        ),
+        (-49_539_337_076_999_996_000, "0400-02-29T01:02:03.000004Z"),
+        (-2_203_891_200_000_000_001, "1900-02-28T23:59:59.999999999Z"),
         (-2_203_891_200_000_000_000, "1900-03-01T00:00:00.000Z"),
         (946_598_400_000_120_000, "1999-12-31T00:00:00.000120Z"),
         (951_868_799_000_000_000, "2000-02-29T23:59:59.000Z"),

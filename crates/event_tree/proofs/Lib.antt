@@ -14,3 +14,4 @@ pub mod PathLemmas
 pub mod DigitRuns
 pub mod Tens
 pub mod DecimalLemmas
+pub mod Shapes

@@ -1,6 +1,6 @@
 ghost use Rattle.std.specs.Prelude.{◌≡◌, ◌≤◌, ◌<◌, ◌+◌, ◌^◌, [], IfOk, IsTrue, ◌↔◌, is_some, true};
 ghost use Rattle.std.specs.Option.{option_copied, option_map};
-ghost use Rattle.event_tree.specs.Events.{Ev, IsEvent, IsObject, both, object, object_put, with_fields, with_meta, event_at, event_put, event_take, limited};
+ghost use Rattle.event_tree.specs.Events.{Ev, IsEvent, IsObject, both, object, event_size, object_put, with_fields, with_meta, event_at, event_put, event_take, limited};
 ghost use Rattle.event_tree.specs.Paths.{take};
 ghost use Rattle.event_tree.specs.Outcomes.{PutsEvent, PutsWithin, Takes};
 ghost use Rattle.event_tree.specs.Values.{depth};
@@ -61,6 +61,34 @@ impl Event {
             size: 8,
             alloc,
         }
+    }
+
+    /// The event of two objects whose encoding has so many bytes. It takes no memory, and walks
+    /// nothing: the caller knows that they are an event.
+    pub fn from_objects(
+        alloc: Global,
+        fields: Fields<Value>,
+        meta: Fields<Value>,
+        size: u64,
+    ) -> Event
+        requires valid { IsEvent (both (v.Object fields) (v.Object meta)) }
+        requires size { size ≡ event_size (both (v.Object fields) (v.Object meta)) }
+        ensures { result ≡ both (v.Object fields) (v.Object meta) }
+    {
+        Event {
+            fields: Value::Object(fields),
+            meta: Value::Object(meta),
+            size,
+            alloc,
+        }
+    }
+
+    /// How many bytes the encoding of the event has: at most 16,777,216. It is kept, not computed.
+    pub fn size(&self) -> u64
+        ensures size { result ≡ event_size self.now }
+        ensures valid { IsEvent self.now }
+    {
+        self.size
     }
 
     /// The object `fields`.

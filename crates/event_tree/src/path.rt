@@ -41,7 +41,7 @@ impl Path {
         } else {
             read_bare(alloc, text)?
         };
-        Ok(leading(parts))
+        Ok(Path::of_parts(parts))
     }
 
     /// The one part `name`, whatever its bytes, into `fields`.
@@ -51,6 +51,23 @@ impl Path {
         let mut parts = Items::new(alloc);
         parts.push(name)?;
         Ok(Path { meta: false, parts })
+    }
+
+    /// The path of these parts, of which there is at least one: into `meta` where the first is
+    /// `@metadata`, whatever the bytes of the others. It takes no memory.
+    pub fn of_parts(parts: Items<Text>) -> Path
+        requires { 0 < length parts }
+        ensures { result ≡ way_of parts }
+    {
+        let mut parts = parts;
+        let meta = match parts.get(0) {
+            Some(first) => first.as_str() == "@metadata",
+            None => false,
+        };
+        if meta {
+            let _ = parts.remove(0);
+        }
+        Path { meta, parts }
     }
 
     /// Whether the path leads into `meta`.
@@ -66,22 +83,6 @@ impl Path {
     {
         self.parts.as_slice()
     }
-}
-
-// The path whose text has these parts.
-fn leading(parts: Items<Text>) -> Path
-    requires { 0 < length parts }
-    ensures { result ≡ way_of parts }
-{
-    let mut parts = parts;
-    let meta = match parts.get(0) {
-        Some(first) => first.as_str() == "@metadata",
-        None => false,
-    };
-    if meta {
-        let _ = parts.remove(0);
-    }
-    Path { meta, parts }
 }
 
 // The place of the first bracket from `from` on, or the end.

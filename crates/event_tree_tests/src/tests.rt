@@ -1,3 +1,4 @@
+use crate::parts;
 use event_text::write_json;
 use event_tree::{
     DeadLetter, DeadList, Event, Fields, Instant, Items, Number, Path, PathFault, PutFault, Text,
@@ -296,11 +297,6 @@ fn taken_length(alloc: Global, event: &mut Event, text: &str) -> Result<usize, A
         Some(Value::Text(text)) => Ok(text.len()),
         _ => Ok(0),
     }
-}
-
-/// The digits and the places of a number.
-fn parts(number: Option<Number>) -> Option<(i64, u8)> {
-    number.map(|n| (n.mantissa(), n.scale()))
 }
 
 #[test]

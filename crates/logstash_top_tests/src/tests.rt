@@ -1,4 +1,5 @@
-use in_lines::{Piece, Poll, events_of_polls, write_row};
+use crate::poll_of;
+use in_lines::{Poll, events_of_polls, write_row};
 use logstash_top::{Status, ThinWorld, logstash};
 use std::alloc::{AllocError, Global};
 use std::process::Abort;
@@ -352,11 +353,7 @@ fn polls_of(alloc: Global, given: &[Gave]) -> Result<Vec<Poll>, Fail> {
     let moment = Instant::from_nanos(NEW_YEAR).ok_or("2024")?;
     let mut polls = Vec::new(alloc);
     for gave in given {
-        let piece = match gave {
-            Gave::Bytes(bytes) => Piece::Bytes(bytes.clone()?),
-            Gave::End => Piece::End,
-        };
-        polls.push(Poll { moment, piece })?;
+        polls.push(poll_of(moment, gave)?)?;
     }
     Ok(polls)
 }

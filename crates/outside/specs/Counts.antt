@@ -1,5 +1,5 @@
 -- The counts of an object's faults and of its waits, which are numbers of 64 bits.
-use Rattle.std.specs.Prelude.{◌≤◌, ◌<◌, ◌-◌, ◌^◌, ◌⊎◌, ℕ}
+use Rattle.std.specs.Prelude.{◌≤◌, ◌<◌, ◌+◌, ◌-◌, ◌^◌, ◌⊎◌, ℕ, min}
 
 -- a count rose, or it stands at the last number of 64 bits
 abbrev pub Rose : ℕ → ℕ → Type 0
@@ -9,3 +9,7 @@ Rose before now = (before < now) ⊎ (2 ^ 64 - 1 ≤ now)
 pub record HasCause (before now : ℕ) (fault : Type 0) : Type 0 where
   pub later : before ≤ now
   pub rose : fault → Rose before now
+
+-- one more, up to the last number of 64 bits
+abbrev pub one_more : ℕ → ℕ
+one_more n = min (n + 1) (2 ^ 64 - 1)

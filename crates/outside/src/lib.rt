@@ -1,4 +1,5 @@
-//! What a program sees of the outside: sources and sinks of bytes, and clocks.
+//! What a program sees of the outside: sources and sinks of bytes, clocks, files, connections, and
+//! who says whether it goes on.
 //!
 //! A contract sees an object of the outside through its ghost members. What the object holds is told
 //! as an `Option` of a list: an object in memory tells it, a real one tells None, and then no clause
@@ -8,11 +9,17 @@
 #![tactic(auto)]
 
 mod clocks;
+mod controls;
 mod faults;
+mod files;
+mod links;
 mod sinks;
 mod sources;
 
 pub use clocks::Clock;
-pub use faults::Failed;
+pub use controls::{Control, Said};
+pub use faults::{Failed, ListFault};
+pub use files::{Files, Names};
+pub use links::{Come, Links};
 pub use sinks::{Sink, write_all};
 pub use sources::{Source, Step};

@@ -1,11 +1,14 @@
-pub mod Scripts
-pub mod Sources
-pub mod Gave
-pub mod Sinks
-pub mod Clocks
-pub mod Adapters
 -- what it hands on
 pub use Rattle.outside.specs.Telling
 pub use Rattle.outside.specs.Counts
 pub use Rattle.outside.specs.Pieces
+pub use Rattle.outside.specs.Folders
+pub use Rattle.outside.specs.Reads
+pub use Rattle.outside.specs.Answers
+pub use Rattle.outside.specs.Connections
+pub use Rattle.store_images.specs.Images
+pub use Rattle.store_images.specs.Times
+pub use Rattle.store_images.specs.Chance
+pub use Rattle.store_images.specs.Moments
 pub use Rattle.time_instant.specs.Calendar
+pub mod Faults

@@ -1,20 +1,22 @@
-//! Objects of the outside: in memory, with scripts of the calls that fail, and on the real machine.
-//!
-//! It hands on all of `outside` and `time_instant`.
+//! The outside of a program, whole: its traits, their objects in memory and those of the real
+//! machine, all together as a `World`, and why something that is kept in files of a store was not
+//! read. It hands on what `outside`, `store_images`, `memory_outside`, `memory_store` and
+//! `real_outside` have, and `Instant` of `time_instant`.
 #![tactic(auto)]
 
-mod adapters;
-mod list_clocks;
-mod memory_sinks;
-mod memory_sources;
-mod scripts;
-#[cfg(test)]
-mod tests;
+mod faults;
+mod worlds;
 
-pub use adapters::{StdinSource, SystemClock, WriteSink};
-pub use list_clocks::ListClock;
-pub use memory_sinks::MemorySink;
-pub use memory_sources::{Gave, MemorySource};
-pub use outside::{Clock, Failed, Sink, Source, Step, write_all};
-pub use scripts::Script;
+pub use faults::{Damage, QueueFault};
+pub use memory_outside::{
+    Gave, ListClock, ListControl, MemoryFiles, MemorySink, MemorySource, Script, Showing,
+};
+pub use memory_store::{Call, Logged, MemoryStore, Table};
+pub use outside::{
+    Clock, Come, Control, Failed, Files, Links, ListFault, Names, Said, Sink, Source, Step,
+    write_all,
+};
+pub use real_outside::{FileStore, GoControl, RealFiles, StdinSource, SystemClock, WriteSink};
+pub use store_images::Store;
 pub use time_instant::Instant;
+pub use worlds::World;

@@ -1,0 +1,42 @@
+# What the scripts of this folder time with, to be read by `.`. Sets `root` to the repository's folder and
+# `work` to a folder that is removed at the end.
+set -eu
+
+root=$(cd "$(dirname "$0")/.." && pwd)
+work=$(mktemp -d)
+trap 'rm -rf "$work"' EXIT
+
+# Proves and builds a program of crates/, and sets `program` to its path.
+build() {
+    (cd "$root/crates/$1" && rt run) >"$work/build.log" 2>&1 || {
+        tail -n 5 "$work/build.log"
+        exit 1
+    }
+    program=$root/crates/$1/out/$1
+}
+
+# The least time of five runs of a command, in nanoseconds. Its output stands in $work/output.
+least_time() {
+    least=
+    for run in 1 2 3 4 5; do
+        start=$(date +%s%N)
+        "$@" >"$work/output"
+        time=$(($(date +%s%N) - start))
+        if [ -z "$least" ] || [ "$time" -lt "$least" ]; then
+            least=$time
+        fi
+    done
+    echo "$least"
+}
+
+# Runs a command three times with a file as its input. The row of the fastest run (seconds, seconds of
+# the processor in user and in system mode, KiB that it held at most) stands in $work/best, its output in
+# $work/output. Needs GNU time.
+best_run() {
+    input=$1
+    shift
+    for run in 1 2 3; do
+        /usr/bin/time -f '%e %U %S %M' -o "$work/row" "$@" <"$input" >"$work/output"
+        cat "$work/row"
+    done | sort -n | head -n 1 >"$work/best"
+}

@@ -1,0 +1,61 @@
+//! Reads or writes the JSON lines of a file over and over, to be timed from outside (bench/json_lines.sh).
+#![tactic(auto)]
+
+use anyhow::{Context, Result};
+use event_json::{read_json, write_json};
+use event_tree::Value;
+use std::alloc::Global;
+use std::{env, fs};
+
+fn main(rt: HostRuntime) -> Result<()> {
+    let alloc = rt.alloc();
+    let words: Vec<String> = env::args(&rt)?.skip(1).collect(alloc)?;
+    let [call, rounds, path] = words.as_slice() else {
+        println!(rt; "usage: bench_json read|write ROUNDS FILE")?;
+        return Ok(());
+    };
+    let rounds = rounds.as_str().parse::<u32>().context("rounds")?;
+    let text = fs::read_to_string(&rt, path.as_str())?;
+    let done = match call.as_str() {
+        "read" => reads(alloc, text.as_str(), rounds),
+        _ => writes(alloc, text.as_str(), rounds)?,
+    };
+    println!(rt; "{done}")?;
+    Ok(())
+}
+
+/// How many lines are JSON texts, over all rounds.
+fn reads(alloc: Global, text: &str, rounds: u32) -> u64 {
+    let mut done = 0u64;
+    for _ in 0..rounds {
+        for line in text.lines() {
+            if read_json(alloc, line.as_bytes()).is_ok() {
+                done = done.wrapping_add(1);
+            }
+        }
+    }
+    done
+}
+
+/// How many bytes the values of the lines are written as, over all rounds.
+fn writes(alloc: Global, text: &str, rounds: u32) -> Result<u64> {
+    let values = values(alloc, text)?;
+    let mut done = 0u64;
+    let mut line = Vec::new(alloc);
+    for _ in 0..rounds {
+        for value in &values {
+            line.clear();
+            write_json(value, &mut line)?;
+            done = done.wrapping_add(line.len() as u64);
+        }
+    }
+    Ok(done)
+}
+
+fn values(alloc: Global, text: &str) -> Result<Vec<Value>> {
+    let mut values = Vec::new(alloc);
+    for line in text.lines() {
+        values.push(read_json(alloc, line.as_bytes())?)?;
+    }
+    Ok(values)
+}

@@ -1,0 +1,107 @@
+//! What a configuration says.
+
+use event_tree::{Number, Path};
+use plain_boxes::Boxed;
+use plain_lists::{Items, Text};
+
+/// A configuration: the statements of its sections, those of one kind joined in the order of the text.
+/// It holds no places, so blanks and comments make no difference to it.
+#[derive(Drop)]
+pub struct Config {
+    pub inputs: Items<Plugin>,
+    pub filters: Items<Statement>,
+    pub outputs: Items<Statement>,
+}
+
+/// What a filter or output section, or a block, is made of.
+#[derive(Drop)]
+#[cycle(statements)]
+pub enum Statement {
+    Plugin(Plugin),
+    /// `if`, each `else if` and `else`, in the order of the text.
+    Branch(Items<Arm>),
+}
+
+/// A plugin with its settings, as `grok { match => { "message" => "%{IP:ip}" } }`.
+#[derive(Drop)]
+#[cycle(settings)]
+pub struct Plugin {
+    pub name: Text,
+    pub settings: Settings,
+}
+
+/// Settings in the order of the text, each with a name of its own.
+#[derive(Drop)]
+#[cycle(settings)]
+pub struct Settings {
+    pub list: Items<(Text, SettingValue)>,
+}
+
+/// The value of a setting.
+#[derive(Drop)]
+#[cycle(settings)]
+pub enum SettingValue {
+    /// A string or a bareword.
+    Text(Text),
+    Number(Number),
+    /// A plugin, as the codec in `codec => json { charset => "UTF-8" }`.
+    Nested(Plugin),
+    Array(Items<SettingValue>),
+    /// Keys with their values in the order of the text. The key of a number is its spelling.
+    Hash(Items<(Text, SettingValue)>),
+}
+
+/// One arm of a branch. The last alone may have no condition.
+#[derive(Drop)]
+#[cycle(statements)]
+pub struct Arm {
+    pub condition: Option<Condition>,
+    pub block: Items<Statement>,
+}
+
+/// A condition. Parentheses leave no trace in it but the tree's form.
+#[derive(Drop)]
+pub enum Condition {
+    Operand(Operand),
+    Not(Boxed<Condition>),
+    And(Boxed<Condition>, Boxed<Condition>),
+    Nand(Boxed<Condition>, Boxed<Condition>),
+    Or(Boxed<Condition>, Boxed<Condition>),
+    Xor(Boxed<Condition>, Boxed<Condition>),
+    Equal(Operand, Operand),
+    Unequal(Operand, Operand),
+    Less(Operand, Operand),
+    Greater(Operand, Operand),
+    AtMost(Operand, Operand),
+    AtLeast(Operand, Operand),
+    Matches(Operand, Pattern),
+    MatchesNot(Operand, Pattern),
+    In(Operand, Operand),
+    NotIn(Operand, Operand),
+}
+
+/// What a condition compares.
+#[derive(Drop)]
+pub enum Operand {
+    /// The field that a selector names.
+    Field(Path),
+    Text(Text),
+    Number(Number),
+    List(Items<Literal>),
+}
+
+/// A member of a list in a condition.
+#[derive(Drop)]
+pub enum Literal {
+    Text(Text),
+    Number(Number),
+}
+
+/// The right side of `=~` and `!~`.
+#[derive(Drop)]
+pub enum Pattern {
+    /// Between two `/`.
+    Regexp(Text),
+    /// Between quotes.
+    Text(Text),
+}

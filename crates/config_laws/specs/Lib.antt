@@ -1,0 +1,4 @@
+pub mod Machine
+pub mod Trees
+pub mod Answers
+pub mod Verdicts

@@ -1,0 +1,4 @@
+mod Turns
+mod Joined
+mod Placing
+mod Telling

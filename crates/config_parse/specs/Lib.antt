@@ -1,0 +1,4 @@
+pub mod Gives
+pub mod Places
+pub mod Arms
+pub mod Told

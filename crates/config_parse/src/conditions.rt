@@ -1,0 +1,292 @@
+//! Conditions.
+
+ghost use Rattle.std.specs.Prelude.{◌≡◌, ◌∷◌, [], length};
+ghost use Rattle.config_grammar.specs.Words as words;
+ghost use Rattle.config_parse.specs.Gives.{Gives};
+ghost use Rattle.config_reading.specs.Read as spec;
+ghost use Rattle.config_reading.specs.Seen.{seen};
+
+use crate::names::{compared, conjoined, disjoined, literal, matched, operand_token, pattern};
+use config_grammar::{Condition, Lexeme, Literal, Operand, Pattern, Token, Word};
+use config_reading::{ReadError, below, first, refuse};
+use plain_boxes::Boxed;
+use plain_lists::Items;
+use std::alloc::Global;
+
+/// A literal of a list.
+fn one_literal(tokens: &[Lexeme]) -> Result<(Literal, &[Lexeme]), ReadError>
+    ensures { Gives (λ x. (x.0, seen x.1.now)) result (spec.one words.literal (seen tokens.now)) }
+{
+    let Some((token, rest)) = first(tokens) else {
+        return Err(refuse(tokens));
+    };
+    match literal(token)? {
+        Some(found) => Ok((found, rest)),
+        None => Err(refuse(tokens)),
+    }
+}
+
+/// Behind these literals of a list.
+#[tactic(auto, unfolding(config_reading::specs::Read::more))]
+fn more_literals(
+    front: Items<Literal>,
+    tokens: &[Lexeme],
+) -> Result<(Items<Literal>, &[Lexeme]), ReadError>
+    ensures { Gives (λ x. (x.0, seen x.1.now)) result (spec.more (spec.one words.literal) (length (seen tokens.now)) front (seen tokens.now)) }
+{
+    let mut found = front;
+    let mut rest = tokens;
+    loop {
+        let Some((token, behind)) = first(rest) else {
+            return Err(refuse(rest));
+        };
+        match token {
+            Token::CloseBracket => return Ok((found, behind)),
+            Token::Comma => {
+                let (member, after) = one_literal(behind)?;
+                found.push(member)?;
+                rest = after;
+            }
+            _ => return Err(refuse(rest)),
+        }
+    }
+}
+
+/// Behind the `[` of a list.
+#[tactic(auto, unfolding(config_reading::specs::Read::members))]
+fn literals(alloc: Global, tokens: &[Lexeme]) -> Result<(Items<Literal>, &[Lexeme]), ReadError>
+    ensures { Gives (λ x. (x.0, seen x.1.now)) result (spec.members (spec.one words.literal) (seen tokens.now)) }
+{
+    let Some((token, rest)) = first(tokens) else {
+        return Err(refuse(tokens));
+    };
+    let mut found = Items::new(alloc);
+    match token {
+        Token::CloseBracket => Ok((found, rest)),
+        _ => {
+            let (member, rest) = one_literal(tokens)?;
+            found.push(member)?;
+            more_literals(found, rest)
+        }
+    }
+}
+
+#[tactic(auto, unfolding(config_reading::specs::Read::operand))]
+fn operand(
+    alloc: Global,
+    depth: usize,
+    tokens: &[Lexeme],
+) -> Result<(Operand, &[Lexeme]), ReadError>
+    ensures { Gives (λ x. (x.0, seen x.1.now)) result (spec.operand depth (seen tokens.now)) }
+{
+    let Some((token, rest)) = first(tokens) else {
+        return Err(refuse(tokens));
+    };
+    match token {
+        Token::OpenBracket => {
+            below(depth, tokens)?;
+            let (found, rest) = literals(alloc, rest)?;
+            Ok((Operand::List(found), rest))
+        }
+        other => match operand_token(other)? {
+            Some(found) => Ok((found, rest)),
+            None => Err(refuse(tokens)),
+        },
+    }
+}
+
+/// The right side of `=~` and `!~`.
+fn one_pattern(tokens: &[Lexeme]) -> Result<(Pattern, &[Lexeme]), ReadError>
+    ensures { Gives (λ x. (x.0, seen x.1.now)) result (spec.one words.pattern (seen tokens.now)) }
+{
+    let Some((token, rest)) = first(tokens) else {
+        return Err(refuse(tokens));
+    };
+    match pattern(token)? {
+        Some(found) => Ok((found, rest)),
+        None => Err(refuse(tokens)),
+    }
+}
+
+/// The `in` of `not in`.
+fn in_word(tokens: &[Lexeme]) -> Result<&[Lexeme], ReadError>
+    ensures { Gives (λ x. (tt, seen x.now)) result (spec.one spec.is_in (seen tokens.now)) }
+{
+    let Some((token, rest)) = first(tokens) else {
+        return Err(refuse(tokens));
+    };
+    match token {
+        Token::Word(Word::In) => Ok(rest),
+        _ => Err(refuse(tokens)),
+    }
+}
+
+fn close_paren(tokens: &[Lexeme]) -> Result<&[Lexeme], ReadError>
+    ensures { Gives (λ x. (tt, seen x.now)) result (spec.one spec.is_close_paren (seen tokens.now)) }
+{
+    let Some((token, rest)) = first(tokens) else {
+        return Err(refuse(tokens));
+    };
+    match token {
+        Token::CloseParen => Ok(rest),
+        _ => Err(refuse(tokens)),
+    }
+}
+
+/// Behind the first operand of a comparison.
+#[tactic(auto, unfolding(config_reading::specs::Read::tail))]
+fn tail(
+    alloc: Global,
+    depth: usize,
+    left: Operand,
+    tokens: &[Lexeme],
+) -> Result<(Condition, &[Lexeme]), ReadError>
+    ensures { Gives (λ x. (x.0, seen x.1.now)) result (spec.tail depth left (seen tokens.now)) }
+{
+    let Some((token, behind)) = first(tokens) else {
+        return Ok((Condition::Operand(left), tokens));
+    };
+    match token {
+        Token::Comparison(comparison) => {
+            let (right, rest) = operand(alloc, depth, behind)?;
+            Ok((compared(*comparison, left, right), rest))
+        }
+        Token::Matching(matching) => {
+            let (right, rest) = one_pattern(behind)?;
+            Ok((matched(*matching, left, right), rest))
+        }
+        Token::Word(Word::In) => {
+            let (right, rest) = operand(alloc, depth, behind)?;
+            Ok((Condition::In(left, right), rest))
+        }
+        Token::Word(Word::Not) => {
+            let behind = in_word(behind)?;
+            let (right, rest) = operand(alloc, depth, behind)?;
+            Ok((Condition::NotIn(left, right), rest))
+        }
+        _ => Ok((Condition::Operand(left), tokens)),
+    }
+}
+
+#[tactic(auto, unfolding(config_reading::specs::Read::compare))]
+fn compare(
+    alloc: Global,
+    depth: usize,
+    tokens: &[Lexeme],
+) -> Result<(Condition, &[Lexeme]), ReadError>
+    ensures { Gives (λ x. (x.0, seen x.1.now)) result (spec.compare depth (seen tokens.now)) }
+{
+    let (left, rest) = operand(alloc, depth, tokens)?;
+    tail(alloc, depth, left, rest)
+}
+
+/// A unary part: `!` before one, a condition in parentheses, or a comparison.
+#[tactic(auto, unfolding(config_reading::specs::Read::unary))]
+#[cycle(conditions)]
+fn unary(
+    alloc: Global,
+    depth: usize,
+    tokens: &[Lexeme],
+) -> Result<(Condition, &[Lexeme]), ReadError>
+    ensures { Gives (λ x. (x.0, seen x.1.now)) result (spec.unary depth (seen tokens.now)) }
+{
+    let Some((token, rest)) = first(tokens) else {
+        return Err(refuse(tokens));
+    };
+    match token {
+        Token::Exclamation => {
+            let depth = below(depth, tokens)?;
+            let (operand, rest) = unary(alloc, depth, rest)?;
+            Ok((Condition::Not(Boxed::new(alloc, operand)?), rest))
+        }
+        Token::OpenParen => {
+            let depth = below(depth, tokens)?;
+            let (inner, rest) = condition(alloc, depth, rest)?;
+            let rest = close_paren(rest)?;
+            Ok((inner, rest))
+        }
+        _ => compare(alloc, depth, tokens),
+    }
+}
+
+/// Behind an operand of `and` and `nand`.
+#[tactic(auto, unfolding(config_reading::specs::Read::ands))]
+#[cycle(conditions)]
+fn ands(
+    alloc: Global,
+    depth: usize,
+    front: Condition,
+    tokens: &[Lexeme],
+) -> Result<(Condition, &[Lexeme]), ReadError>
+    ensures { Gives (λ x. (x.0, seen x.1.now)) result (spec.ands (spec.unary depth) (length (seen tokens.now)) front (seen tokens.now)) }
+{
+    let mut left = front;
+    let mut rest = tokens;
+    loop {
+        let Some((token, behind)) = first(rest) else {
+            return Ok((left, rest));
+        };
+        match token {
+            Token::Word(Word::Conjunction(joint)) => {
+                let (right, after) = unary(alloc, depth, behind)?;
+                left = conjoined(alloc, *joint, left, right)?;
+                rest = after;
+            }
+            _ => return Ok((left, rest)),
+        }
+    }
+}
+
+#[tactic(auto, unfolding(config_reading::specs::Read::joined))]
+#[cycle(conditions)]
+fn joined(
+    alloc: Global,
+    depth: usize,
+    tokens: &[Lexeme],
+) -> Result<(Condition, &[Lexeme]), ReadError>
+    ensures { Gives (λ x. (x.0, seen x.1.now)) result (spec.joined (spec.unary depth) (seen tokens.now)) }
+{
+    let (left, rest) = unary(alloc, depth, tokens)?;
+    ands(alloc, depth, left, rest)
+}
+
+/// Behind an operand of `or` and `xor`.
+#[tactic(auto, unfolding(config_reading::specs::Read::ors))]
+#[cycle(conditions)]
+fn ors(
+    alloc: Global,
+    depth: usize,
+    front: Condition,
+    tokens: &[Lexeme],
+) -> Result<(Condition, &[Lexeme]), ReadError>
+    ensures { Gives (λ x. (x.0, seen x.1.now)) result (spec.ors (spec.unary depth) (length (seen tokens.now)) front (seen tokens.now)) }
+{
+    let mut left = front;
+    let mut rest = tokens;
+    loop {
+        let Some((token, behind)) = first(rest) else {
+            return Ok((left, rest));
+        };
+        match token {
+            Token::Word(Word::Disjunction(joint)) => {
+                let (right, after) = joined(alloc, depth, behind)?;
+                left = disjoined(alloc, *joint, left, right)?;
+                rest = after;
+            }
+            _ => return Ok((left, rest)),
+        }
+    }
+}
+
+#[tactic(auto, unfolding(config_reading::specs::Read::condition))]
+#[cycle(conditions)]
+pub fn condition(
+    alloc: Global,
+    depth: usize,
+    tokens: &[Lexeme],
+) -> Result<(Condition, &[Lexeme]), ReadError>
+    ensures { Gives (λ x. (x.0, seen x.1.now)) result (spec.condition (spec.unary depth) (seen tokens.now)) }
+{
+    let (left, rest) = joined(alloc, depth, tokens)?;
+    ors(alloc, depth, left, rest)
+}

@@ -1,0 +1,169 @@
+//! What a token may stand for.
+
+ghost use Rattle.std.specs.Prelude.{◌≡◌, None, Some, MatchOption, IfOk};
+ghost use Rattle.config_grammar.specs.Words as words;
+
+use config_grammar::{
+    Comparison, Condition, Conjunction, Disjunction, Literal, Matching, Operand, Pattern, Section,
+    SettingValue, Token, Word,
+};
+use event_tree::Path;
+use plain_boxes::Boxed;
+use plain_lists::Text;
+use std::alloc::{AllocError, Global};
+
+/// How a word is written.
+pub fn spelling(word: &Word) -> &str
+    ensures { result.now ≡ words.spelling word.now }
+{
+    match word {
+        Word::If => "if",
+        Word::Else => "else",
+        Word::In => "in",
+        Word::Not => "not",
+        Word::Conjunction(Conjunction::And) => "and",
+        Word::Conjunction(Conjunction::Nand) => "nand",
+        Word::Disjunction(Disjunction::Or) => "or",
+        Word::Disjunction(Disjunction::Xor) => "xor",
+        Word::Section(Section::Input) => "input",
+        Word::Section(Section::Filter) => "filter",
+        Word::Section(Section::Output) => "output",
+        Word::Other(text) => text.as_str(),
+    }
+}
+
+/// The name of a setting.
+pub fn setting_name(token: &Token) -> Option<&str>
+    ensures { MatchOption result (words.setting_name token.now ≡ None) (λ name. words.setting_name token.now ≡ Some name.now) }
+{
+    match token {
+        Token::Quoted(text) | Token::Dashed(text) => Some(text.as_str()),
+        Token::Word(word) => Some(spelling(word)),
+        _ => None,
+    }
+}
+
+/// The name of a plugin.
+pub fn plugin_name(token: &Token) -> Option<&str>
+    ensures { MatchOption result (words.plugin_name token.now ≡ None) (λ name. words.plugin_name token.now ≡ Some name.now) }
+{
+    match token {
+        Token::Word(Word::If) | Token::Word(Word::Else) => None,
+        other => setting_name(other),
+    }
+}
+
+/// The key of a hash.
+pub fn key(token: &Token) -> Option<&str>
+    ensures { MatchOption result (words.key token.now ≡ None) (λ key. words.key token.now ≡ Some key.now) }
+{
+    match token {
+        Token::Quoted(text) | Token::Number(_, text) => Some(text.as_str()),
+        Token::Word(word) => Some(spelling(word)),
+        _ => None,
+    }
+}
+
+/// A value that is one token, but for a bareword.
+pub fn scalar(token: &Token) -> Result<Option<SettingValue>, AllocError>
+    ensures { IfOk result (λ found. found ≡ words.scalar token.now) }
+{
+    match token {
+        Token::Quoted(text) => Ok(Some(SettingValue::Text(text.copy()?))),
+        Token::Number(number, _) => Ok(Some(SettingValue::Number(*number))),
+        _ => Ok(None),
+    }
+}
+
+/// A member of a list in a condition.
+pub fn literal(token: &Token) -> Result<Option<Literal>, AllocError>
+    ensures { IfOk result (λ found. found ≡ words.literal token.now) }
+{
+    match token {
+        Token::Quoted(text) => Ok(Some(Literal::Text(text.copy()?))),
+        Token::Number(number, _) => Ok(Some(Literal::Number(*number))),
+        _ => Ok(None),
+    }
+}
+
+/// An operand that is one token.
+pub fn operand_token(token: &Token) -> Result<Option<Operand>, AllocError>
+    ensures { IfOk result (λ found. found ≡ words.operand_token token.now) }
+{
+    match token {
+        Token::Selector(parts) => match parts.as_slice() {
+            [] => Ok(None),
+            [_, ..] => Ok(Some(Operand::Field(Path::of_parts(parts.clone()?)))),
+        },
+        Token::Quoted(text) => Ok(Some(Operand::Text(text.copy()?))),
+        Token::Number(number, _) => Ok(Some(Operand::Number(*number))),
+        _ => Ok(None),
+    }
+}
+
+/// The right side of `=~` and `!~`.
+pub fn pattern(token: &Token) -> Result<Option<Pattern>, AllocError>
+    ensures { IfOk result (λ found. found ≡ words.pattern token.now) }
+{
+    match token {
+        Token::Regexp(text) => Ok(Some(Pattern::Regexp(text.copy()?))),
+        Token::Quoted(text) => Ok(Some(Pattern::Text(text.copy()?))),
+        _ => Ok(None),
+    }
+}
+
+/// Two conditions with a joint between them that binds more tightly.
+pub fn conjoined(
+    alloc: Global,
+    joint: Conjunction,
+    left: Condition,
+    right: Condition,
+) -> Result<Condition, AllocError>
+    ensures { IfOk result (λ made. made ≡ words.conjoined joint left right) }
+{
+    let left = Boxed::new(alloc, left)?;
+    let right = Boxed::new(alloc, right)?;
+    Ok(match joint {
+        Conjunction::And => Condition::And(left, right),
+        Conjunction::Nand => Condition::Nand(left, right),
+    })
+}
+
+/// Two conditions with a joint between them that binds less tightly.
+pub fn disjoined(
+    alloc: Global,
+    joint: Disjunction,
+    left: Condition,
+    right: Condition,
+) -> Result<Condition, AllocError>
+    ensures { IfOk result (λ made. made ≡ words.disjoined joint left right) }
+{
+    let left = Boxed::new(alloc, left)?;
+    let right = Boxed::new(alloc, right)?;
+    Ok(match joint {
+        Disjunction::Or => Condition::Or(left, right),
+        Disjunction::Xor => Condition::Xor(left, right),
+    })
+}
+
+pub fn compared(comparison: Comparison, left: Operand, right: Operand) -> Condition
+    ensures { result ≡ words.compared comparison left right }
+{
+    match comparison {
+        Comparison::Equal => Condition::Equal(left, right),
+        Comparison::Unequal => Condition::Unequal(left, right),
+        Comparison::Less => Condition::Less(left, right),
+        Comparison::Greater => Condition::Greater(left, right),
+        Comparison::AtMost => Condition::AtMost(left, right),
+        Comparison::AtLeast => Condition::AtLeast(left, right),
+    }
+}
+
+pub fn matched(matching: Matching, left: Operand, right: Pattern) -> Condition
+    ensures { result ≡ words.matched matching left right }
+{
+    match matching {
+        Matching::Matches => Condition::Matches(left, right),
+        Matching::MatchesNot => Condition::MatchesNot(left, right),
+    }
+}

@@ -1,0 +1,95 @@
+//! A text as the configuration that it is.
+
+ghost use Rattle.std.specs.Prelude.{◌≡◌, ◌↔◌, ◌≤◌, ◌<◌, ℕ, length, IfOk, MatchResult, Err};
+ghost use Rattle.config_grammar.specs.declared.tree.Config.{Config as Configs};
+ghost use Rattle.config_grammar.specs.Lexemes.{place_in};
+ghost use Rattle.config_grammar.specs.Texts.{Reads, IsSyntaxAt, IsDeepAt};
+ghost use Rattle.config_parse.specs.Told.{ToldLeft, Told, placed};
+ghost use Rattle.config_parse.specs.declared.fault.ConfigFault.TheVariants as fault;
+ghost use Rattle.config_reading.specs.Seen.{seen};
+
+use crate::fault::ConfigFault;
+use crate::statements::sections;
+use config_grammar::{Config, Lexeme, lexemes};
+use config_laws::{machine_is_right, one_answer, reads_once};
+use config_reading::{ReadError, reading_is_right};
+use std::alloc::Global;
+
+/// How many bytes a text may have.
+pub const LENGTH: usize = 1_048_576;
+
+/// How many levels may be open at once, of `{`, `[`, `(` and `!`.
+pub const LEVELS: usize = 64;
+
+/// The configuration that the tokens are.
+fn read(alloc: Global, found: &[Lexeme]) -> Result<Config, ReadError>
+    ensures { ToldLeft LEVELS (seen found.now) result }
+{
+    machine_is_right();
+    reading_is_right();
+    match sections(alloc, LEVELS, found) {
+        Ok((config, _)) => Ok(config),
+        Err(fault) => Err(fault),
+    }
+}
+
+/// The place of the token with so many tokens from it on; the end where none is left.
+fn place(end: usize, found: &[Lexeme], left: usize) -> usize
+    ensures { result ≡ place_in end found.now left }
+{
+    if left == 0 {
+        return end;
+    }
+    if left > found.len() {
+        return end;
+    }
+    found[found.len() - left].place
+}
+
+fn place_of(end: usize, found: &[Lexeme], fault: ReadError) -> ConfigFault
+    ensures { result ≡ placed end found.now fault }
+{
+    match fault {
+        ReadError::Memory => ConfigFault::Memory,
+        ReadError::Syntax(left) => ConfigFault::Syntax(place(end, found, left)),
+        ReadError::Deep(left) => ConfigFault::Deep(place(end, found, left)),
+    }
+}
+
+fn parse_text(alloc: Global, text: &str) -> Result<Config, ConfigFault>
+    ensures { Told LENGTH LEVELS text.now result }
+{
+    if text.len() > LENGTH {
+        return Err(ConfigFault::Long);
+    }
+    let found = lexemes(alloc, text)?;
+    match read(alloc, found.as_slice()) {
+        Ok(config) => Ok(config),
+        Err(fault) => Err(place_of(text.len(), found.as_slice(), fault)),
+    }
+}
+
+/// The configuration that a text is, in the configuration language of Logstash 8 (the Logstash Reference,
+/// "Structure of a pipeline"). The text has at most 1,048,576 bytes, and at most 64 levels are open at once,
+/// each `{`, `[`, `(` and `!` being one. Sections of one kind that repeat, and settings that stand twice in a
+/// plugin, are joined.
+///
+/// It takes time in the length of the text, and memory for the tokens and the tree.
+pub fn parse(alloc: Global, text: &str) -> Result<Config, ConfigFault>
+    // What is given, the text reads as, within the limits.
+    ensures found { IfOk result (λ config. (length text.now ≤ LENGTH) × Reads LEVELS text.now config) }
+    // A text that reads is given as what it reads as, unless memory runs out.
+    ensures only { (config : Configs) → length text.now ≤ LENGTH → Reads LEVELS text.now config → MatchResult result (λ given. given ≡ config) (λ e. e ≡ fault.Memory) }
+    // The text is too long.
+    ensures long { (result ≡ Err fault.Long) ↔ (LENGTH < length text.now) }
+    // The first token that can't stand where it stands, or the early end.
+    ensures syntax { (at : ℕ) → result ≡ Err (fault.Syntax at) → (length text.now ≤ LENGTH) × IsSyntaxAt LEVELS text.now at }
+    ensures only_syntax { (at : ℕ) → length text.now ≤ LENGTH → IsSyntaxAt LEVELS text.now at → MatchResult result (λ _. ⊥) (λ e. (e ≡ fault.Memory → ⊥) → e ≡ fault.Syntax at) }
+    // The token that opens a level too many.
+    ensures deep { (at : ℕ) → result ≡ Err (fault.Deep at) → (length text.now ≤ LENGTH) × IsDeepAt LEVELS text.now at }
+    ensures only_deep { (at : ℕ) → length text.now ≤ LENGTH → IsDeepAt LEVELS text.now at → MatchResult result (λ _. ⊥) (λ e. (e ≡ fault.Memory → ⊥) → e ≡ fault.Deep at) }
+{
+    reads_once();
+    one_answer();
+    parse_text(alloc, text)
+}

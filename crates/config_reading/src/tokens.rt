@@ -1,0 +1,45 @@
+//! What each reader of tokens begins with. It reads lexemes, of which contracts see the tokens alone.
+
+ghost use Rattle.std.specs.Prelude.{◌≡◌, ◌∷◌, [], length, suc, MatchOption, MatchResult};
+ghost use Rattle.config_reading.specs.Seen.{seen};
+ghost use Rattle.config_reading.specs.declared.error.ReadError.TheVariants as errors;
+
+use crate::error::ReadError;
+use config_grammar::{Lexeme, Token};
+
+/// The first token, and what is behind it.
+#[tactic(auto, unfolding(crate::specs::Seen::seen))]
+pub fn first(found: &[Lexeme]) -> Option<(&Token, &[Lexeme])>
+    ensures { MatchOption result (seen found.now ≡ []) (λ p. seen found.now ≡ p.0.now ∷ seen p.1.now) }
+{
+    match found {
+        [] => None,
+        [lexeme, rest @ ..] => Some((&lexeme.token, rest)),
+    }
+}
+
+/// The fault that the first token is, or the end where there is none.
+#[tactic(auto, unfolding(crate::specs::Seen::seen))]
+pub fn refuse(found: &[Lexeme]) -> ReadError
+    ensures { result ≡ errors.Syntax (length (seen found.now)) }
+{
+    ReadError::Syntax(found.len())
+}
+
+/// The fault that the first token opens a level too many.
+#[tactic(auto, unfolding(crate::specs::Seen::seen))]
+pub fn too_deep(found: &[Lexeme]) -> ReadError
+    ensures { result ≡ errors.Deep (length (seen found.now)) }
+{
+    ReadError::Deep(found.len())
+}
+
+/// The number of levels that are left in the one that the first token opens, where there is room for it.
+pub fn below(depth: usize, found: &[Lexeme]) -> Result<usize, ReadError>
+    ensures { MatchResult result (λ d. depth ≡ suc d) (λ e. (depth ≡ 0) × (e ≡ errors.Deep (length (seen found.now)))) }
+{
+    if depth == 0 {
+        return Err(too_deep(found));
+    }
+    Ok(depth - 1)
+}

@@ -1,0 +1,6 @@
+pub mod Parts
+pub mod Values
+pub mod Reading
+pub mod Faults
+pub mod Gives
+pub mod Adds

@@ -1,0 +1,12 @@
+//! Events as bytes, one spelling each.
+#![tactic(auto)]
+
+mod decoding;
+mod encoding;
+mod fault;
+pub mod laws;
+mod reading;
+
+pub use decoding::decode;
+pub use encoding::encode;
+pub use fault::ElementFault;

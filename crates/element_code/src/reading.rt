@@ -1,0 +1,217 @@
+// Reading values from the front of bytes.
+ghost use Rattle.std.specs.Prelude.{◌≡◌, ◌≤◌, length, Ok, IfOk, IsTrue};
+ghost use Rattle.plain_lists.specs.Members.{AllBelow};
+ghost use Rattle.element_code.specs.Gives.{Gives};
+ghost use Rattle.element_code.specs.Reading.{split_at, number_at, run_at, fits, number_in, time_in, text_in, leaf_at, is_above, last_key, key_at, items_at, members_at, list_at, object_at, value_at, event_at};
+
+use crate::fault::Stop;
+use byteorder::{BigEndian, ByteOrder};
+use event_tree::{Event, Fields, Instant, Items, Number, Text, Value};
+use std::alloc::Global;
+use std::str;
+
+// How many levels may nest in the two objects of an event, which are the first.
+const INNER_LEVELS: usize = 127;
+
+// For how many items or members room is made at once: no more than a few, since the bytes may say any
+// count.
+fn room_for(count: u32) -> usize {
+    (count as usize).min(16)
+}
+
+// The front of so many bytes, and those behind it.
+fn front_of(bytes: &[u8], len: usize) -> Result<(&[u8], &[u8]), Stop>
+    ensures { Gives (λ x. (x.0.now, x.1.now)) result (split_at len bytes.now) }
+{
+    if bytes.len() < len {
+        return Err(Stop::Left(0));
+    }
+    Ok(bytes.split_at(len))
+}
+
+// A count or a length.
+fn number_of(bytes: &[u8]) -> Result<(u32, &[u8]), Stop>
+    ensures { Gives (λ x. (x.0, x.1.now)) result (number_at bytes.now) }
+{
+    let (front, rest) = front_of(bytes, 4)?;
+    Ok((BigEndian::read_u32(front), rest))
+}
+
+// As many bytes as the length before them says.
+fn run_of(bytes: &[u8]) -> Result<(&[u8], &[u8]), Stop>
+    ensures { Gives (λ x. (x.0.now, x.1.now)) result (run_at bytes.now) }
+{
+    let (len, rest) = number_of(bytes)?;
+    front_of(rest, len as usize)
+}
+
+// What fits its tag, or the fault at the tag, which stands before the bytes behind it.
+fn fitting_of(behind: &[u8], found: Option<Value>) -> Result<Value, Stop>
+    ensures { Gives (λ x. x) result (fits behind.now found) }
+{
+    match found {
+        Some(value) => Ok(value),
+        None => Err(Stop::Left(behind.len() + 1)),
+    }
+}
+
+fn number_from(bytes: &[u8]) -> Option<Value>
+    requires { length bytes.now ≡ 9 }
+    ensures { result ≡ number_in bytes.now }
+{
+    let mantissa = BigEndian::read_i64(bytes);
+    let scale = bytes[8];
+    let number = Number::new(mantissa, scale)?;
+    if number.mantissa() != mantissa {
+        return None;
+    }
+    if number.scale() != scale {
+        return None;
+    }
+    Some(Value::Num(number))
+}
+
+fn time_from(bytes: &[u8]) -> Option<Value>
+    requires { length bytes.now ≡ 12 }
+    ensures { result ≡ time_in bytes.now }
+{
+    let seconds = BigEndian::read_i64(bytes) as i128;
+    let nanos = BigEndian::read_u32(&bytes[8..]);
+    if nanos >= 1_000_000_000 {
+        return None;
+    }
+    let moment = Instant::from_nanos(seconds * 1_000_000_000 + nanos as i128)?;
+    Some(Value::Time(moment))
+}
+
+fn text_from(alloc: Global, bytes: &[u8]) -> Result<Option<Value>, Stop>
+    ensures { Gives (λ x. x) result (Ok (text_in bytes.now)) }
+{
+    match str::from_utf8(bytes) {
+        Ok(text) => Ok(Some(Value::Text(Text::of(alloc, text)?))),
+        Err(_) => Ok(None),
+    }
+}
+
+// A value that holds no others, behind its tag.
+fn leaf_of(alloc: Global, tag: u8, rest: &[u8]) -> Result<(Value, &[u8]), Stop>
+    ensures { Gives (λ x. (x.0, x.1.now)) result (leaf_at tag rest.now) }
+{
+    if tag == 0 {
+        return Ok((Value::Null, rest));
+    }
+    if tag == 1 {
+        return Ok((Value::Bool(false), rest));
+    }
+    if tag == 2 {
+        return Ok((Value::Bool(true), rest));
+    }
+    if tag == 3 {
+        let (own, behind) = front_of(rest, 9)?;
+        return Ok((fitting_of(rest, number_from(own))?, behind));
+    }
+    if tag == 4 {
+        let (own, behind) = run_of(rest)?;
+        return Ok((fitting_of(rest, text_from(alloc, own)?)?, behind));
+    }
+    if tag == 5 {
+        let (own, behind) = front_of(rest, 12)?;
+        return Ok((fitting_of(rest, time_from(own))?, behind));
+    }
+    Err(Stop::Left(rest.len() + 1))
+}
+
+// Whether a key stands above the last one, and so above all others.
+fn is_next(fields: &Fields<Value>, key: &str) -> bool
+    ensures decided { result ≡ is_above (last_key fields.now) key.now }
+    ensures below { IsTrue result → AllBelow fields.now key.now }
+{
+    fields.members().is_empty() || fields.is_below(key)
+}
+
+// A key above the last one.
+fn key_of<'b>(
+    alloc: Global,
+    fields: &Fields<Value>,
+    bytes: &'b [u8],
+) -> Result<(Text, &'b [u8]), Stop>
+    ensures key { Gives (λ x. (x.0, x.1.now)) result (key_at (last_key fields.now) bytes.now) }
+    ensures below { IfOk result (λ x. AllBelow fields.now x.0) }
+{
+    let (own, behind) = run_of(bytes)?;
+    let fault = Stop::Left(bytes.len() - 4);
+    let Ok(key) = str::from_utf8(own) else {
+        return Err(fault);
+    };
+    if !is_next(fields, key) {
+        return Err(fault);
+    }
+    Ok((Text::of(alloc, key)?, behind))
+}
+
+// A value of at most so many levels.
+#[tactic(auto, unfolding(crate::specs::Reading::value_at))]
+#[cycle(read)]
+fn value_of(alloc: Global, levels: usize, bytes: &[u8]) -> Result<(Value, &[u8]), Stop>
+    ensures { Gives (λ x. (x.0, x.1.now)) result (value_at levels bytes.now) }
+{
+    let Some((tag, rest)) = bytes.split_first() else {
+        return Err(Stop::Left(0));
+    };
+    if levels > 0 && *tag == 6 {
+        let (items, behind) = items_of(alloc, levels - 1, rest)?;
+        return Ok((Value::List(items), behind));
+    }
+    if levels > 0 && *tag == 7 {
+        let (fields, behind) = fields_of(alloc, levels - 1, rest)?;
+        return Ok((Value::Object(fields), behind));
+    }
+    leaf_of(alloc, *tag, rest)
+}
+
+#[tactic(auto, unfolding(crate::specs::Reading::list_at))]
+#[cycle(read)]
+fn items_of(alloc: Global, levels: usize, bytes: &[u8]) -> Result<(Items<Value>, &[u8]), Stop>
+    ensures { Gives (λ x. (x.0, x.1.now)) result (list_at (value_at levels) bytes.now) }
+{
+    let (count, behind) = number_of(bytes)?;
+    let mut items = Items::with_capacity(alloc, room_for(count))?;
+    let mut rest = behind;
+    for _ in 0..count {
+        let (item, after) = value_of(alloc, levels, rest)?;
+        items.push(item)?;
+        rest = after;
+    }
+    Ok((items, rest))
+}
+
+#[tactic(auto, unfolding(crate::specs::Reading::object_at))]
+#[cycle(read)]
+fn fields_of(alloc: Global, levels: usize, bytes: &[u8]) -> Result<(Fields<Value>, &[u8]), Stop>
+    ensures { Gives (λ x. (x.0, x.1.now)) result (object_at (value_at levels) bytes.now) }
+{
+    let (count, behind) = number_of(bytes)?;
+    let mut fields = Fields::with_capacity(alloc, room_for(count))?;
+    let mut rest = behind;
+    for _ in 0..count {
+        let (key, own) = key_of(alloc, &fields, rest)?;
+        let (value, after) = value_of(alloc, levels, own)?;
+        fields.push(key, value)?;
+        rest = after;
+    }
+    Ok((fields, rest))
+}
+
+// The event that all of the bytes spell.
+#[tactic(auto, unfolding(crate::specs::Reading::event_at))]
+pub(crate) fn event_of(alloc: Global, bytes: &[u8]) -> Result<Event, Stop>
+    requires { length bytes.now ≤ 16777216 }
+    ensures { Gives (λ e. e) result (event_at bytes.now) }
+{
+    let (fields, behind) = fields_of(alloc, INNER_LEVELS, bytes)?;
+    let (meta, rest) = fields_of(alloc, INNER_LEVELS, behind)?;
+    if !rest.is_empty() {
+        return Err(Stop::Left(rest.len()));
+    }
+    Ok(Event::from_objects(alloc, fields, meta, bytes.len() as u64))
+}

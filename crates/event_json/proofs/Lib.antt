@@ -1,0 +1,16 @@
+pub mod Written
+pub mod Jsons
+pub mod Dates
+pub mod Numbers
+pub mod Utf8
+pub mod ReadBack
+pub mod Fronts
+pub mod Added
+pub mod Contents
+pub mod Rests
+pub mod Loops
+pub mod Answered
+pub mod Runs
+pub mod WrittenStrings
+pub mod WrittenNumbers
+pub mod WrittenValues

@@ -1,0 +1,243 @@
+ghost use Rattle.std.specs.Prelude.{◌≡◌, ◌<◌, ◌≤◌, ◌-◌, ◌+◌, ◌++◌, length, take, drop, slice_index, string_bytes, IfOk, IfSome, IsTrue, OnOk, Some, None};
+ghost use Rattle.event_tree.specs.declared.value.Value.{out-Value};
+ghost use Rattle.event_text.specs.Template.{text, pieces_of, piece_of, date_piece, field_piece, before_close, opens, placeholder, plain_piece, IsPlaced, piece_text, as_written, moment_of, time_in};
+
+use crate::date_format::{DatePart, add_date, read_format};
+use crate::shown::add_shown;
+use event_tree::{Event, Path, PathFault, Value};
+use plain_lists::{Items, Text};
+use std::alloc::{AllocError, Global};
+use std::marker::Model;
+use time_instant::Instant;
+
+/// A piece of a template.
+#[derive(Drop)]
+pub enum Piece {
+    /// Text that stands for itself.
+    Plain(Text),
+    /// The field at a path, with what was written between `%{` and `}`.
+    Field(Path, Text),
+    /// The event's moment in a format, with what was written between `%{` and `}`.
+    Date(Items<DatePart>, Text),
+}
+
+/// A text with places that an event fills, as in `%{host}-%{+yyyy.MM}`, read once. Contracts see the
+/// list of its pieces.
+#[derive(Drop)]
+pub struct Template {
+    pieces: Items<Piece>,
+}
+
+impl Model for Template {
+    ghost use Rattle.std.specs.Prelude.{List};
+    ghost use Rattle.std.specs.Coded.{coded_list, codes};
+    ghost use Rattle.event_text.specs.declared.template.Piece.{Piece};
+    ghost use Rattle.event_text.specs.contracts.template.Piece as piece;
+
+    ghost Value = { List Piece };
+
+    ghost coded = { coded_list (Prim.hlevel (codes, piece.the_row.coded)) };
+
+    ghost view = { λ template. template.pieces };
+}
+
+impl Template {
+    /// Reads a template (the sprintf format of the Logstash Reference 8). `%{` with a path up to the
+    /// next `}` is the field at that path, and `%{+` with a format, as in `%{+yyyy.MM.dd}`, is the
+    /// event's moment. Everything else stays as written: where what stands between reads as neither,
+    /// `%{` stays, and reading goes on right behind it. No text is refused.
+    ///
+    /// It takes time in proportion to the text, and for each `%{` that opens nothing time up to the
+    /// next `}` once more.
+    pub fn read(alloc: Global, text: &str) -> Result<Template, AllocError>
+        ensures { IfOk result (λ template. template ≡ pieces_of text.now) }
+    {
+        Ok(Template {
+            pieces: read_pieces(alloc, text)?,
+        })
+    }
+
+    /// The text with its places filled from an event: a field by the text that its value is shown by
+    /// (`value_text`), a date by the event's `@timestamp` in UTC. A field that is missing stays as it
+    /// was written, and so does a date where `@timestamp` is missing or no time.
+    ///
+    /// It takes time for one look-up for each field and for the bytes that it writes, and no memory
+    /// but the text.
+    pub fn fill(&self, event: &Event) -> Result<Text, AllocError>
+        ensures { IfOk result (λ filled. filled ≡ text self.now event.now) }
+    {
+        let mut filled = String::new(self.pieces.allocator());
+        for piece in self.pieces.as_slice() {
+            add_piece(&mut filled, piece, event)?;
+        }
+        Ok(Text::from_string(filled))
+    }
+}
+
+// Adds the text of a piece. Where memory ran out, what is left of `to` is of no use.
+fn add_piece(to: &mut String, piece: &Piece, event: &Event) -> Result<(), AllocError>
+    ensures { OnOk result (string_bytes to.new ≡ string_bytes to.old ++ piece_text event.now piece.now) }
+{
+    match piece {
+        Piece::Plain(run) => to.push_str(run.as_str()),
+        Piece::Field(path, name) => match event.get(path) {
+            Some(value) => add_shown(to, value),
+            None => add_as_written(to, name.as_str()),
+        },
+        Piece::Date(parts, inner) => match moment_of(event) {
+            Some(moment) => add_date(to, parts.as_slice(), moment),
+            None => add_as_written(to, inner.as_str()),
+        },
+    }
+}
+
+fn add_as_written(to: &mut String, inner: &str) -> Result<(), AllocError>
+    ensures { OnOk result (string_bytes to.new ≡ string_bytes to.old ++ as_written inner.now) }
+{
+    to.push_str("%{")?;
+    to.push_str(inner)?;
+    to.push_str("}")
+}
+
+// The event's `@timestamp`, where that is a time.
+fn moment_of(event: &Event) -> Option<Instant>
+    ensures { result ≡ moment_of event.now }
+{
+    let Value::Object(fields) = event.fields() else {
+        return None;
+    };
+    match fields.get("@timestamp") {
+        Some(value) => time_in(value),
+        None => None,
+    }
+}
+
+fn time_in(value: &Value) -> Option<Instant>
+    ensures { result ≡ time_in (out-Value value.now) }
+{
+    match value {
+        Value::Time(moment) => Some(*moment),
+        Value::Null
+        | Value::Bool(_)
+        | Value::Num(_)
+        | Value::Text(_)
+        | Value::List(_)
+        | Value::Object(_) => None,
+    }
+}
+
+fn read_pieces(alloc: Global, text: &str) -> Result<Items<Piece>, AllocError>
+    ensures { IfOk result (λ pieces. pieces ≡ pieces_of text.now) }
+{
+    let mut pieces = Items::new(alloc);
+    let mut plain = 0;
+    let mut at = 0;
+    while at < text.len() {
+        match placeholder(alloc, text, at)? {
+            Some((piece, length)) => {
+                add_plain(&mut pieces, &text[plain..at])?;
+                pieces.push(piece)?;
+                at += length;
+                plain = at;
+            }
+            None => at += 1,
+        }
+    }
+    add_plain(&mut pieces, &text[plain..])?;
+    Ok(pieces)
+}
+
+// Adds text that stands for itself, if there is any.
+fn add_plain(pieces: &mut Items<Piece>, run: &str) -> Result<(), AllocError>
+    ensures { OnOk result (pieces.new ≡ pieces.old ++ plain_piece run.now) }
+{
+    if run.is_empty() {
+        return Ok(());
+    }
+    let alloc = pieces.allocator();
+    pieces.push(Piece::Plain(Text::of(alloc, run)?))
+}
+
+// The field or date that stands at a place, and how many bytes it has.
+fn placeholder(alloc: Global, text: &str, at: usize) -> Result<Option<(Piece, usize)>, AllocError>
+    requires { at < length text.now }
+    ensures found { IfOk result (λ found. found ≡ placeholder (drop at text.now)) }
+    ensures placed { IfOk result (λ found. IfSome found (λ f. IsPlaced f.1 text.now at)) }
+{
+    let bytes = text.as_bytes();
+    if !opens_at(bytes, at) {
+        return Ok(None);
+    }
+    let from = at + 2;
+    let close = close_at(bytes, from);
+    if close == bytes.len() {
+        return Ok(None);
+    }
+    match read_piece(alloc, &text[from..close])? {
+        Some(piece) => Ok(Some((piece, close + 1 - at))),
+        None => Ok(None),
+    }
+}
+
+// Whether `%{` stands at a place.
+fn opens_at(bytes: &[u8], at: usize) -> bool
+    requires { at < length bytes.now }
+    ensures opens { result ≡ opens (drop at bytes.now) }
+    ensures within { IsTrue result → at + 2 ≤ length bytes.now }
+{
+    if at + 1 == bytes.len() {
+        return false;
+    }
+    bytes[at] == b'%' && bytes[at + 1] == b'{'
+}
+
+// The place of the first `}` from `from` on, or the end.
+fn close_at(bytes: &[u8], from: usize) -> usize
+    requires { from ≤ length bytes.now }
+    ensures after { from ≤ result }
+    ensures within { result ≤ length bytes.now }
+    ensures found { result < length bytes.now → before_close (drop from bytes.now) ≡ Some (take (result - from) (drop from bytes.now)) }
+    ensures missing { result ≡ length bytes.now → before_close (drop from bytes.now) ≡ None }
+    ensures end { result < length bytes.now → slice_index bytes.now result ≡ 125 }
+{
+    for at in from..bytes.len() {
+        if bytes[at] == b'}' {
+            return at;
+        }
+    }
+    bytes.len()
+}
+
+// What stands between `%{` and `}`: a date, or else a field, or neither.
+fn read_piece(alloc: Global, inner: &str) -> Result<Option<Piece>, AllocError>
+    ensures { IfOk result (λ piece. piece ≡ piece_of inner.now) }
+{
+    if let Some(piece) = read_date(alloc, inner)? {
+        return Ok(Some(piece));
+    }
+    read_field(alloc, inner)
+}
+
+fn read_date(alloc: Global, inner: &str) -> Result<Option<Piece>, AllocError>
+    ensures { IfOk result (λ piece. piece ≡ date_piece inner.now) }
+{
+    if inner.is_empty() || inner.as_bytes()[0] != b'+' {
+        return Ok(None);
+    }
+    match read_format(alloc, &inner[1..])? {
+        Some(parts) => Ok(Some(Piece::Date(parts, Text::of(alloc, inner)?))),
+        None => Ok(None),
+    }
+}
+
+fn read_field(alloc: Global, inner: &str) -> Result<Option<Piece>, AllocError>
+    ensures { IfOk result (λ piece. piece ≡ field_piece inner.now) }
+{
+    match Path::read(alloc, inner) {
+        Ok(path) => Ok(Some(Piece::Field(path, Text::of(alloc, inner)?))),
+        Err(PathFault::Memory) => Err(AllocError),
+        Err(PathFault::Empty) => Ok(None),
+        Err(PathFault::Unclosed(_)) => Ok(None),
+        Err(PathFault::Stray(_)) => Ok(None),
+    }
+}

@@ -1,0 +1,15 @@
+pub mod Tests
+pub mod NumberLaws
+pub mod Fronts
+pub mod Ascii
+pub mod StringReads
+pub mod NodeReads
+pub mod Only
+pub mod OnlyNodes
+pub mod Whole
+pub mod Machine
+pub mod Fates
+pub mod Goes
+pub mod Moves
+pub mod Endings
+pub mod Places

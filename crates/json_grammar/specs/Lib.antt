@@ -1,0 +1,5 @@
+pub mod Numbers
+pub mod Strings
+pub mod Grammar
+pub mod Json
+pub mod Reading

@@ -1,0 +1,7 @@
+pub mod Scripts
+pub mod Sources
+pub mod Gave
+pub mod Sinks
+pub mod Clocks
+pub mod Controls
+pub mod Showings

@@ -1,0 +1,44 @@
+-- The counts of the objects of the real machine.
+use Rattle.std.specs.Prelude.{ℕ, Result, Ok, Err}
+use Rattle.outside.specs.declared.faults.Failed.{Failed}
+use Rattle.outside.specs.declared.faults.ListFault.{ListFault}
+use Rattle.outside.specs.declared.faults.ListFault.TheVariants.{Failed as ListFailed, Memory}
+use Rattle.outside.specs.declared.sources.Step.{Step}
+use Rattle.outside.specs.declared.sources.Step.TheVariants.{Bytes, NotYet}
+use Rattle.outside.specs.declared.sources.Step.TheVariants.{End as AtEnd}
+use Rattle.outside.specs.Counts.{one_more}
+
+-- how often a source failed, and how often it found nothing yet
+pub record ReadCounts : Type 0 where
+  pub faults : ℕ
+  pub waits : ℕ
+
+-- the counts after a read: one more fault at an error, and one more wait where nothing came yet
+abbrev pub counts_after : ReadCounts → Result Step Failed → ReadCounts
+counts_after c (Ok (Bytes n)) = c
+counts_after c (Ok NotYet) = record c { waits = one_more c.waits }
+counts_after c (Ok AtEnd) = c
+counts_after c (Err e) = record c { faults = one_more c.faults }
+
+-- a count of faults after a call: one more at an error
+abbrev pub faults_after : {T : Type 0} → ℕ → Result T Failed → ℕ
+faults_after n (Ok x) = n
+faults_after n (Err e) = one_more n
+
+-- and after a list
+abbrev pub faults_listed : {T : Type 0} → ℕ → Result T ListFault → ℕ
+faults_listed n (Ok x) = n
+faults_listed n (Err ListFailed) = one_more n
+faults_listed n (Err Memory) = n
+
+-- how often files were called, and how often a call failed
+pub record CallCounts : Type 0 where
+  pub calls : ℕ
+  pub faults : ℕ
+
+-- the counts after a call, and after a list
+abbrev pub called : {T : Type 0} → CallCounts → Result T Failed → CallCounts
+called c result = record { calls = one_more c.calls; faults = faults_after c.faults result }
+
+abbrev pub called_list : {T : Type 0} → CallCounts → Result T ListFault → CallCounts
+called_list c result = record { calls = one_more c.calls; faults = faults_listed c.faults result }

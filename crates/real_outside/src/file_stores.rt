@@ -1,0 +1,157 @@
+ghost use Rattle.std.specs.Prelude.{◌≡◌, ◌≤◌, false, None, Ok, Err, IfOk, IsErr, length};
+ghost use Rattle.std.proofs.lemmas.Bool.{false≢true};
+ghost use Rattle.outside.specs.Counts.{HasCause, Rose, one_more};
+ghost use Rattle.real_outside.specs.Adapters.{faults_after, faults_listed};
+
+use crate::folders::names_in;
+use crate::opened_files::OpenedFiles;
+use outside::{Failed, ListFault, Names};
+use std::alloc::Global;
+use std::fs::File;
+use std::io::{self, ErrorKind};
+use std::marker::Model;
+use std::rt::Files;
+use store_images::Store;
+
+/// A store over the files of the machine. A contract sees its count of faults.
+///
+/// A file is opened once and kept open; where more than 32 are, one that didn't change is closed.
+/// What is appended is there for every later read. A file that is made has its folders made where
+/// they are missing. A sync syncs the files that changed since the last one, and then the folders in
+/// which names changed, one by one.
+///
+/// Once a sync failed, each later one fails too: the machine may have dropped what it could not
+/// write, and a sync that came after would not say so.
+#[derive(Drop)]
+pub struct FileStore<R> {
+    rt: R,
+    opened: OpenedFiles,
+    is_lost: bool,
+    faults: u64,
+}
+
+impl<R> Model for FileStore<R> {
+    ghost use Rattle.std.specs.Prelude.{ℕ};
+
+    ghost Value = { ℕ };
+
+    ghost view = { λ s. s.faults };
+}
+
+impl<R> FileStore<R> {
+    /// A store over a runtime, or a reference to one. Names are paths.
+    pub fn new(alloc: Global, rt: R) -> FileStore<R>
+        ensures { result ≡ 0 }
+    {
+        FileStore {
+            rt,
+            opened: OpenedFiles::new(alloc),
+            is_lost: false,
+            faults: 0,
+        }
+    }
+
+    /// How many calls failed.
+    pub fn faults(&self) -> u64
+        ensures { result ≡ self.now }
+    {
+        self.faults
+    }
+
+    // Counts a fault.
+    fn fail(&mut self) -> Failed
+        ensures state { self.new ≡ one_more self.old }
+        ensures later { self.old ≤ self.new }
+        ensures rose { Rose self.old self.new }
+    {
+        self.faults = self.faults.saturating_add(1);
+        Failed
+    }
+
+    // Counts a call that failed.
+    fn counted<T>(&mut self, outcome: io::Result<T>) -> Result<T, Failed>
+    where
+        T: Drop,
+        ensures counts { self.new ≡ faults_after self.old result }
+        ensures same { IfOk result (λ value. outcome ≡ Ok value) }
+        ensures cause { HasCause self.old self.new (IsErr result) }
+    {
+        match outcome {
+            Ok(value) => Ok(value),
+            Err(_) => Err(self.fail()),
+        }
+    }
+}
+
+impl<R: Files<File = File> + AllocGlobal + Clone + Drop> FileStore<R> {
+    // Syncs, unless a sync failed before.
+    fn settle(&mut self) -> io::Result<()>
+        ensures { self.new ≡ self.old }
+    {
+        if self.is_lost {
+            return Err(ErrorKind::Other.into());
+        }
+        let outcome = self.opened.sync(&self.rt);
+        self.is_lost = outcome.is_err();
+        outcome
+    }
+}
+
+impl<R: Files<File = File> + AllocGlobal + Clone + Drop> Store for FileStore<R> {
+    ghost tells = { false };
+
+    ghost seen = { λ _ _. None };
+
+    ghost moment = { λ _. 0 };
+
+    ghost may_leave = { λ _ _ _. ⊥ };
+
+    ghost faults = { λ s. s };
+
+    fn list(&mut self, alloc: Global, folder: &str) -> Result<Names, ListFault> {
+        match names_in(&self.rt, alloc, folder) {
+            Ok(names) => Ok(names),
+            Err(error) if error.kind() == ErrorKind::OutOfMemory => Err(ListFault::Memory),
+            Err(_) => Err(ListFault::from(self.fail())),
+        }
+    }
+
+    fn length(&mut self, name: &str) -> Result<Option<u64>, Failed> {
+        let outcome = self.opened.length(&self.rt, name);
+        self.counted(outcome)
+    }
+
+    fn read(&mut self, name: &str, at: u64, into: &mut [u8]) -> Result<usize, Failed> {
+        let outcome = self.opened.read(&self.rt, name, at, into);
+        self.counted(outcome)
+    }
+
+    fn append(&mut self, name: &str, bytes: &[u8]) -> Result<(), Failed> {
+        let outcome = self.opened.append(&self.rt, name, bytes);
+        self.counted(outcome)
+    }
+
+    fn write_at(&mut self, name: &str, at: u64, bytes: &[u8]) -> Result<(), Failed> {
+        let outcome = self.opened.write_at(&self.rt, name, at, bytes);
+        self.counted(outcome)
+    }
+
+    fn cut(&mut self, name: &str, length: u64) -> Result<(), Failed> {
+        let outcome = self.opened.cut(&self.rt, name, length);
+        self.counted(outcome)
+    }
+
+    fn remove(&mut self, name: &str) -> Result<(), Failed> {
+        let outcome = self.opened.remove(&self.rt, name);
+        self.counted(outcome)
+    }
+
+    fn sync(&mut self) -> Result<(), Failed> {
+        let outcome = self.settle();
+        self.counted(outcome)
+    }
+
+    ghost images_tell = { λ s t i left. absurd left };
+
+    ghost seen_is_image = { λ s told. absurd (false≢true told) };
+}

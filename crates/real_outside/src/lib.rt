@@ -1,0 +1,22 @@
+//! Objects of the outside on the real machine.
+//!
+//! They tell nothing of what they hold, so that of the clauses of their traits those on content hold
+//! of themselves, and a method repeats the others. Each keeps its counts, and raises one at every
+//! error or not-yet.
+#![tactic(auto)]
+
+mod file_stores;
+mod folders;
+mod go_controls;
+mod opened_files;
+mod real_files;
+mod stdin_sources;
+mod system_clocks;
+mod write_sinks;
+
+pub use file_stores::FileStore;
+pub use go_controls::GoControl;
+pub use real_files::RealFiles;
+pub use stdin_sources::StdinSource;
+pub use system_clocks::SystemClock;
+pub use write_sinks::WriteSink;

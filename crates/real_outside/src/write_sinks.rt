@@ -1,0 +1,87 @@
+ghost use Rattle.std.specs.Prelude.{◌≡◌, ◌≤◌, ◌<◌, None, IfOk, IsErr, length};
+ghost use Rattle.outside.specs.Counts.{HasCause};
+ghost use Rattle.real_outside.specs.Adapters.{faults_after};
+
+use outside::{Failed, Sink};
+use std::io::{ErrorKind, Write};
+use std::marker::Model;
+
+/// A sink over a writer, such as a `BufWriter` over stdout. A contract sees its count of faults.
+#[derive(Drop)]
+pub struct WriteSink<W> {
+    output: W,
+    faults: u64,
+}
+
+impl<W> Model for WriteSink<W> {
+    ghost use Rattle.std.specs.Prelude.{ℕ};
+
+    ghost Value = { ℕ };
+
+    ghost view = { λ s. s.faults };
+}
+
+impl<W> WriteSink<W> {
+    /// A sink over a writer.
+    pub fn new(output: W) -> WriteSink<W>
+        ensures { result ≡ 0 }
+    {
+        WriteSink { output, faults: 0 }
+    }
+
+    /// How many writes and flushes failed.
+    pub fn faults(&self) -> u64
+        ensures { result ≡ self.now }
+    {
+        self.faults
+    }
+}
+
+impl<W: Write> Sink for WriteSink<W> {
+    ghost use Rattle.outside.proofs.Growth.{within_untold};
+
+    ghost taken = { λ _. None };
+
+    ghost flushed = { λ _. 0 };
+
+    ghost faults = { λ s. s };
+
+    /// Writes once, and again as often as a signal cuts a write short. A writer that takes no byte
+    /// of a piece that isn't empty failed, as one that gives any other error.
+    fn write(&mut self, bytes: &[u8]) -> Result<usize, Failed>
+        ensures counts { self.new ≡ faults_after self.old result }
+
+        // What every sink promises.
+        ensures within { IfOk result (λ n. n ≤ length bytes.now) }
+        ensures some { IfOk result (λ n. 0 < length bytes.now → 0 < n) }
+        ensures cause { HasCause self.old self.new (IsErr result) }
+    {
+        for _ in 0..u64::MAX {
+            match self.output.write(bytes) {
+                Ok(count) if count > 0 || bytes.is_empty() => return Ok(count),
+                Err(error) if error.kind() == ErrorKind::Interrupted => {}
+                _ => break,
+            }
+        }
+        self.faults = self.faults.saturating_add(1);
+        Err(Failed)
+    }
+
+    /// Flushes the writer. With any error it failed.
+    fn flush(&mut self) -> Result<(), Failed>
+        ensures counts { self.new ≡ faults_after self.old result }
+
+        // What every sink promises.
+        ensures cause { HasCause self.old self.new (IsErr result) }
+    {
+        match self.output.flush() {
+            Ok(()) => Ok(()),
+            Err(_) => {
+                self.faults = self.faults.saturating_add(1);
+                Err(Failed)
+            }
+        }
+    }
+
+    ghost flushed_within = { λ _. within_untold 0 };
+}

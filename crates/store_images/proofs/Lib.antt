@@ -1,0 +1,4 @@
+pub mod Moments
+pub mod Beside
+pub mod Tearing
+pub mod Leaving

@@ -1,0 +1,6 @@
+pub mod Images
+pub mod Times
+pub mod Chance
+pub mod Moments
+pub mod Steps
+pub mod Leftovers

@@ -1,0 +1,12 @@
+//! Stores of files: what reads give, and what a stop at each moment may leave.
+//!
+//! A store is a map from names to bytes with a clock of moments. At each moment it has images, which
+//! are the maps that a stop may leave: between two syncs what was written may stand in part, after a
+//! sync that succeeds there is one image, which is what reads give. Contracts of the layers above
+//! speak of the images at each moment of a call; the lemmas by which those compose stand in
+//! `proofs/Moments` and `proofs/Beside`.
+#![tactic(auto)]
+
+mod stores;
+
+pub use stores::Store;
