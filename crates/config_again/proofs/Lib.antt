@@ -1,3 +1,4 @@
 pub mod Equations
 pub mod Conditions
 pub mod Fresh
+pub mod Good
