@@ -1,5 +1,5 @@
 -- A condition that was read and is printed is read again as the same, with no more levels than before.
-use Rattle.std.proofs.Common.{◌≡◌, ℕ, zero, suc, List, [], ◌∷◌, ◌++◌, map, Option, Some, None, Bool, true, false, if◌then◌else◌, refl, ap, sym, subst, ◌∙◌, append_assoc, bytes_eq, codes}
+use Rattle.std.proofs.Common.{◌≡◌, ℕ, suc, List, [], ◌∷◌, ◌++◌, map, Some, Bool, true, false, if◌then◌else◌, refl, ap, sym, subst, append_assoc, bytes_eq, codes}
 use Rattle.std.proofs.lemmas.Slice.Eq.{bytes_eq-Decides}
 use Rattle.event_tree.specs.PathTexts.{way_of}
 use Rattle.event_json.specs.Json.{number_text}
@@ -8,8 +8,6 @@ use Rattle.config_grammar.specs.declared.token.Token.TheVariants as t
 use Rattle.config_grammar.specs.declared.token.Word.TheVariants as w
 use Rattle.config_grammar.specs.declared.token.Conjunction.{Conjunction}
 use Rattle.config_grammar.specs.declared.token.Disjunction.{Disjunction}
-use Rattle.config_grammar.specs.declared.token.Comparison.{Comparison}
-use Rattle.config_grammar.specs.declared.token.Matching.{Matching}
 use Rattle.config_grammar.specs.declared.tree.Condition.{Condition}
 use Rattle.config_grammar.specs.declared.tree.Condition.TheVariants as c
 use Rattle.config_grammar.specs.declared.tree.Operand.{Operand}
@@ -19,8 +17,8 @@ use Rattle.config_grammar.specs.declared.tree.Literal.TheVariants as l
 use Rattle.config_grammar.specs.declared.tree.Pattern.{Pattern}
 use Rattle.config_grammar.specs.declared.tree.Pattern.TheVariants as p
 use Rattle.config_grammar.specs.Grammar as g
-use Rattle.config_grammar.specs.Words.{operand_token, pattern, literal, conjoined, disjoined, compared, matched}
-use Rattle.config_again.specs.Tokens.{Ranked, grouped, conjunction_tokens, disjunction_tokens, comparison_tokens, matching_tokens, condition_tokens, operand_tokens, pattern_tokens, literal_tokens, items_tokens, more_tokens, parts_of}
+use Rattle.config_grammar.specs.Words.{operand_token, pattern, conjoined, disjoined, compared, matched}
+use Rattle.config_again.specs.Tokens.{Ranked, comparison_tokens, matching_tokens, condition_tokens, operand_tokens, pattern_tokens, literal_tokens, items_tokens, more_tokens, parts_of}
 use Rattle.config_again.proofs.Equations.{alone_is, denied_is, conjoined_is, disjoined_is, compared_is, matched_is, in_is, notin_is}
 
 pub append_nil : {A : Type 0} (xs : List A) → xs ≡ xs ++ []

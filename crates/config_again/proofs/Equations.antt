@@ -1,10 +1,9 @@
 -- The tokens of a tree, one equation for each variant.
-use Rattle.std.proofs.Common.{◌≡◌, ℕ, List, [], ◌∷◌, ◌++◌, map, Option, ap, sym, ◌∙◌, refl}
+use Rattle.std.proofs.Common.{◌≡◌, ℕ, List, [], ◌∷◌, map, ap, sym, ◌∙◌, refl}
 use Rattle.event_tree.specs.Number.{Num}
 use Rattle.event_json.specs.Json.{number_text}
 use Rattle.config_grammar.specs.declared.token.Token.{Token}
 use Rattle.config_grammar.specs.declared.token.Token.TheVariants as t
-use Rattle.config_grammar.specs.declared.token.Word.TheVariants as w
 use Rattle.config_grammar.specs.declared.token.Conjunction.{Conjunction}
 use Rattle.config_grammar.specs.declared.token.Conjunction.TheVariants as and
 use Rattle.config_grammar.specs.declared.token.Disjunction.{Disjunction}
@@ -15,7 +14,7 @@ use Rattle.config_grammar.specs.declared.token.Matching.{Matching}
 use Rattle.config_grammar.specs.declared.token.Matching.TheVariants as matching
 use Rattle.config_grammar.specs.declared.tree.SettingValue.{SettingValue}
 use Rattle.config_grammar.specs.declared.tree.SettingValue.TheVariants as v
-use Rattle.config_grammar.specs.declared.tree.SettingValue.TheOpen.{SettingValue-F, Plugin-F, Settings-F}
+use Rattle.config_grammar.specs.declared.tree.SettingValue.TheOpen.{SettingValue-F}
 use Rattle.config_grammar.specs.declared.tree.SettingValue.TheFolds.{fold-SettingValue, fold-roll-SettingValue, fold_out-Plugin, fold_out-Settings}
 use Rattle.config_grammar.specs.declared.tree.Condition.{Condition}
 use Rattle.config_grammar.specs.declared.tree.Condition.TheVariants as c
@@ -25,11 +24,10 @@ use Rattle.config_grammar.specs.declared.tree.Operand.{Operand}
 use Rattle.config_grammar.specs.declared.tree.Pattern.{Pattern}
 use Rattle.config_grammar.specs.declared.tree.Plugin.{Plugin}
 use Rattle.config_grammar.specs.declared.tree.Arm.{Arm}
-use Rattle.config_grammar.specs.declared.tree.Statement.{Statement}
 use Rattle.config_grammar.specs.declared.tree.Statement.TheVariants as s
-use Rattle.config_grammar.specs.declared.tree.Statement.TheOpen.{Statement-F, Arm-F}
+use Rattle.config_grammar.specs.declared.tree.Statement.TheOpen.{Statement-F}
 use Rattle.config_grammar.specs.declared.tree.Statement.TheFolds.{fold-Statement, fold-roll-Statement, fold-Arm, fold_out-Arm}
-use Rattle.config_grammar.specs.Joining.{Entries, plugin_of}
+use Rattle.config_grammar.specs.Joining.{Entries}
 use Rattle.config_grammar.specs.Words.{conjoined, disjoined, compared, matched}
 use Rattle.config_grammar.specs.Lexemes.{word_of}
 use Rattle.config_again.specs.Tokens as k

@@ -1,6 +1,6 @@
 -- What was read holds only what its printed tokens give again: names stand once, and each token that is printed passes a test that
 -- the tokens read passed.
-use Rattle.std.proofs.Common.{◌≡◌, ℕ, zero, suc, List, [], ◌∷◌, ◌++◌, map, Option, Some, None, Bool, true, false, if◌then◌else◌, refl, ap, sym, subst, ◌∙◌, append_assoc, bytes_eq}
+use Rattle.std.proofs.Common.{◌≡◌, ℕ, zero, suc, List, [], ◌∷◌, ◌++◌, Some, None, Bool, true, false, if◌then◌else◌, refl, ap, sym, subst, ◌∙◌, bytes_eq}
 use Rattle.event_tree.specs.Number.{Num}
 use Rattle.event_json.specs.Json.{number_text}
 use Rattle.config_grammar.specs.declared.token.Token.{Token}
@@ -21,9 +21,8 @@ use Rattle.config_grammar.specs.declared.tree.Config.{Config}
 use Rattle.config_grammar.specs.Grammar as g
 use Rattle.config_grammar.specs.Words.{spelling, bareword, setting_name, plugin_name, key, scalar}
 use Rattle.config_grammar.specs.Lexemes.{word_of}
-use Rattle.config_grammar.specs.Joining.{Entries, has, with_setting, with_entry, with_entries, joined_value, plugin_of, empty, with_inputs, with_filters, with_outputs}
+use Rattle.config_grammar.specs.Joining.{Entries, with_setting, with_entry, with_entries, joined_value, plugin_of, empty}
 use Rattle.config_again.specs.Tokens.{name_token, plugin_token, condition_tokens}
-use Rattle.config_again.proofs.Conditions.{again_condition}
 use Rattle.config_again.proofs.Fresh.{Fresh, fresh_setting, fresh_entries, fresh_end}
 
 -- a test of the tokens of a list
@@ -263,5 +262,5 @@ module _ (Ok : Token → Type 0) where
       good_settings (g.setting {k} {front} {y} {a} {b} {x} e p q) o h f =
           good_settings q (last_of_all Ok a b o.1.1) (with_setting_good k x h (law.name y k e o.0) (good_value p (first_of_all Ok a b o.1.1))) (fresh_setting front k x f)
 
-    plugin_good : {d : ℕ} {ts : List Token} {x : Plugin} → g.ReadsPlugin d ts x → AllOf Ok ts → GoodPlugin Ok d x
+    pub plugin_good : {d : ℕ} {ts : List Token} {x : Plugin} → g.ReadsPlugin d ts x → AllOf Ok ts → GoodPlugin Ok d x
     plugin_good (g.plugin {name} {y} e q) o = let r = good_settings q o.1.1 no_entries tt in good_plugin (law.plugin y name e o.0) r.0 r.1

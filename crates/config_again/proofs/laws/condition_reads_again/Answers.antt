@@ -1,4 +1,3 @@
-use Rattle.std.proofs.Common.{rules}
 use Rattle.config_again.proofs.Conditions.{again_condition}
 use Rattle.config_again.proofs.laws.condition_reads_again.Goals as goal
 
