@@ -49,6 +49,9 @@ regexp s = 47 ∷ (escaped s ++ 47 ∷ [])
 abbrev pub bracketed : List (List ℕ) → List ℕ
 bracketed = paths.bracketed
 
--- a selector; that of a field of the metadata begins so
+-- a selector; that of a field of the metadata begins with `[@metadata]`
+abbrev pub selector_front : Bool → List ℕ
+selector_front meta = if meta then codes "[@metadata]" else []
+
 abbrev pub selector : Way → List ℕ
-selector way = if way.meta then codes "[@metadata]" ++ bracketed way.parts else bracketed way.parts
+selector way = selector_front way.meta ++ bracketed way.parts

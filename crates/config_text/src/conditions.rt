@@ -119,43 +119,33 @@ fn add_close(to: &mut String, parens: bool) -> Result<(), AllocError>
     if parens { to.push_str(" )") } else { Ok(()) }
 }
 
-/// Two conditions that `and` or `nand` joins.
-#[tactic(auto, using(crate::proofs::Equations::conditions))]
+/// The left side of an operator, and the operator.
 #[cycle(conditions)]
-fn add_conjoined(
+fn add_left(
     to: &mut String,
+    parens: bool,
     left: &Condition,
-    sign: &str,
-    right: &Condition,
     place: Place,
+    sign: &str,
 ) -> Result<(), AllocError>
-    ensures { OnOk result (string_bytes to.new ≡ string_bytes to.old ++ spec.conjoined sign.now (spec.condition left.now) (spec.condition right.now) place) }
+    ensures { OnOk result (string_bytes to.new ≡ string_bytes to.old ++ (spec.opened parens ++ (spec.condition left.now place ++ sign.now))) }
 {
-    let parens = parts_and(place);
     add_open(to, parens)?;
-    add_condition(to, left, Place::Joined)?;
-    to.push_str(sign)?;
-    add_condition(to, right, Place::Unary)?;
-    add_close(to, parens)
+    add_condition(to, left, place)?;
+    to.push_str(sign)
 }
 
-/// Two conditions that `or` or `xor` joins.
-#[tactic(auto, using(crate::proofs::Equations::conditions))]
+/// The right side of an operator.
 #[cycle(conditions)]
-fn add_disjoined(
+fn add_right(
     to: &mut String,
-    left: &Condition,
-    sign: &str,
     right: &Condition,
     place: Place,
+    parens: bool,
 ) -> Result<(), AllocError>
-    ensures { OnOk result (string_bytes to.new ≡ string_bytes to.old ++ spec.disjoined sign.now (spec.condition left.now) (spec.condition right.now) place) }
+    ensures { OnOk result (string_bytes to.new ≡ string_bytes to.old ++ (spec.condition right.now place ++ spec.closed parens)) }
 {
-    let parens = parts_or(place);
-    add_open(to, parens)?;
-    add_condition(to, left, Place::Whole)?;
-    to.push_str(sign)?;
-    add_condition(to, right, Place::Joined)?;
+    add_condition(to, right, place)?;
     add_close(to, parens)
 }
 
@@ -176,16 +166,24 @@ pub(crate) fn add_condition(
             add_condition(to, inner.get(), Place::Unary)
         }
         Condition::And(left, right) => {
-            add_conjoined(to, left.get(), " and ", right.get(), place)
+            let parens = parts_and(place);
+            add_left(to, parens, left.get(), Place::Joined, " and ")?;
+            add_right(to, right.get(), Place::Unary, parens)
         }
         Condition::Nand(left, right) => {
-            add_conjoined(to, left.get(), " nand ", right.get(), place)
+            let parens = parts_and(place);
+            add_left(to, parens, left.get(), Place::Joined, " nand ")?;
+            add_right(to, right.get(), Place::Unary, parens)
         }
         Condition::Or(left, right) => {
-            add_disjoined(to, left.get(), " or ", right.get(), place)
+            let parens = parts_or(place);
+            add_left(to, parens, left.get(), Place::Whole, " or ")?;
+            add_right(to, right.get(), Place::Joined, parens)
         }
         Condition::Xor(left, right) => {
-            add_disjoined(to, left.get(), " xor ", right.get(), place)
+            let parens = parts_or(place);
+            add_left(to, parens, left.get(), Place::Whole, " xor ")?;
+            add_right(to, right.get(), Place::Joined, parens)
         }
         Condition::Equal(left, right) => add_compared(to, left, " == ", right),
         Condition::Unequal(left, right) => add_compared(to, left, " != ", right),

@@ -18,6 +18,7 @@ use std::alloc::{AllocError, Global};
 /// stands between two tokens.
 ///
 /// It takes time in the length of the text that is made.
+#[tactic(auto, unfolding(crate::specs::Printed::printed))]
 pub fn print(alloc: Global, config: &Config) -> Result<Text, AllocError>
     ensures { IfOk result (λ text. text ≡ printed config.now) }
 {

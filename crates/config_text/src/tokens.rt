@@ -117,6 +117,7 @@ pub(crate) fn add_plugin_name(to: &mut String, name: &str) -> Result<(), AllocEr
     }
 }
 
+#[tactic(auto, using(event_json::proofs::Jsons::jsons))]
 pub(crate) fn add_number(to: &mut String, number: &Number) -> Result<(), AllocError>
     ensures { OnOk result (string_bytes to.new ≡ string_bytes to.old ++ number_text number.now) }
 {
@@ -164,11 +165,19 @@ fn add_parts(to: &mut String, parts: &[Text]) -> Result<(), AllocError>
     Ok(())
 }
 
+fn add_selector_front(to: &mut String, meta: bool) -> Result<(), AllocError>
+    ensures { OnOk result (string_bytes to.new ≡ string_bytes to.old ++ spec.selector_front meta) }
+{
+    if meta {
+        to.push_str("[@metadata]")
+    } else {
+        Ok(())
+    }
+}
+
 pub(crate) fn add_selector(to: &mut String, path: &Path) -> Result<(), AllocError>
     ensures { OnOk result (string_bytes to.new ≡ string_bytes to.old ++ spec.selector path.now) }
 {
-    if path.is_meta() {
-        to.push_str("[@metadata]")?;
-    }
+    add_selector_front(to, path.is_meta())?;
     add_parts(to, path.parts())
 }
