@@ -135,7 +135,7 @@ pub statement-Plugin : (x : Plugin) (margin : Margin) → statement (s.Plugin x)
 unfolding statement
 statement-Plugin x margin = ap (λ f. f margin) (ap (fold-Statement Laid Laid statement_step arm_step) (sym (s.rolls-Plugin x)) ∙ fold-roll-Statement Laid Laid statement_step arm_step (Statement-F.Plugin x))
 
-pub statement-Branch : (xs : List Arm) (margin : Margin) → statement (s.Branch xs) margin ≡ branch (map arm xs) margin
+pub statement-Branch : (xs : List Arm) (margin : Margin) → statement (s.Branch xs) margin ≡ branch false margin (map arm xs)
 unfolding statement arm
 statement-Branch xs margin = ap (λ f. f margin) (ap (fold-Statement Laid Laid statement_step arm_step) (sym (s.rolls-Branch xs)) ∙ fold-roll-Statement Laid Laid statement_step arm_step (Statement-F.Branch xs))
 

@@ -1,5 +1,5 @@
 -- The text of a configuration: one statement, setting, key or brace on a line, with two blanks for each level.
-use Rattle.std.specs.Prelude.{ℕ, List, [], ◌∷◌, ◌++◌, map, flat_map, Option, Some, None, if◌then◌else◌, codes, bytes_eq}
+use Rattle.std.specs.Prelude.{ℕ, List, [], ◌∷◌, ◌++◌, map, flat_map, Bool, true, false, Option, Some, None, if◌then◌else◌, codes, bytes_eq}
 use Rattle.event_json.specs.Json.{number_text}
 use Rattle.config_grammar.specs.declared.tree.SettingValue.{SettingValue}
 use Rattle.config_grammar.specs.declared.tree.SettingValue.TheOpen.{SettingValue-F, Plugin-F, Settings-F}
@@ -90,17 +90,17 @@ test (Some x) = codes "if " ++ (condition x at.Whole ++ codes " ")
 abbrev pub arm_step : Arm-F Laid Laid → Laid
 arm_step x margin = test x.condition ++ braced margin (lines_of (deeper margin) x.block)
 
--- each arm of a branch but the first stands on a line of its own, behind `else`
-abbrev pub later_arms : Margin → List Laid → List ℕ
-later_arms margin = flat_map (λ x. margin ++ (codes "else " ++ x margin))
+-- what an arm of a branch stands behind: a line of its own and `else`, but for the first
+abbrev pub behind_else : Bool → Margin → List ℕ
+behind_else later margin = if later then margin ++ codes "else " else []
 
-abbrev pub branch : List Laid → Laid
-branch [] margin = []
-branch (x ∷ xs) margin = x margin ++ later_arms margin xs
+abbrev pub branch : Bool → Margin → List Laid → List ℕ
+branch later margin [] = []
+branch later margin (x ∷ xs) = behind_else later margin ++ (x margin ++ branch true margin xs)
 
 abbrev pub statement_step : Statement-F Laid Laid → Laid
 statement_step (Statement-F.Plugin x) margin = plugin x margin
-statement_step (Statement-F.Branch xs) margin = branch xs margin
+statement_step (Statement-F.Branch xs) margin = branch false margin xs
 
 unfoldable pub statement : Statement → Laid
 statement = fold-Statement Laid Laid statement_step arm_step

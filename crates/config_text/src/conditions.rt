@@ -91,7 +91,12 @@ fn add_pattern(to: &mut String, pattern: &Pattern) -> Result<(), AllocError>
     }
 }
 
-fn add_compared(to: &mut String, left: &Operand, sign: &str, right: &Operand) -> Result<(), AllocError>
+fn add_compared(
+    to: &mut String,
+    left: &Operand,
+    sign: &str,
+    right: &Operand,
+) -> Result<(), AllocError>
     ensures { OnOk result (string_bytes to.new ≡ string_bytes to.old ++ spec.with_sign sign.now (spec.operand left.now) (spec.operand right.now)) }
 {
     add_operand(to, left)?;
@@ -99,7 +104,12 @@ fn add_compared(to: &mut String, left: &Operand, sign: &str, right: &Operand) ->
     add_operand(to, right)
 }
 
-fn add_matched(to: &mut String, left: &Operand, sign: &str, right: &Pattern) -> Result<(), AllocError>
+fn add_matched(
+    to: &mut String,
+    left: &Operand,
+    sign: &str,
+    right: &Pattern,
+) -> Result<(), AllocError>
     ensures { OnOk result (string_bytes to.new ≡ string_bytes to.old ++ spec.with_sign sign.now (spec.operand left.now) (spec.pattern right.now)) }
 {
     add_operand(to, left)?;

@@ -1,6 +1,6 @@
 //! Plugins and branches, and the sections that have them.
 
-ghost use Rattle.std.specs.Prelude.{◌≡◌, ◌++◌, ◌∷◌, [], map, drop, flat_map, string_bytes, OnOk};
+ghost use Rattle.std.specs.Prelude.{◌≡◌, ◌++◌, ◌∷◌, [], map, false, string_bytes, OnOk};
 ghost use Rattle.config_text.specs.Printed as spec;
 
 use crate::conditions::{Place, add_condition};
@@ -45,16 +45,27 @@ fn add_arm(to: &mut String, arm: &Arm, margin: &str) -> Result<(), AllocError>
     add_close_brace(to, margin)
 }
 
-/// The arms behind the first, each on a line of its own.
+/// What an arm of a branch stands behind.
+fn add_else(to: &mut String, later: bool, margin: &str) -> Result<(), AllocError>
+    ensures { OnOk result (string_bytes to.new ≡ string_bytes to.old ++ spec.behind_else later margin.now) }
+{
+    if !later {
+        return Ok(());
+    }
+    to.push_str(margin)?;
+    to.push_str("else ")
+}
+
 #[tactic(auto, using(crate::proofs::Equations::statements))]
 #[cycle(statements)]
-fn add_later_arms(to: &mut String, arms: &[Arm], margin: &str) -> Result<(), AllocError>
-    ensures { OnOk result (string_bytes to.new ≡ string_bytes to.old ++ spec.later_arms margin.now (map spec.arm arms.now)) }
+fn add_branch(to: &mut String, arms: &[Arm], margin: &str) -> Result<(), AllocError>
+    ensures { OnOk result (string_bytes to.new ≡ string_bytes to.old ++ spec.branch false margin.now (map spec.arm arms.now)) }
 {
+    let mut later = false;
     for arm in arms {
-        to.push_str(margin)?;
-        to.push_str("else ")?;
+        add_else(to, later, margin)?;
         add_arm(to, arm, margin)?;
+        later = true;
     }
     Ok(())
 }
@@ -66,13 +77,7 @@ fn add_statement(to: &mut String, statement: &Statement, margin: &str) -> Result
 {
     match statement {
         Statement::Plugin(plugin) => add_plugin(to, plugin, margin),
-        Statement::Branch(arms) => match arms.as_slice() {
-            [] => Ok(()),
-            [first, later @ ..] => {
-                add_arm(to, first, margin)?;
-                add_later_arms(to, later, margin)
-            }
-        },
+        Statement::Branch(arms) => add_branch(to, arms.as_slice(), margin),
     }
 }
 
@@ -87,7 +92,11 @@ fn add_plugins(to: &mut String, list: &[Plugin], margin: &str) -> Result<(), All
 }
 
 /// A section of plugins alone.
-pub(crate) fn add_plugin_section(to: &mut String, name: &str, list: &[Plugin]) -> Result<(), AllocError>
+pub(crate) fn add_plugin_section(
+    to: &mut String,
+    name: &str,
+    list: &[Plugin],
+) -> Result<(), AllocError>
     ensures { OnOk result (string_bytes to.new ≡ string_bytes to.old ++ spec.section name.now (map spec.plugin list.now)) }
 {
     if list.is_empty() {

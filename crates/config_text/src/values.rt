@@ -62,7 +62,11 @@ fn add_pairs(to: &mut String, list: &[(Text, SettingValue)], margin: &str) -> Re
 
 #[tactic(auto, using(crate::proofs::Equations::values))]
 #[cycle(values)]
-fn add_settings(to: &mut String, list: &[(Text, SettingValue)], margin: &str) -> Result<(), AllocError>
+fn add_settings(
+    to: &mut String,
+    list: &[(Text, SettingValue)],
+    margin: &str,
+) -> Result<(), AllocError>
     ensures { OnOk result (string_bytes to.new ≡ string_bytes to.old ++ flat_map (spec.setting margin.now) (spec.laid list.now)) }
 {
     for setting in list {
