@@ -4,8 +4,6 @@ use Rattle.event_tree.specs.NumberTexts.{NumberReads}
 use Rattle.config_grammar.specs.declared.tree.SettingValue.{SettingValue, out-SettingValue, out-roll-SettingValue}
 use Rattle.config_grammar.specs.declared.tree.SettingValue.TheOpen.{SettingValue-F}
 use Rattle.config_grammar.specs.declared.tree.SettingValue.TheVariants as v
-use Rattle.config_grammar.specs.declared.tree.Plugin.{Plugin}
-use Rattle.config_grammar.specs.declared.tree.Settings.{Settings}
 use Rattle.config_grammar.specs.declared.fault.FromFault.{FromFault}
 use Rattle.config_grammar.specs.Readers.{NumberIn, AsNumber, IsWrongKind, Answers}
 

@@ -1,4 +1,4 @@
-use Rattle.std.proofs.Common.{rules, ◌≡◌, Some, None, ap, subst, sym, ◌∙◌}
+use Rattle.std.proofs.Common.{rules, ◌≡◌, Some, None, subst}
 use Rattle.event_tree.specs.NumberTexts.{NumberReads}
 use Rattle.config_grammar.specs.declared.tree.SettingValue.TheVariants as v
 use Rattle.config_grammar.specs.Readers.{value_at}
