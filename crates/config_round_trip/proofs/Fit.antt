@@ -54,7 +54,7 @@ word_plain : (s : List ℕ) → is_word true s ≡ true → ArePlain s
 word_plain [] h = absurd (cc)
 word_plain (b ∷ s) h = (letter_plain b (and_l (is_letter b) (list_all (is_in_word true) s) h), words_plain s (and_r (is_letter b) (list_all (is_in_word true) s) h))
 
-word_more : (s : List ℕ) → is_word false s ≡ true → is_word true s ≡ true
+pub word_more : (s : List ℕ) → is_word false s ≡ true → is_word true s ≡ true
 word_more [] h = absurd (cc)
 word_more (b ∷ s) h = both_true (is_letter b) (list_all (is_in_word true) s) (and_l (is_letter b) (list_all (is_in_word false) s) h) (in_word_more s (and_r (is_letter b) (list_all (is_in_word false) s) h))
 
@@ -69,7 +69,7 @@ word_bare (b ∷ s) h u =
     both_true (is_letter b) (list_all (is_in_word false) s) l
       (in_word_bare s (and_r (is_letter b) (list_all (is_in_word true) s) h) (sym (ap (λ z. z || list_any (λ b. nat_eq b 45) s) (letter_no_dash b l)) ∙ u))
 
-spelled : (s : List ℕ) → spelling (word_of s) ≡ s
+pub spelled : (s : List ℕ) → spelling (word_of s) ≡ s
 spelled s = let h : Some (spelling (word_of s)) ≡ Some s = word_spelled s in cc
 
 same_bare : (s : List ℕ) → is_bare s ≡ is_word true s
@@ -151,7 +151,7 @@ lawful = record {
 
 -- ---- and that tokens of a text pass
 
-abbrev Found_fits : Found → Type 0
+abbrev pub Found_fits : Found → Type 0
 Found_fits None = Unit {0}
 Found_fits (Some p) = Fit p.0
 
@@ -250,16 +250,16 @@ sign_found (b ∷ []) = longer_found None (single b) tt (single_sign b)
 sign_found (b ∷ c ∷ s) = longer_found (double b c) (single b) (double_sign b c) (single_sign b)
 
 -- what a token may be, where it is none of those before
-abbrev behind_regexps : Context → ℕ → List ℕ → Found
+abbrev pub behind_regexps : Context → ℕ → List ℕ → Found
 behind_regexps x b s = if b == 91 then bracket_at x.at_operand (b ∷ s) else sign_at (b ∷ s)
 
-abbrev behind_strings : Context → ℕ → List ℕ → Found
+abbrev pub behind_strings : Context → ℕ → List ℕ → Found
 behind_strings x b s = if b == 47 then regexp_at s else behind_regexps x b s
 
-abbrev behind_numbers : Context → ℕ → List ℕ → Found
+abbrev pub behind_numbers : Context → ℕ → List ℕ → Found
 behind_numbers x b s = if b == 34 || b == 39 then quoted_at b s else behind_strings x b s
 
-abbrev behind_letters : Context → ℕ → List ℕ → Found
+abbrev pub behind_letters : Context → ℕ → List ℕ → Found
 behind_letters x b s = if begins_number (b ∷ s) then number_at (b ∷ s) else behind_numbers x b s
 
 -- a token that the lexer finds is fit

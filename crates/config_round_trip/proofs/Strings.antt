@@ -115,7 +115,7 @@ pub plain_between : (s : List ℕ) → ArePlain s → Between s
 plain_between s h = (plain_ends false s refl h, inl (plain_has false s h))
 
 -- a backslash before each `/` is put there and taken away
-and_none : (a : Bool) → (a && false) ≡ false
+pub and_none : (a : Bool) → (a && false) ≡ false
 and_none true = refl
 and_none false = refl
 
