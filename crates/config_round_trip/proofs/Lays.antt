@@ -26,7 +26,7 @@ use Rattle.config_round_trip.proofs.Strings.{Between, printed_closes, ends_escap
 use Rattle.config_round_trip.proofs.Words.{and_l, and_r, both_true, letter_in_word, Apart, blank_case, word_run, in_word_more, parts_again, PartsFit, SelectorFits, opens_list, bare_start}
 use Rattle.config_round_trip.proofs.Numbers.{IsHeld, Lexes, number_lexes}
 use Rattle.config_round_trip.proofs.Fit.{Fit, word_more, behind_letters, behind_numbers}
-use Rattle.config_round_trip.proofs.Scan.{scan, scan_next, scanned, tokens_scanned}
+use Rattle.config_round_trip.proofs.Scan.{scan, scan_next, scanned, drop_nil, tokens_scanned}
 
 abbrev compared : Comparison → List ℕ
 compared is.Equal = codes "=="
@@ -241,3 +241,146 @@ word_starts dashes (b ∷ s) h = record { first = b; more = s; is = refl; solid_
 quote_solid : (z : Bool) → solid (if z then 39 else 34) ≡ true
 quote_solid true = refl
 quote_solid false = refl
+
+compared_starts : (j : Comparison) → Starts (compared j)
+compared_starts is.Equal = record { first = 61; more = 61 ∷ []; is = refl; solid_first = refl }
+compared_starts is.Unequal = record { first = 33; more = 61 ∷ []; is = refl; solid_first = refl }
+compared_starts is.Less = record { first = 60; more = []; is = refl; solid_first = refl }
+compared_starts is.Greater = record { first = 62; more = []; is = refl; solid_first = refl }
+compared_starts is.AtMost = record { first = 60; more = 61 ∷ []; is = refl; solid_first = refl }
+compared_starts is.AtLeast = record { first = 62; more = 61 ∷ []; is = refl; solid_first = refl }
+
+matched_starts : (j : Matching) → Starts (matched j)
+matched_starts matching.Matches = record { first = 61; more = 126 ∷ []; is = refl; solid_first = refl }
+matched_starts matching.MatchesNot = record { first = 33; more = 126 ∷ []; is = refl; solid_first = refl }
+
+number_starts : (n : Num) → IsHeld n → Starts (number_text n)
+number_starts n h = let r = number_lexes n [] h tt in record { first = r.first; more = r.more; is = r.is; solid_first = digit_solid r.first r.starts }
+
+-- each token is written with one byte or more
+starts : (y : Token) → Fit y → IsWritten y → Starts (written y)
+starts (t.Word a) h w = word_starts false (spelling a) h.0
+starts (t.Dashed s) h w = word_starts true s h.0
+starts (t.Quoted s) h w = record { first = quote_of s; more = s ++ quote_of s ∷ []; is = refl; solid_first = quote_solid (has_quote false s) }
+starts (t.Number n s) h w = subst Starts (sym w) (number_starts n h.0)
+starts (t.Regexp s) h w = record { first = 47; more = escaped s ++ 47 ∷ []; is = refl; solid_first = refl }
+starts (t.Selector []) h w = absurd h
+starts (t.Selector (p ∷ ps)) h w = record { first = 91; more = p ++ 93 ∷ bracketed ps; is = refl; solid_first = refl }
+starts t.OpenBrace h w = record { first = 123; more = []; is = refl; solid_first = refl }
+starts t.CloseBrace h w = record { first = 125; more = []; is = refl; solid_first = refl }
+starts t.OpenBracket h w = record { first = 91; more = []; is = refl; solid_first = refl }
+starts t.CloseBracket h w = record { first = 93; more = []; is = refl; solid_first = refl }
+starts t.OpenParen h w = record { first = 40; more = []; is = refl; solid_first = refl }
+starts t.CloseParen h w = record { first = 41; more = []; is = refl; solid_first = refl }
+starts t.Comma h w = record { first = 44; more = []; is = refl; solid_first = refl }
+starts t.Arrow h w = record { first = 61; more = 62 ∷ []; is = refl; solid_first = refl }
+starts t.Exclamation h w = record { first = 33; more = []; is = refl; solid_first = refl }
+starts (t.Comparison j) h w = compared_starts j
+starts (t.Matching j) h w = matched_starts j
+starts t.Unreadable h w = absurd w
+
+-- where a literal, or the end of a list, comes first
+literal_byte : (b : ℕ) (v : List ℕ) → (is_digit b || b == 45) ≡ true → begins_literals (b ∷ v) ≡ true
+literal_byte b v h = grind (arith, nat_tests, h)
+
+quote_literal : (z : Bool) (v : List ℕ) → begins_literals ((if z then 39 else 34) ∷ v) ≡ true
+quote_literal true v = refl
+quote_literal false v = refl
+
+at_once : (b : ℕ) (v : List ℕ) → solid b ≡ true → begins_literals (b ∷ v) ≡ true → begins_literals (drop (skip false (b ∷ v)) (b ∷ v)) ≡ true
+at_once b v h u = ap (λ k. begins_literals (drop k (b ∷ v))) (skip_solid b v h) ∙ u
+
+number_first : (n : Num) (rest : List ℕ) → IsHeld n → begins_literals (drop (skip false (number_text n ++ rest)) (number_text n ++ rest)) ≡ true
+number_first n rest h =
+    let r = number_lexes n [] h tt in
+    ap (λ l. begins_literals (drop (skip false (l ++ rest)) (l ++ rest))) r.is ∙ at_once r.first (r.more ++ rest) (digit_solid r.first r.starts) (literal_byte r.first (r.more ++ rest) r.starts)
+
+first_token : (y : Token) (ts : List Token) (rest : List ℕ) → Fit y → IsWritten y → first_literal (y ∷ ts) ≡ true → begins_literals (drop (skip false (written y ++ rest)) (written y ++ rest)) ≡ true
+first_token (t.Quoted s) ts rest h w e = at_once (quote_of s) ((s ++ quote_of s ∷ []) ++ rest) (quote_solid (has_quote false s)) (quote_literal (has_quote false s) ((s ++ quote_of s ∷ []) ++ rest))
+first_token (t.Number n s) ts rest h w e = subst (λ l. begins_literals (drop (skip false (l ++ rest)) (l ++ rest)) ≡ true) (sym w) (number_first n rest h.0)
+first_token t.CloseBracket ts rest h w e = at_once 93 rest refl refl
+first_token y ts rest h w e = absurd (cc)
+
+first_there : {ts : List Token} {s : List ℕ} → Lays ts s → first_literal ts ≡ true → AllOf Fit ts → begins_literals (drop (skip false s) s) ≡ true
+first_there done e f = absurd (cc)
+first_there (blank {b} {s} h l) e f = ap (λ k. begins_literals (drop k (b ∷ s))) (skip_blank b s h) ∙ first_there l e f
+first_there (token {y} {ts} {s} w u l) e f = first_token y ts s f.0 w e
+
+-- ---- tokens in a row
+
+token_reads : (x : Context) (y : Token) (ts : List Token) (s : List ℕ) → Fit y → AllOf Fit ts → IsWritten y → Suits x y ts → Lays ts s → Apart s → Takes x y s
+unfolding token_at
+token_reads x (t.Word a) ts s h f w i l u = word_reads x a s h u
+token_reads x (t.Dashed a) ts s h f w i l u = dashed_reads x a s h i u
+token_reads x (t.Quoted a) ts s h f w i l u = quoted_reads x a s h
+token_reads x (t.Number n a) ts s h f w i l u = subst (λ k. Takes x (t.Number n k) s) (sym w) (number_reads x n s h.0 u)
+token_reads x (t.Regexp a) ts s h f w i l u = regexp_reads x a s h
+token_reads x (t.Selector parts) ts s h f w i l u = selector_reads x parts s h i u
+token_reads x t.OpenBracket ts s h f w (inl e) l u = list_reads x s (inl e)
+token_reads x t.OpenBracket ts s h f w (inr e) l u = list_reads x s (inr (first_there l e f))
+token_reads x t.OpenBrace ts s h f w i l u = single_reads x t.OpenBrace 123 s (λ v. refl) refl (refl, refl, refl, refl) u
+token_reads x t.CloseBrace ts s h f w i l u = single_reads x t.CloseBrace 125 s (λ v. refl) refl (refl, refl, refl, refl) u
+token_reads x t.CloseBracket ts s h f w i l u = single_reads x t.CloseBracket 93 s (λ v. refl) refl (refl, refl, refl, refl) u
+token_reads x t.OpenParen ts s h f w i l u = single_reads x t.OpenParen 40 s (λ v. refl) refl (refl, refl, refl, refl) u
+token_reads x t.CloseParen ts s h f w i l u = single_reads x t.CloseParen 41 s (λ v. refl) refl (refl, refl, refl, refl) u
+token_reads x t.Comma ts s h f w i l u = single_reads x t.Comma 44 s (λ v. refl) refl (refl, refl, refl, refl) u
+token_reads x t.Exclamation ts s h f w i l u = single_reads x t.Exclamation 33 s (λ v. refl) refl (refl, refl, refl, refl) u
+token_reads x t.Arrow ts s h f w i l u = refl
+token_reads x (t.Comparison j) ts s h f w i l u = compared_reads x j s u
+token_reads x (t.Matching j) ts s h f w i l u = matched_reads x j s
+token_reads x t.Unreadable ts s h f w i l u = absurd w
+
+-- room for some tokens, and more
+abbrev grow : List Token → ℕ → ℕ
+grow [] n = n
+grow (y ∷ ts) n = suc (grow ts n)
+
+grow_more : (ts : List Token) (n : ℕ) → suc (grow ts n) ≡ grow ts (suc n)
+grow_more [] n = refl
+grow_more (y ∷ ts) n = ap suc (grow_more ts n)
+
+grow_by : (ts : List Token) (k n : ℕ) → k + grow ts n ≡ grow ts (k + n)
+grow_by [] k n = refl
+grow_by (y ∷ ts) k n = let e : k + suc (grow ts n) ≡ suc (k + grow ts n) = omega arith in e ∙ ap suc (grow_by ts k n)
+
+scan_nil : (n : ℕ) (x : Context) → scan n x [] ≡ []
+unfolding scan
+scan_nil zero x = refl
+scan_nil (suc n) x = ap (λ s. scan_next x s (λ y r. scan n y r)) (drop_nil (skip false []))
+
+scan_blank : (n : ℕ) (x : Context) (b : ℕ) (s : List ℕ) → is_blank b ≡ true → scan n x (b ∷ s) ≡ scan n x s
+unfolding scan
+scan_blank zero x b s h = refl
+scan_blank (suc n) x b s h = ap (λ k. scan_next x (drop k (b ∷ s)) (λ y r. scan n y r)) (skip_blank b s h)
+
+scan_token : (m : ℕ) (x : Context) (y : Token) (w s : List ℕ) → Starts w → token_at x (w ++ s) ≡ Some (y, length w) → scan (suc m) x (w ++ s) ≡ y ∷ scan m (after_token x y) s
+unfolding scan
+scan_token m x y w s h e =
+    let v = w ++ s in
+    let go = λ (z : Context) (r : List ℕ). scan m z r in
+    let same : v ≡ h.first ∷ (h.more ++ s) = ap (λ l. l ++ s) h.is in
+    let none : skip false v ≡ 0 = ap (skip false) same ∙ skip_solid h.first (h.more ++ s) h.solid_first in
+    ap (λ k. scan_next x (drop k v) go) none ∙ ap (λ l. scan_next x l go) same ∙ ap (λ l. scanned (token_at x l) l x go) (sym same) ∙ ap (λ o. scanned o v x go) e
+    ∙ ap (λ l. y ∷ scan m (after_token x y) l) (drop-append_seam w s)
+
+lex : {ts : List Token} {s : List ℕ} → Lays ts s → (x : Context) → AllOf Fit ts → Placed x ts → (n : ℕ) → scan (grow ts n) x s ≡ ts
+lex done x f p n = scan_nil n x
+lex (blank {b} {ts} {s} h l) x f p n = scan_blank (grow ts n) x b s h ∙ lex l x f p n
+lex (token {y} {ts} {s} w u l) x f p n =
+    scan_token (grow ts n) x y (written y) s (starts y f.0 w) (token_reads x y ts s f.0 f.1 w p.0 l u) ∙ ap (λ r. y ∷ r) (lex l (after_token x y) f.1 p.1 n)
+
+some_length : (s : List ℕ) → Starts s → (k : ℕ) × (length s ≡ suc k)
+some_length s h = (length h.more, ap length h.is)
+
+room : {ts : List Token} {s : List ℕ} → Lays ts s → AllOf Fit ts → (n : ℕ) × (length s ≡ grow ts n)
+room done f = (0, refl)
+room (blank {ts} h l) f = let r = room l f in (suc r.0, ap suc r.1 ∙ grow_more ts r.0)
+room (token {y} {ts} {s} w u l) f =
+    let r = room l f.1 in
+    let k = some_length (written y) (starts y f.0 w) in
+    let sum : length (written y ++ s) ≡ suc (k.0 + grow ts r.0) = omega (arith, length-append (written y) s, k.1, r.1) in
+    (k.0 + r.0, sum ∙ ap suc (grow_by ts k.0 r.0))
+
+-- a text that lays tokens which are fit and stand where they may has these tokens
+pub laid_tokens : (ts : List Token) (s : List ℕ) → Lays ts s → AllOf Fit ts → Placed start ts → tokens s ≡ ts
+laid_tokens ts s l f p = let r = room l f in tokens_scanned s ∙ ap (λ n. scan n start s) r.1 ∙ lex l start f p r.0

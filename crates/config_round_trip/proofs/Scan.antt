@@ -22,7 +22,7 @@ unfoldable pub scan : ℕ → Context → List ℕ → List Token
 scan zero x s = []
 scan (suc n) x s = scan_next x (drop (skip false s) s) (λ y r. scan n y r)
 
-drop_nil : (n : ℕ) → drop {A = ℕ} n [] ≡ []
+pub drop_nil : (n : ℕ) → drop {A = ℕ} n [] ≡ []
 drop_nil zero = refl
 drop_nil (suc n) = refl
 
