@@ -3,6 +3,7 @@ use Rattle.std.proofs.Common.{◌≡◌, ℕ, zero, suc, List, [], ◌∷◌, �
 use Rattle.config_grammar.specs.declared.token.Token.{Token}
 use Rattle.config_grammar.specs.declared.token.Token.TheVariants as t
 use Rattle.config_grammar.specs.declared.token.Word.TheVariants as w
+use Rattle.config_grammar.specs.declared.token.Section.{Section}
 use Rattle.config_grammar.specs.declared.token.Section.TheVariants as kind
 use Rattle.config_grammar.specs.declared.tree.SettingValue.{SettingValue}
 use Rattle.config_grammar.specs.declared.tree.SettingValue.TheVariants as v
@@ -17,7 +18,7 @@ use Rattle.config_again.specs.Tokens.{name_token, value_tokens, items_tokens, mo
 use Rattle.config_again.proofs.Equations.{text_is, number_is, nested_is, array_is, hash_is, arm, plugin_is, branch_is}
 use Rattle.config_again.proofs.Conditions.{append_nil}
 use Rattle.config_again.proofs.Fresh.{Fresh, set_end}
-use Rattle.config_again.proofs.Good.{AllOf, Lawful, GoodValue, good_text, good_number, good_nested, good_array, good_hash, GoodItems, no_items, item, GoodEntries, no_entries, entry, GoodPlugin, good_plugin, GoodPlugins, no_plugins, one_plugin, plugin_there, branch_there, GoodStatements, no_statements, one_statement, GoodArm, arm_there, GoodElse, no_more_arms, else_if_there, else_there, GoodConfig}
+use Rattle.config_again.proofs.Good.{AllOf, all_of_both, GoodStatement, Lawful, GoodValue, good_text, good_number, good_nested, good_array, good_hash, GoodItems, no_items, item, GoodEntries, no_entries, entry, GoodPlugin, good_plugin, GoodPlugins, no_plugins, one_plugin, plugin_there, branch_there, GoodStatements, no_statements, one_statement, GoodArm, arm_there, GoodElse, no_more_arms, else_if_there, else_there, GoodConfig}
 use Rattle.config_again.proofs.GoodStatements.{config_good}
 use Rattle.config_again.proofs.Names.{word_spelled, name_reads, plugin_reads}
 
@@ -129,3 +130,69 @@ pub reads_again : (d : ℕ) (ts : List Token) (config : Config) → g.ReadsConfi
 reads_again d ts config p =
     let law : Lawful (λ y. Unit {0}) = record { sign = λ y h. tt; text = λ a h. tt; word = λ a h. tt; number = λ n s h. tt; number_key = λ n s h. tt; name = λ y k e h. tt; plugin = λ y k e h. tt } in
     again_config (λ y. Unit {0}) d config (config_good (λ y. Unit {0}) law d ts config p (all_pass ts))
+
+-- and its tokens pass the test
+module _ (Ok : Token → Type 0) (law : Lawful Ok) where
+  braced : Ok t.CloseBrace
+  braced = law.sign t.CloseBrace refl
+
+  mutual
+    value_passes : {d : ℕ} {x : SettingValue} → GoodValue Ok d x → AllOf Ok (value_tokens x)
+    value_passes (good_text {s} o) = subst (AllOf Ok) (sym (text_is s)) (o, tt)
+    value_passes (good_number {n} o) = subst (AllOf Ok) (sym (number_is n)) (o, tt)
+    value_passes (good_nested {name} {es} o p f) = subst (AllOf Ok) (sym (nested_is (plugin_of name es))) (o, (law.sign t.OpenBrace refl, settings_pass p))
+    value_passes (good_array {xs} p) = subst (AllOf Ok) (sym (array_is xs)) (law.sign t.OpenBracket refl, items_pass p)
+    value_passes (good_hash {es} p f) = subst (AllOf Ok) (sym (hash_is es)) (law.sign t.OpenBrace refl, pairs_pass p)
+
+    items_pass : {d : ℕ} {xs : List SettingValue} → GoodItems Ok d xs → AllOf Ok (items_tokens (map value_tokens xs))
+    items_pass no_items = (law.sign t.CloseBracket refl, tt)
+    items_pass (item {x} {xs} h p) = all_of_both Ok (value_tokens x) (more_tokens (map value_tokens xs)) (value_passes h) (more_pass p)
+
+    more_pass : {d : ℕ} {xs : List SettingValue} → GoodItems Ok d xs → AllOf Ok (more_tokens (map value_tokens xs))
+    more_pass no_items = (law.sign t.CloseBracket refl, tt)
+    more_pass (item {x} {xs} h p) = (law.sign t.Comma refl, all_of_both Ok (value_tokens x) (more_tokens (map value_tokens xs)) (value_passes h) (more_pass p))
+
+    pairs_pass : {d : ℕ} {es : Entries} → GoodEntries Ok false d es → AllOf Ok (pairs_tokens (entries_tokens es))
+    pairs_pass no_entries = (braced, tt)
+    pairs_pass (entry {k} {x} {es} o h p) = (o, (law.sign t.Arrow refl, all_of_both Ok (value_tokens x) (pairs_tokens (entries_tokens es)) (value_passes h) (pairs_pass p)))
+
+    settings_pass : {d : ℕ} {es : Entries} → GoodEntries Ok true d es → AllOf Ok (settings_tokens (entries_tokens es))
+    settings_pass no_entries = (braced, tt)
+    settings_pass (entry {k} {x} {es} o h p) = (o, (law.sign t.Arrow refl, all_of_both Ok (value_tokens x) (settings_tokens (entries_tokens es)) (value_passes h) (settings_pass p)))
+
+  plugin_passes : {d : ℕ} {x : Plugin} → GoodPlugin Ok d x → AllOf Ok (plugin_tokens x)
+  plugin_passes (good_plugin o p f) = (o, (law.sign t.OpenBrace refl, settings_pass p))
+
+  mutual
+    statement_passes : {d : ℕ} {x : Statement} → GoodStatement Ok d x → AllOf Ok (statement_tokens x)
+    statement_passes (plugin_there {x} p) = subst (AllOf Ok) (sym (plugin_is x)) (plugin_passes p)
+    statement_passes (branch_there {x} {arms} p q) = subst (AllOf Ok) (sym (branch_is (x ∷ arms))) (all_of_both Ok (arm x) (else_tokens (map arm arms)) (arm_passes p) (else_passes q))
+
+    statements_pass : {d : ℕ} {xs : List Statement} → GoodStatements Ok d xs → AllOf Ok (statements_tokens (map statement_tokens xs))
+    statements_pass no_statements = (braced, tt)
+    statements_pass (one_statement {x} {xs} p q) = all_of_both Ok (statement_tokens x) (statements_tokens (map statement_tokens xs)) (statement_passes p) (statements_pass q)
+
+    arm_passes : {d : ℕ} {x : Arm} → GoodArm Ok d x → AllOf Ok (arm x)
+    arm_passes (arm_there {x} {xs} p o q) = (law.sign (t.Word w.If) refl, all_of_both Ok (condition_tokens x 0) (block_tokens (map statement_tokens xs)) o (law.sign t.OpenBrace refl, statements_pass q))
+
+    else_passes : {d : ℕ} {arms : List Arm} → GoodElse Ok d arms → AllOf Ok (else_tokens (map arm arms))
+    else_passes no_more_arms = tt
+    else_passes (else_if_there {x} {arms} p q) = (law.sign (t.Word w.Else) refl, all_of_both Ok (arm x) (else_tokens (map arm arms)) (arm_passes p) (else_passes q))
+    else_passes (else_there {xs} q) = (law.sign (t.Word w.Else) refl, all_of_both Ok (block_tokens (map statement_tokens xs)) [] (law.sign t.OpenBrace refl, statements_pass q) tt)
+
+  plugins_pass : {d : ℕ} {xs : List Plugin} → GoodPlugins Ok d xs → AllOf Ok (statements_tokens (map plugin_tokens xs))
+  plugins_pass no_plugins = (braced, tt)
+  plugins_pass (one_plugin {x} {xs} p q) = all_of_both Ok (plugin_tokens x) (statements_tokens (map plugin_tokens xs)) (plugin_passes p) (plugins_pass q)
+
+  section_passes : (k : Section) (xs : List (List Token)) → AllOf Ok (statements_tokens xs) → AllOf Ok (section_tokens k xs)
+  section_passes k [] h = tt
+  section_passes k (x ∷ xs) h = (law.sign (t.Word (w.Section k)) refl, (law.sign t.OpenBrace refl, h))
+
+  -- each token that is printed passes
+  pub config_passes : (d : ℕ) (config : Config) → GoodConfig Ok d config → AllOf Ok (config_tokens config)
+  config_passes zero config h = subst (λ k. AllOf Ok (config_tokens k)) (sym h) tt
+  config_passes (suc d) config h =
+      all_of_both Ok (section_tokens kind.Input (map plugin_tokens config.inputs)) (section_tokens kind.Filter (map statement_tokens config.filters) ++ section_tokens kind.Output (map statement_tokens config.outputs))
+      (section_passes kind.Input (map plugin_tokens config.inputs) (plugins_pass h.0))
+      (all_of_both Ok (section_tokens kind.Filter (map statement_tokens config.filters)) (section_tokens kind.Output (map statement_tokens config.outputs))
+      (section_passes kind.Filter (map statement_tokens config.filters) (statements_pass h.1)) (section_passes kind.Output (map statement_tokens config.outputs) (statements_pass h.2)))

@@ -1,11 +1,9 @@
 -- What the lexer takes for a token can be written again.
-use Rattle.std.proofs.Common.{◌≡◌, ℕ, zero, suc, ◌+◌, ◌==◌, ◌&&◌, ◌||◌, ◌⊎◌, inl, inr, not, List, [], ◌∷◌, ◌++◌, map, length, take, drop, Option, Some, None, option_map, Bool, true, false, if◌then◌else◌, refl, ap, sym, subst, ◌∙◌, arith, nat_eq}
+use Rattle.std.proofs.Common.{◌≡◌, ℕ, suc, ◌+◌, ◌==◌, ◌&&◌, ◌||◌, not, List, [], ◌∷◌, ◌++◌, length, take, drop, Option, Some, None, option_map, Bool, true, false, if◌then◌else◌, refl, ap, sym, subst, ◌∙◌, arith, nat_eq}
 use Rattle.std.specs.List.{list_all, list_any}
 use Rattle.std.proofs.lemmas.Bool.Decides.{nat_tests}
-use Rattle.std.proofs.lemmas.Bool.{eqb-true}
 use Rattle.std.proofs.Math.Seq.{take-append_seam}
 use Rattle.event_tree.specs.Number.{Num}
-use Rattle.event_tree.specs.NumberTexts.{is_digit}
 use Rattle.event_json.specs.Json.{number_text}
 use Rattle.config_grammar.specs.declared.token.Token.{Token}
 use Rattle.config_grammar.specs.declared.token.Token.TheVariants as t
@@ -18,9 +16,9 @@ use Rattle.config_grammar.specs.declared.token.Comparison.TheVariants as is
 use Rattle.config_grammar.specs.declared.token.Matching.TheVariants as matching
 use Rattle.config_grammar.specs.declared.context.Context.{Context}
 use Rattle.config_grammar.specs.Bytes.{run, skip, closing, unescaped, is_letter, is_in_word, number_length, number_of, begins_number}
-use Rattle.config_grammar.specs.Words.{spelling, bareword, setting_name, plugin_name}
+use Rattle.config_grammar.specs.Words.{spelling, setting_name, plugin_name}
 use Rattle.config_grammar.specs.Lexemes.{Found, word_of, word_token, word_at, number_at, quoted_at, regexp_at, bracket_at, selector_of, parts_at, begins_literals, sign_at, double, single, longer, token_at}
-use Rattle.config_again.specs.Tokens.{is_bare, name_token, plugin_token}
+use Rattle.config_again.specs.Tokens.{is_bare, name_token}
 use Rattle.config_again.proofs.Good.{is_sign, Lawful}
 use Rattle.config_again.proofs.Names.{word_spelled}
 use Rattle.config_text.specs.Tokens.{is_word}
@@ -67,7 +65,7 @@ word_bare [] h u = absurd (cc)
 word_bare (b ∷ s) h u =
     let l = and_l (is_letter b) (list_all (is_in_word true) s) h in
     both_true (is_letter b) (list_all (is_in_word false) s) l
-      (in_word_bare s (and_r (is_letter b) (list_all (is_in_word true) s) h) (sym (ap (λ z. z || list_any (λ b. nat_eq b 45) s) (letter_no_dash b l)) ∙ u))
+    (in_word_bare s (and_r (is_letter b) (list_all (is_in_word true) s) h) (sym (ap (λ z. z || list_any (λ b. nat_eq b 45) s) (letter_no_dash b l)) ∙ u))
 
 pub spelled : (s : List ℕ) → spelling (word_of s) ≡ s
 spelled s = let h : Some (spelling (word_of s)) ≡ Some s = word_spelled s in cc
@@ -205,7 +203,7 @@ bracket_found operand b s = either Found_fits (operand && not (begins_literals (
     selector e =
         let one : suc (skip false s) ≡ 1 + skip false s = omega arith in
         selector_found (b ∷ s) (parts_at (length (b ∷ s)) [] (b ∷ s)) refl
-          (ap (λ k. begins_literals (drop k (b ∷ s))) one ∙ not_true (begins_literals (drop (1 + skip false s) (b ∷ s))) (and_r operand (not (begins_literals (drop (1 + skip false s) (b ∷ s)))) e))
+        (ap (λ k. begins_literals (drop k (b ∷ s))) one ∙ not_true (begins_literals (drop (1 + skip false s) (b ∷ s))) (and_r operand (not (begins_literals (drop (1 + skip false s) (b ∷ s)))) e))
 
 abbrev Sign : Option Token → Type 0
 Sign None = Unit {0}
@@ -268,6 +266,6 @@ unfolding token_at
 found_fits x [] = tt
 found_fits x (b ∷ s) =
     either Found_fits (is_letter b) (word_at x.in_condition (b ∷ s)) (behind_letters x b s) (λ e. word_token_fits (take (run (is_in_word (not x.in_condition)) (b ∷ s)) (b ∷ s)) (word_taken (not x.in_condition) b s e))
-      (λ e. either Found_fits (begins_number (b ∷ s)) (number_at (b ∷ s)) (behind_numbers x b s) (λ e. number_found (b ∷ s))
-        (λ e. either Found_fits (b == 34 || b == 39) (quoted_at b s) (behind_strings x b s) (λ e. quoted_found b s e)
-          (λ e. either Found_fits (b == 47) (regexp_at s) (behind_regexps x b s) (λ e. regexp_found s) (λ e. either Found_fits (b == 91) (bracket_at x.at_operand (b ∷ s)) (sign_at (b ∷ s)) (λ e. bracket_found x.at_operand b s) (λ e. sign_found (b ∷ s))))))
+    (λ e. either Found_fits (begins_number (b ∷ s)) (number_at (b ∷ s)) (behind_numbers x b s) (λ e. number_found (b ∷ s))
+    (λ e. either Found_fits (b == 34 || b == 39) (quoted_at b s) (behind_strings x b s) (λ e. quoted_found b s e)
+    (λ e. either Found_fits (b == 47) (regexp_at s) (behind_regexps x b s) (λ e. regexp_found s) (λ e. either Found_fits (b == 91) (bracket_at x.at_operand (b ∷ s)) (sign_at (b ∷ s)) (λ e. bracket_found x.at_operand b s) (λ e. sign_found (b ∷ s))))))

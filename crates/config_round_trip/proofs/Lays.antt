@@ -1,5 +1,5 @@
 -- A text that has these tokens, one behind the other with blanks between, is lexed to them.
-use Rattle.std.proofs.Common.{◌≡◌, ℕ, zero, suc, ◌+◌, ◌-◌, ◌≤◌, ◌<◌, ◌==◌, ◌&&◌, ◌||◌, ◌⊎◌, inl, inr, not, List, [], ◌∷◌, ◌++◌, length, take, drop, Option, Some, None, option_map, Bool, true, false, if◌then◌else◌, refl, ap, sym, subst, ◌∙◌, arith, append_assoc, length-append, nat_eq, codes}
+use Rattle.std.proofs.Common.{◌≡◌, ℕ, zero, suc, ◌+◌, ◌≤◌, ◌==◌, ◌&&◌, ◌||◌, ◌⊎◌, inl, inr, not, List, [], ◌∷◌, ◌++◌, length, take, drop, Some, None, option_map, Bool, true, false, if◌then◌else◌, refl, ap, sym, subst, ◌∙◌, arith, append_assoc, length-append, nat_eq, codes}
 use Rattle.std.specs.List.{list_all, list_any}
 use Rattle.std.proofs.lemmas.Bool.Decides.{nat_tests}
 use Rattle.std.proofs.Math.Seq.{take-append_seam, drop-append_seam}
@@ -10,21 +10,20 @@ use Rattle.event_json.specs.Json.{number_text}
 use Rattle.config_grammar.specs.declared.token.Token.{Token}
 use Rattle.config_grammar.specs.declared.token.Token.TheVariants as t
 use Rattle.config_grammar.specs.declared.token.Word.{Word}
-use Rattle.config_grammar.specs.declared.token.Word.TheVariants as w
 use Rattle.config_grammar.specs.declared.token.Comparison.{Comparison}
 use Rattle.config_grammar.specs.declared.token.Comparison.TheVariants as is
 use Rattle.config_grammar.specs.declared.token.Matching.{Matching}
 use Rattle.config_grammar.specs.declared.token.Matching.TheVariants as matching
 use Rattle.config_grammar.specs.declared.context.Context.{Context}
-use Rattle.config_grammar.specs.Bytes.{run, skip, closing, unescaped, is_blank, is_letter, is_in_word, number_length, number_of, begins_number}
+use Rattle.config_grammar.specs.Bytes.{skip, unescaped, is_blank, is_letter, is_in_word, number_of, begins_number}
 use Rattle.config_grammar.specs.Words.{spelling}
-use Rattle.config_grammar.specs.Lexemes.{Found, start, after_token, word_of, word_token, word_at, number_at, quoted_at, regexp_at, bracket_at, selector_of, selector_length, parts_at, begins_literals, sign_at, double, single, longer, token_at, tokens}
+use Rattle.config_grammar.specs.Lexemes.{start, after_token, word_of, word_token, word_at, number_at, quoted_at, regexp_at, bracket_at, selector_of, selector_length, parts_at, begins_literals, sign_at, double, single, longer, token_at, tokens}
 use Rattle.config_again.proofs.Good.{AllOf}
 use Rattle.config_text.specs.Tokens.{is_word, has_quote, quote_of, string, escaped, regexp}
 use Rattle.config_round_trip.proofs.Placed.{Suits, Placed, first_literal}
-use Rattle.config_round_trip.proofs.Strings.{Between, printed_closes, ends_escaped, regexp_closes, unescaped_again, and_none}
-use Rattle.config_round_trip.proofs.Words.{and_l, and_r, both_true, letter_in_word, Apart, blank_case, word_run, in_word_more, parts_again, PartsFit, SelectorFits, opens_list, bare_start}
-use Rattle.config_round_trip.proofs.Numbers.{IsHeld, Lexes, number_lexes}
+use Rattle.config_round_trip.proofs.Strings.{printed_closes, regexp_closes, unescaped_again, and_none}
+use Rattle.config_round_trip.proofs.Words.{and_l, and_r, both_true, letter_in_word, Apart, blank_case, word_run, parts_again, opens_list}
+use Rattle.config_round_trip.proofs.Numbers.{IsHeld, number_lexes}
 use Rattle.config_round_trip.proofs.Fit.{Fit, word_more, behind_letters, behind_numbers}
 use Rattle.config_round_trip.proofs.Scan.{scan, scan_next, scanned, drop_nil, tokens_scanned}
 
@@ -173,7 +172,7 @@ selector_reads x (p ∷ ps) rest h e u =
     let same : v ≡ p ++ 93 ∷ (bracketed ps ++ rest) = append_assoc p (93 ∷ bracketed ps) rest in
     let one : 1 + skip false v ≡ suc (skip false v) = omega arith in
     let opens : begins_literals (drop (1 + skip false v) (91 ∷ v)) ≡ false =
-          ap (λ k. begins_literals (drop k (91 ∷ v))) one ∙ ap (λ l. begins_literals (drop (skip false l) l)) same ∙ opens_list p (bracketed ps ++ rest) h.0.0.0 ∙ ap not h.1 in
+    ap (λ k. begins_literals (drop k (91 ∷ v))) one ∙ ap (λ l. begins_literals (drop (skip false l) l)) same ∙ opens_list p (bracketed ps ++ rest) h.0.0.0 ∙ ap not h.1 in
     bracket_there x v ∙ ap (λ z. bracket_at z (91 ∷ v)) e
     ∙ ap (λ z. if not z then selector_of (parts_at (length (91 ∷ v)) [] (91 ∷ v)) else Some (t.OpenBracket, 1)) opens
     ∙ ap selector_of (parts_again (length (91 ∷ v)) [] (p ∷ ps) rest (parts_short (p ∷ ps) rest) h.0 u)

@@ -5,3 +5,5 @@ pub mod Numbers
 pub mod Fit
 pub mod Scan
 pub mod Lays
+pub mod Printed
+pub mod RoundTrip

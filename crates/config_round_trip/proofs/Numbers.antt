@@ -1,10 +1,9 @@
 -- The text of a number is read as that number.
-use Rattle.std.proofs.Common.{◌≡◌, ℕ, zero, suc, ◌+◌, ◌-◌, ◌*◌, ◌/◌, ◌%◌, ◌^◌, ◌<◌, ◌≤◌, ◌==◌, ◌&&◌, ◌||◌, ◌⊎◌, inl, inr, not, nat_le, ℤ, pos, negsuc, unsigned_abs, List, [], ◌∷◌, ◌++◌, length, take, drop, Option, Some, None, option_and_then, Bool, true, false, if◌then◌else◌, refl, ap, sym, subst, ◌∙◌, arith, append_assoc, length-append, eqb-true}
+use Rattle.std.proofs.Common.{◌≡◌, ℕ, zero, suc, ◌+◌, ◌-◌, ◌*◌, ◌/◌, ◌%◌, ◌^◌, ◌<◌, ◌≤◌, ◌==◌, ◌&&◌, ◌||◌, ◌⊎◌, inl, inr, nat_le, ℤ, pos, negsuc, unsigned_abs, List, [], ◌∷◌, ◌++◌, length, take, drop, Some, None, option_and_then, Bool, true, false, if◌then◌else◌, refl, ap, sym, subst, ◌∙◌, arith, append_assoc, length-append, eqb-true}
 use Rattle.std.specs.Prelude.{decimal, int_rem, int_div}
 use Rattle.std.specs.Ordering.{int_eq}
 use Rattle.std.specs.List.{list_all}
 use Rattle.std.proofs.lemmas.Int.{ints}
-use Rattle.std.proofs.lemmas.Bool.{false_from_ne_true}
 use Rattle.std.proofs.lemmas.Bool.Decides.{nat_tests, Decides-int_eq}
 use Rattle.std.proofs.lemmas.List.{append-nil, take-append-drop, length-drop, length-take}
 use Rattle.std.proofs.Math.Seq.{take-append_seam, drop-append_seam, take-length, drop-length}
@@ -293,7 +292,7 @@ places_kept negative w f n k held is value long = at held.0.trimmed
     at (inl z) = no_places f (long ∙ z)
     at (inr g) =
         kept (number 0 w) f (λ e. let r : k % 10 ≡ 0 = ap (λ x. x % 10) (sym value) ∙ e in
-          differ (sym g ∙ (Decides-int_eq (int_rem n.mantissa (pos 10)) (pos 0)).1 (ap (λ z. int_rem z (pos 10)) is ∙ signed_rem negative k r)))
+        differ (sym g ∙ (Decides-int_eq (int_rem n.mantissa (pos 10)) (pos 0)).1 (ap (λ z. int_rem z (pos 10)) is ∙ signed_rem negative k r)))
 
 first_of : (w : List ℕ) → 0 < length w → (d : ℕ) × (ds : List ℕ) × (w ≡ d ∷ ds)
 first_of [] h = absurd (omega arith)
@@ -364,7 +363,13 @@ read true d w f rest h u r =
 read false d w f rest h u r =
     let digit = and_l (is_digit d) (list_all is_digit w) h in
     record {
-      first = d; more = w ++ dotted f; is = refl; no_letter = no_letter_digit d digit; begins = begins_plain d w ((w ++ dotted f) ++ rest) digit; goes = plain_part d w f rest h u r; value = plain_value d w f h;
+      first = d;
+      more = w ++ dotted f;
+      is = refl;
+      no_letter = no_letter_digit d digit;
+      begins = begins_plain d w ((w ++ dotted f) ++ rest) digit;
+      goes = plain_part d w f rest h u r;
+      value = plain_value d w f h;
       starts = or_true (is_digit d) (d == 45) digit;
     }
 
@@ -373,7 +378,10 @@ number_lexes n rest held apart =
     let s = shape_of n held in
     let r = read s.negative s.first s.whole s.places rest s.whole_digits s.places_digits apart in
     record {
-      first = r.first; more = r.more; is = s.is ∙ r.is; no_letter = r.no_letter;
+      first = r.first;
+      more = r.more;
+      is = s.is ∙ r.is;
+      no_letter = r.no_letter;
       begins = ap (λ l. begins_number (l ++ rest)) s.is ∙ r.begins;
       goes = ap (λ l. number_length (l ++ rest)) s.is ∙ r.goes ∙ ap length (sym s.is);
       value = ap number_of s.is ∙ r.value ∙ s.value;
@@ -420,4 +428,4 @@ point_plain (b ∷ s) = at (b == 46 && begins_digit s) refl
 pub number_plain : (s : List ℕ) → ArePlain (take (number_length s) s)
 number_plain s =
     plain_both (whole_length s) (point_length (drop (whole_length s) s)) s
-      (plain_both (sign_length s) (run is_digit (drop (sign_length s) s)) s (sign_plain s) (digits_plain (drop (sign_length s) s))) (point_plain (drop (whole_length s) s))
+    (plain_both (sign_length s) (run is_digit (drop (sign_length s) s)) s (sign_plain s) (digits_plain (drop (sign_length s) s))) (point_plain (drop (whole_length s) s))

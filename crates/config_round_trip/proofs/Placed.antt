@@ -1,5 +1,5 @@
 -- In a configuration each token stands where the lexer takes it for what it is.
-use Rattle.std.proofs.Common.{◌≡◌, ℕ, suc, List, [], ◌∷◌, ◌++◌, Option, Some, None, Bool, true, false, ◌||◌, ◌⊎◌, inl, inr, refl, ap, sym, subst, ◌∙◌}
+use Rattle.std.proofs.Common.{◌≡◌, ℕ, List, [], ◌∷◌, ◌++◌, Some, Bool, true, false, ◌⊎◌, inl, inr, refl, ap, sym, subst}
 use Rattle.config_grammar.specs.declared.token.Token.{Token}
 use Rattle.config_grammar.specs.declared.token.Token.TheVariants as t
 use Rattle.config_grammar.specs.declared.token.Word.{Word}
@@ -148,13 +148,13 @@ mutual
   pairs_at g.no_pair x h = ((tt, tt), closed x h)
   pairs_at (g.pair {k} {y} {a} {b} e u p q) x h =
       free x (after_token x y) (before_branch false) y (t.Arrow ∷ (a ++ b)) (key_suits x y k (t.Arrow ∷ (a ++ b)) e) refl
-        (free (after_token x y) (plain false) (before_branch false) t.Arrow (a ++ b) tt refl (value_then (plain false) a b (before_branch false) (value_at p) (λ z r. pairs_at q z r)))
+      (free (after_token x y) (plain false) (before_branch false) t.Arrow (a ++ b) tt refl (value_then (plain false) a b (before_branch false) (value_at p) (λ z r. pairs_at q z r)))
 
   settings_at : {d : ℕ} {front : Entries} {ts : List Token} {es : Entries} → g.ReadsSettings d front ts es → (x : Context) → Calm x → At x ts (before_branch false)
   settings_at g.no_setting x h = ((tt, tt), closed x h)
   settings_at (g.setting {k} {y} {a} {b} e p q) x h =
       free x (after_token x y) (before_branch false) y (t.Arrow ∷ (a ++ b)) (name_suits x y k (t.Arrow ∷ (a ++ b)) h e) refl
-        (free (after_token x y) (plain false) (before_branch false) t.Arrow (a ++ b) tt refl (value_then (plain false) a b (before_branch false) (value_at p) (λ z r. settings_at q z r)))
+      (free (after_token x y) (plain false) (before_branch false) t.Arrow (a ++ b) tt refl (value_then (plain false) a b (before_branch false) (value_at p) (λ z r. settings_at q z r)))
 
 -- in a condition
 abbrev operand : Context
@@ -231,7 +231,7 @@ plugin_suits x y k us h e = absurd (cc)
 plugin_at : {d : ℕ} {ts : List Token} {p : Plugin} → g.ReadsPlugin d ts p → At lines ts lines
 plugin_at (g.plugin {name} {y} {a} e q) =
     free lines (after_token lines y) lines y (t.OpenBrace ∷ a) (plugin_suits lines y name (t.OpenBrace ∷ a) (refl, refl) e) refl
-      (free (after_token lines y) lines lines t.OpenBrace a tt refl (settings_at q lines (refl, refl)))
+    (free (after_token lines y) lines lines t.OpenBrace a tt refl (settings_at q lines (refl, refl)))
 
 mutual
   statements_at : {d : ℕ} {front xs : List Statement} {ts : List Token} → g.ReadsStatements d front ts xs → At lines ts lines

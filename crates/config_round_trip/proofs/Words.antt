@@ -1,5 +1,5 @@
 -- Words and selectors.
-use Rattle.std.proofs.Common.{◌≡◌, ℕ, zero, suc, ◌+◌, ◌≤◌, ◌<◌, ◌==◌, ◌&&◌, ◌||◌, not, List, [], ◌∷◌, ◌++◌, length, take, drop, Option, Some, None, Bool, true, false, if◌then◌else◌, refl, ap, sym, subst, ◌∙◌, arith, nat_eq, append_assoc}
+use Rattle.std.proofs.Common.{◌≡◌, ℕ, zero, suc, ◌+◌, ◌≤◌, ◌==◌, ◌&&◌, ◌||◌, not, List, [], ◌∷◌, ◌++◌, length, take, drop, Option, Some, None, Bool, true, false, if◌then◌else◌, refl, ap, sym, subst, ◌∙◌, arith, nat_eq, append_assoc}
 use Rattle.std.specs.List.{list_all, list_any}
 use Rattle.std.proofs.lemmas.Bool.Decides.{nat_tests}
 use Rattle.std.proofs.lemmas.Bool.{eqb-true}
@@ -215,7 +215,7 @@ part_from (b ∷ s) k h = at (b == 91 && not (run is_in_part s == 0) && begins 9
         let some = not_true (m == 0) (and_r (b == 91) (not (m == 0)) (and_l (b == 91 && not (m == 0)) (begins 93 (drop m s)) is)) in
         let closed = begins_is 93 (drop m s) (and_r (b == 91 && not (m == 0)) (begins 93 (drop m s)) is) in
         let whole : b ∷ s ≡ 91 ∷ (take m s ++ 93 ∷ drop 1 (drop m s)) =
-              ap (λ c. c ∷ s) (eqb-true b 91 (and_l (b == 91) (not (m == 0)) (and_l (b == 91 && not (m == 0)) (begins 93 (drop m s)) is))) ∙ ap (λ r. 91 ∷ r) (sym (take-append-drop m s) ∙ ap (λ r. take m s ++ r) closed) in
+        ap (λ c. c ∷ s) (eqb-true b 91 (and_l (b == 91) (not (m == 0)) (and_l (b == 91 && not (m == 0)) (begins 93 (drop m s)) is))) ∙ ap (λ r. 91 ∷ r) (sym (take-append-drop m s) ∙ ap (λ r. take m s ++ r) closed) in
         let fits : PartFits (take m s) = (run_passes is_in_part s, ap (λ n. n == 0) (run_length is_in_part s) ∙ some) in
         subst (λ (n : ℕ). PartRead (b ∷ s) n) same (record { rest = drop 1 (drop m s); whole = whole; fits = fits })
 

@@ -1,6 +1,6 @@
-//! A configuration that is printed reads as itself.
+//! A configuration that was read and is printed reads as itself.
 #![tactic(auto)]
 
 mod laws;
 
-pub use laws::nothing;
+pub use laws::printed_text_reads;

@@ -1,1 +1,0 @@
--- none yet
