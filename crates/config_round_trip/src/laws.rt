@@ -1,0 +1,4 @@
+//! The laws, each the contract of a function that does nothing.
+
+/// Nothing yet.
+pub fn nothing() {}
