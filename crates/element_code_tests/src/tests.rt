@@ -127,8 +127,8 @@ fn nested(alloc: Global, level: &[u8], levels: usize) -> Result<Vec<u8>, AllocEr
 /// Level 128 opens at this place, and can't stand there, whether or not its count is there.
 fn has_a_level_too_many(rt: &impl Abort, alloc: Global, bytes: &[u8], at: usize) {
     assert_eq!(rt; place(alloc, bytes), Some(at));
-    assert_eq!(rt; place(alloc, &bytes[..at]), Some(at));
     if at < bytes.len() {
+        assert_eq!(rt; place(alloc, &bytes[..at]), Some(at));
         assert_eq!(rt; place(alloc, &bytes[..=at]), Some(at));
     }
 }
