@@ -13,7 +13,7 @@ use Rattle.outside.specs.declared.sources.Step.TheVariants.{NotYet as NoneYet, E
 use Rattle.memory_outside.specs.Scripts.{waits_next}
 use Rattle.memory_outside.specs.Sources.{written_over}
 use Rattle.memory_outside.specs.Links.{Linking, fresh, state_of, with_state, left_of, bytes_left, without, first_from, taken_off, found, step_of, shut, after_read, after_step}
-use Rattle.memory_outside.specs.declared.memory_links.State.{State}
+use Rattle.memory_outside.specs.declared.memory_links.ConnState.{ConnState}
 use Rattle.memory_outside.proofs.Pieces.{none_left, others_left, next_taken, others_taken}
 
 pub some_same : {a b : List ℕ} → Some a ≡ Some b → a ≡ b
@@ -34,7 +34,7 @@ pub others_of_shut : (s : Linking) (conn other : ℕ) → other ≢ conn → lef
 others_of_shut s conn other differ = λ i. if (get_or-set_other s.came conn other (record (state_of s conn) { is_open = false }) fresh differ i).is_open then others_left conn other s.left differ i else []
 
 -- a change of its counts leaves of each connection what was left
-pub same_counted : (s : Linking) (conn other : ℕ) (state : State) → conn < length s.came → state.is_open ≡ (state_of s conn).is_open → left_of (with_state s conn state) other ≡ left_of s other
+pub same_counted : (s : Linking) (conn other : ℕ) (state : ConnState) → conn < length s.came → state.is_open ≡ (state_of s conn).is_open → left_of (with_state s conn state) other ≡ left_of s other
 same_counted s conn other state inside same = same_either (cases_eq other conn)
   where
     same_either : (other ≡ conn) ⊎ (other ≡ conn → ⊥) → left_of (with_state s conn state) other ≡ left_of s other

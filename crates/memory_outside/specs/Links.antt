@@ -11,7 +11,7 @@ use Rattle.outside.specs.declared.sources.Step.TheVariants.{NotYet as NoneYet, E
 use Rattle.memory_outside.specs.Gave.{piece_of}
 use Rattle.memory_outside.specs.Scripts.{Course, worked, failed, waited, waits_next}
 use Rattle.memory_outside.specs.declared.memory_links.Sent.{Sent}
-use Rattle.memory_outside.specs.declared.memory_links.State.{State}
+use Rattle.memory_outside.specs.declared.memory_links.ConnState.{ConnState}
 
 -- a piece with the number of its connection
 abbrev pub sent_of : Sent → ℕ × Piece
@@ -20,7 +20,7 @@ sent_of s = (s.conn, piece_of s.gave)
 -- how many connections come in all, those that came, the pieces that they gave, the pieces that are left, how often a look failed and found none, and the script
 pub record Linking : Type 0 where
   pub connections : ℕ
-  pub came : List State
+  pub came : List ConnState
   pub given : List (ℕ × Piece)
   pub left : List (ℕ × Piece)
   pub accept_faults : ℕ
@@ -28,15 +28,15 @@ pub record Linking : Type 0 where
   pub script : Course
 
 -- a connection of which nothing was read
-abbrev pub fresh : State
+abbrev pub fresh : ConnState
 fresh = record { is_open = true; faults = 0; waits = 0 }
 
 -- the state of a connection
-abbrev pub state_of : Linking → ℕ → State
+abbrev pub state_of : Linking → ℕ → ConnState
 state_of s conn = slice_index_or s.came conn fresh
 
 -- a connection has this state now
-abbrev pub with_state : Linking → ℕ → State → Linking
+abbrev pub with_state : Linking → ℕ → ConnState → Linking
 with_state s conn state = record s { came = slice_set s.came conn state }
 
 -- a piece that has bytes, or an end

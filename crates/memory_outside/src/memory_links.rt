@@ -21,12 +21,15 @@ pub struct Sent {
     pub gave: Gave,
 }
 
-// A connection that came: whether it is open, with its counts.
-#[derive(Clone, Copy)]
-pub struct State {
-    is_open: bool,
-    faults: u64,
-    waits: u64,
+/// How a connection in memory stands.
+#[derive(Clone, Copy, Debug, PartialEq, Eq)]
+pub struct ConnState {
+    /// Whether more may come: its end was not read, and it was not closed.
+    pub is_open: bool,
+    /// How often a read of it failed.
+    pub faults: u64,
+    /// How often a read of it found nothing yet.
+    pub waits: u64,
 }
 
 /// Connections in memory, which tell what they hold.
@@ -36,7 +39,7 @@ pub struct State {
 #[derive(Drop)]
 pub struct MemoryLinks {
     connections: u32,
-    came: Vec<State>,
+    came: Vec<ConnState>,
     given: Vec<Sent>,
     left: VecDeque<Sent>,
     accept_faults: u64,
@@ -81,6 +84,13 @@ impl MemoryLinks {
         }
     }
 
+    /// How many connections came.
+    pub fn came(&self) -> u64
+        ensures { result ≡ length self.now.came }
+    {
+        self.came.len() as u64
+    }
+
     /// The pieces that the connections gave, in their order.
     pub fn given(&self) -> &[Sent]
         ensures { map sent_of result.now ≡ self.now.given }
@@ -109,18 +119,18 @@ impl MemoryLinks {
         self.accept_waits
     }
 
-    /// How often a read of a connection failed; 0 where it didn't come.
-    pub fn faults(&self, conn: u32) -> u64
-        ensures { result ≡ (state_of self.now conn).faults }
+    /// How a connection stands. One that didn't come is open and has no counts.
+    pub fn state(&self, conn: u32) -> ConnState
+        ensures { result ≡ state_of self.now conn }
     {
-        self.state(conn).faults
-    }
-
-    /// How often a read of a connection found nothing yet; 0 where it didn't come.
-    pub fn waits(&self, conn: u32) -> u64
-        ensures { result ≡ (state_of self.now conn).waits }
-    {
-        self.state(conn).waits
+        match self.came.get(conn as usize) {
+            Some(state) => *state,
+            None => ConnState {
+                is_open: true,
+                faults: 0,
+                waits: 0,
+            },
+        }
     }
 
     /// Its script, which counts the calls but for those that close, the faults and the waits.
@@ -130,20 +140,7 @@ impl MemoryLinks {
         &self.script
     }
 
-    fn state(&self, conn: u32) -> State
-        ensures { result ≡ state_of self.now conn }
-    {
-        match self.came.get(conn as usize) {
-            Some(state) => *state,
-            None => State {
-                is_open: true,
-                faults: 0,
-                waits: 0,
-            },
-        }
-    }
-
-    fn set_state(&mut self, conn: u32, state: State)
+    fn set_state(&mut self, conn: u32, state: ConnState)
         ensures { self.new ≡ with_state self.old conn state }
     {
         if let Some(came) = self.came.get_mut(conn as usize) {
@@ -161,7 +158,7 @@ impl MemoryLinks {
         let state = self.state(conn);
         self.set_state(
             conn,
-            State {
+            ConnState {
                 faults: state.faults.saturating_add(1),
                 ..state
             },
@@ -179,7 +176,7 @@ impl MemoryLinks {
         let state = self.state(conn);
         self.set_state(
             conn,
-            State {
+            ConnState {
                 waits: state.waits.saturating_add(1),
                 ..state
             },
@@ -193,7 +190,7 @@ impl MemoryLinks {
         let state = self.state(conn);
         self.set_state(
             conn,
-            State {
+            ConnState {
                 is_open: false,
                 ..state
             },
@@ -339,7 +336,7 @@ impl MemoryLinks {
         if number >= self.connections as usize {
             return Ok(Come::Ended);
         }
-        let state = State {
+        let state = ConnState {
             is_open: true,
             faults: 0,
             waits: 0,

@@ -1,5 +1,5 @@
 // The connections that are open.
-ghost use Rattle.std.specs.Prelude.{◌≡◌, ◌≤◌, ◌<◌, [], ◌∷◌, ◌++◌, Ok, false, IfSome, OnOk, OnErr, map, length};
+ghost use Rattle.std.specs.Prelude.{◌≡◌, ◌≤◌, ◌<◌, [], ◌∷◌, ◌++◌, Ok, true, false, IfSome, OnOk, OnErr, map, length};
 ghost use Rattle.outside.specs.Pieces.{IfBytes};
 ghost use Rattle.real_outside.specs.Links.{counted, is_open, no_counts, open_of, others, place_from};
 
@@ -73,6 +73,7 @@ impl<S: Read + Drop> Connections<S> {
         ensures some { IfBytes result (λ n. 0 < length into.old → 0 < n) }
         ensures state { self.new ≡ counted conn result self.old }
         ensures closed { is_open conn self.old ≡ false → result ≡ Ok Step.End }
+        ensures room { is_open conn self.old ≡ true → result ≡ Ok Step.End → 0 < length into.old }
     {
         match place_of(&self.members, conn) {
             Some(place) => self.members[place].source.read(into),

@@ -1,4 +1,4 @@
-ghost use Rattle.std.specs.Prelude.{◌≡◌, ◌≤◌, ◌<◌, ◌+◌, ℕ, None, Ok, false, IsErr, OnOk, OnErr, [], ◌∷◌, ◌++◌, length};
+ghost use Rattle.std.specs.Prelude.{◌≡◌, ◌≤◌, ◌<◌, ◌+◌, ◌^◌, ℕ, None, Ok, true, false, IsErr, OnOk, OnErr, [], ◌∷◌, ◌++◌, length};
 ghost use Rattle.outside.specs.Connections.{OnCome, SameBut};
 ghost use Rattle.outside.specs.Counts.{HasCause};
 ghost use Rattle.outside.specs.Pieces.{IfBytes};
@@ -58,14 +58,14 @@ impl<R: Net> TcpLinks<R> {
     }
 
     /// How often a look failed.
-    pub fn faults(&self) -> u64
+    pub fn accept_faults(&self) -> u64
         ensures { result ≡ self.now.accepts.faults }
     {
         self.faults
     }
 
     /// How often a look found none yet.
-    pub fn waits(&self) -> u64
+    pub fn accept_waits(&self) -> u64
         ensures { result ≡ self.now.accepts.waits }
     {
         self.waits
@@ -102,12 +102,13 @@ impl<R: Net> Links for TcpLinks<R> {
 
     ghost waits = { λ s conn. (counts_of s conn).waits };
 
-    /// The next connection, to whose host and port it listens from the first look there on. A look
-    /// that would block (`ErrorKind::WouldBlock`), or that a signal cut short
-    /// (`ErrorKind::Interrupted`), found none yet; with any other error, and without memory for the
-    /// connection, it failed. After 2^32 connections no more come.
+    /// The next connection to a host and a port, on which it listens from the first look there on. A
+    /// look found none yet where none waits, where a signal cut it short, and where a connection broke
+    /// before it was taken; with any other error, and without memory for the connection, it failed.
+    /// After 2^32 connections no more come.
     fn accept(&mut self, host: &str, port: u16) -> Result<Come, Failed>
         ensures state { self.new ≡ after_accept self.old result }
+        ensures ended { result ≡ Ok Come.Ended → 2 ^ 32 ≤ self.old.came }
 
         // What all connections promise.
         ensures came { OnCome result (λ n. (n ≡ self.old.came) × (self.new.came ≡ self.old.came + 1)) (self.new.came ≡ self.old.came) }
@@ -120,16 +121,14 @@ impl<R: Net> Links for TcpLinks<R> {
         };
         match self.take(number, host, port) {
             Ok(()) => Ok(Come::Conn(number)),
-            Err(error) => match error.kind() {
-                ErrorKind::WouldBlock | ErrorKind::Interrupted => {
-                    self.waits = self.waits.saturating_add(1);
-                    Ok(Come::NotYet)
-                }
-                _ => {
-                    self.faults = self.faults.saturating_add(1);
-                    Err(Failed)
-                }
-            },
+            Err(error) if found_none(error.kind()) => {
+                self.waits = self.waits.saturating_add(1);
+                Ok(Come::NotYet)
+            }
+            Err(_) => {
+                self.faults = self.faults.saturating_add(1);
+                Err(Failed)
+            }
         }
     }
 
@@ -139,6 +138,7 @@ impl<R: Net> Links for TcpLinks<R> {
         requires { conn < self.old.came }
         ensures state { self.new ≡ record self.old { connections = counted conn result self.old.connections } }
         ensures closed { is_open conn self.old.connections ≡ false → result ≡ Ok Step.End }
+        ensures room { is_open conn self.old.connections ≡ true → result ≡ Ok Step.End → 0 < length into.old }
 
         // What all connections promise.
         ensures within { IfBytes result (λ n. n ≤ length into.old) }
@@ -161,4 +161,18 @@ impl<R: Net> Links for TcpLinks<R> {
     {
         self.connections.close(conn)
     }
+}
+
+// Whether a look that ended with such an error found no connection yet, and a later one may. Linux
+// hands on here what broke a connection before it was taken (accept(2), "Error handling").
+fn found_none(kind: ErrorKind) -> bool {
+    matches!(
+        kind,
+        ErrorKind::WouldBlock
+            | ErrorKind::Interrupted
+            | ErrorKind::ConnectionAborted
+            | ErrorKind::NetworkDown
+            | ErrorKind::NetworkUnreachable
+            | ErrorKind::HostUnreachable
+    )
 }

@@ -1,4 +1,4 @@
-use Rattle.std.proofs.Common.{◌≡◌, ap, sym, ◌∙◌, map, refl, rules}
+use Rattle.std.proofs.Common.{◌≡◌, ap, ◌∙◌, map, refl, rules}
 use Rattle.std.specs.Prelude.{filter, nat_eq, not}
 use Rattle.std.proofs.lemmas.Fn.{filter_same}
 use Rattle.real_outside.specs.Links.{open_of, others}
