@@ -1,0 +1,27 @@
+ghost use Rattle.std.specs.Prelude.{◌≡◌, ◌≤◌};
+ghost use Rattle.condition_eval.specs.Values as spec;
+
+use event_tree::Number;
+use std::cmp::Ordering;
+
+/// The order of two numbers.
+pub(crate) fn number_order(left: Number, right: Number) -> Ordering
+    ensures { result ≡ spec.number_order left right }
+{
+    let places = if left.scale() < right.scale() {
+        right.scale()
+    } else {
+        left.scale()
+    };
+    raised(left, places).cmp(&raised(right, places))
+}
+
+/// The mantissa of the number with so many places, of which it has no more.
+fn raised(number: Number, places: u8) -> i128
+    requires enough { number.scale ≤ places }
+    requires few { places ≤ 18 }
+    ensures { result ≡ spec.raised places number }
+{
+    let factor = 10u64.pow(u32::from(places - number.scale()));
+    i128::from(number.mantissa()) * i128::from(factor)
+}
