@@ -1,6 +1,6 @@
 -- What a pattern finds is what the pattern finds that the grammar reads from its text.
 use Rattle.std.proofs.Common.{◌≡◌, ℕ, ◌<◌, List, get_or, Bool, true, Option, None, Some, refl, sym, ap, ◌∙◌, subst}
-use Rattle.std.specs.Prelude.{chars, is_some, option_and_then, IsSomeAnd}
+use Rattle.std.specs.Prelude.{chars, is_some, option_and_then, option_map, IsSomeAnd}
 use Rattle.regex_hir.specs.Re.{Re}
 use Rattle.regex_hir.specs.Meaning.{meaning}
 use Rattle.regex_hir.specs.Find.{find_str}
@@ -23,3 +23,7 @@ found_where_read s text re hir names e bytes reads = with_found (read default_co
 
 pub found_by_pattern : (s text : List ℕ) (p : box.Pattern) → IsReadFrom s p → ((k : ℕ) → get_or text k 0 < 256) → is_some (find_str (pattern_re p) text 0) ≡ found_in s text
 found_by_pattern s text p h bytes = found_where_read s text (pattern_re p) h.1.0 h.1.1 h.1.3 bytes h.1.2
+
+pub is_some_mapped : {A B : Type 0} (f : A → B) (o : Option A) → is_some (option_map f o) ≡ is_some o
+is_some_mapped f None = refl
+is_some_mapped f (Some x) = refl

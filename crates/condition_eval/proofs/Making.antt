@@ -1,6 +1,8 @@
 -- The patterns that are made of a condition, part by part.
-use Rattle.std.proofs.Common.{◌≡◌, ℕ, suc, zero, ◌+◌, ◌-◌, ◌<◌, ◌≤◌, get_or, List, [], ◌∷◌, ◌++◌, length, drop, map, inl, inr, refl, sym, ap, subst, ◌∙◌, append_assoc, arith}
-use Rattle.std.proofs.lemmas.List.{append-nil, drop-drop, length-drop}
+use Rattle.std.proofs.Common.{◌≡◌, ℕ, suc, zero, ◌+◌, ◌-◌, ◌<◌, ◌≤◌, get_or, List, [], ◌∷◌, ◌++◌, length, drop, map, inl, inr, refl, sym, ap, subst, ◌∙◌, append_assoc, length-append, slice_set, take, arith}
+use Rattle.std.specs.Prelude.{Result, Ok, Err, OnOk, IfErr}
+use Rattle.std.proofs.lemmas.List.{append-nil, drop-drop, length-drop, length-map}
+use Rattle.std.proofs.Math.Seq.{take-append_seam}
 use Rattle.regex_hir.specs.Re.{Re}
 use Rattle.pattern_box.specs.Patterns.{pattern_re, pattern_groups, IsReadFrom}
 use Rattle.pattern_box.specs.declared.pattern.Pattern as box
@@ -9,6 +11,9 @@ use Rattle.condition_eval.specs.Made.{AreReadFrom, Added, OneIsRefused, BeginWit
 
 pub added_none : (ps : List box.Pattern) → Added [] ps ps
 added_none ps = record { more = []; whole = sym (append-nil ps); read = tt }
+
+pub none_added : (ss : List (List ℕ)) (ps : List box.Pattern) → ss ≡ [] → Added ss ps ps
+none_added ss ps e = subst (λ t. Added t ps ps) (sym e) (added_none ps)
 
 pub added_one : (s : List ℕ) (p : box.Pattern) (ps : List box.Pattern) → IsReadFrom s p → Added (s ∷ []) ps (ps ++ p ∷ [])
 added_one s p ps h = record { more = p ∷ []; whole = refl; read = (h, tt) }
@@ -30,6 +35,17 @@ refused_left fault (s ∷ a) b (inr h) = inr (refused_left fault a b h)
 pub refused_right : (fault : PatternFault) (a b : List (List ℕ)) → OneIsRefused fault b → OneIsRefused fault (a ++ b)
 refused_right fault [] b h = h
 refused_right fault (s ∷ a) b h = inr (refused_right fault a b h)
+
+pub added_then : (r : Result (Unit {0}) PatternFault) (a b x : List (List ℕ)) (ps qs rs : List box.Pattern) → x ≡ a ++ b → Added a ps qs → OnOk r (Added b qs rs) → OnOk r (Added x ps rs)
+added_then (Ok u) a b x ps qs rs e h k = subst (λ s. Added s ps rs) (sym e) (added_both a b ps qs rs h k)
+added_then (Err f) a b x ps qs rs e h k = tt
+
+pub refused_then : (r : Result (Unit {0}) PatternFault) (a b x : List (List ℕ)) → x ≡ a ++ b → IfErr r (λ fault. OneIsRefused fault b) → IfErr r (λ fault. OneIsRefused fault x)
+refused_then (Ok u) a b x e h = tt
+refused_then (Err f) a b x e h = subst (OneIsRefused f) (sym e) (refused_right f a b h)
+
+pub joint_refused : (fault : PatternFault) (a b x : List (List ℕ)) → x ≡ a ++ b → OneIsRefused fault a → OneIsRefused fault x
+joint_refused fault a b x e h = subst (OneIsRefused fault) (sym e) (refused_left fault a b h)
 
 pub begins_left : (a b : List (List ℕ)) (ps : List box.Pattern) → BeginWith (a ++ b) ps → BeginWith a ps
 begins_left [] b ps h = tt
@@ -109,3 +125,18 @@ pub first_read : (s : List ℕ) (at : ℕ) (ps : List box.Pattern) (p d : box.Pa
 first_read s at [] p d h e = absurd (subst (BeginWith (s ∷ [])) (drop_nothing at) h)
 first_read s zero (q ∷ ps) p d h e = subst (IsReadFrom s) (sym e) h.0
 first_read s (suc at) (q ∷ ps) p d h e = first_read s at ps p d h e
+
+pub past_next : (a b : List (List ℕ)) (at next bound : ℕ) (ps : List box.Pattern) → BeginWith (a ++ b) (drop at ps) → at < bound → length ps < bound → next ≡ at + length a → next + length b < bound
+past_next a b at next bound ps h l k n = omega (arith, past_fits (a ++ b) at bound ps h l k, length-append a b)
+
+pub set_same : (ps : List box.Pattern) (at : ℕ) (p q d : box.Pattern) → p ≡ get_or ps at d → meaning_of q ≡ meaning_of p → meanings (slice_set ps at q) ≡ meanings ps
+set_same [] at p q d e f = refl
+set_same (x ∷ ps) zero p q d e f = λ i. (f ∙ ap meaning_of e) i ∷ meanings ps
+set_same (x ∷ ps) (suc at) p q d e f = ap (λ ms. meaning_of x ∷ ms) (set_same ps at p q d e f)
+
+-- the patterns of a list whose slice was lent
+pub written_back : (ps qs new : List box.Pattern) → meanings new ≡ meanings qs → qs ≡ ps → meanings ps ≡ meanings (take (length ps) (new ++ drop (length new) ps))
+written_back ps qs new e is =
+    let l : length new ≡ length ps = sym (length-map new meaning_of) ∙ ap length e ∙ length-map qs meaning_of ∙ ap length is in
+    let whole : take (length ps) (new ++ drop (length new) ps) ≡ new = ap (λ n. take n (new ++ drop (length new) ps)) (sym l) ∙ take-append_seam new (drop (length new) ps) in
+    sym (ap meanings whole ∙ e ∙ ap meanings is)

@@ -1,6 +1,6 @@
 -- What operands are in an event, and how values are compared.
-use Rattle.std.specs.Prelude.{ℕ, max, ◌-◌, ◌^◌, ℤ, pos, ◌*ℤ◌, Bool, true, false, ◌||◌, List, [], ◌∷◌, map, nat_eq, Option, unwrap_or}
-use Rattle.std.specs.List.{starts_with, list_any}
+use Rattle.std.specs.Prelude.{ℕ, max, ◌-◌, ◌^◌, ℤ, pos, ◌*ℤ◌, Bool, true, false, ◌||◌, ◌&&◌, ◌==◌, List, [], ◌∷◌, map, Option, unwrap_or}
+use Rattle.std.specs.List.{list_any}
 use Rattle.std.specs.Ordering.{int_cmp}
 use Rattle.std.specs.declared.cmp.Ordering.{Ordering}
 use Rattle.plain_lists.specs.Keys.{text_cmp}
@@ -89,10 +89,16 @@ order_of x y = order_in (out-Value x) (out-Value y)
 abbrev pub is_among : Value → List Value → Bool
 is_among x ys = list_any (are_equal x) ys
 
+-- whether the text begins with the part
+abbrev pub begins : List ℕ → List ℕ → Bool
+begins [] text = true
+begins (p ∷ part) [] = false
+begins (p ∷ part) (b ∷ text) = p == b && begins part text
+
 -- whether the text holds the part
 unfoldable pub holds : List ℕ → List ℕ → Bool
-holds part [] = starts_with nat_eq [] part
-holds part (b ∷ bs) = starts_with nat_eq (b ∷ bs) part || holds part bs
+holds part [] = begins part []
+holds part (b ∷ text) = begins part (b ∷ text) || holds part text
 
 abbrev pub part_in : List ℕ → Value-F Value → Bool
 part_in text Value-F.Null = false

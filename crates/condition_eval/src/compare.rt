@@ -1,4 +1,5 @@
 ghost use Rattle.std.specs.Prelude.{◌≡◌, ◌↔◌, IsTrue, map};
+ghost use Rattle.event_tree.specs.declared.value.Value.{out-Value};
 ghost use Rattle.condition_eval.specs.Values as spec;
 ghost use Rattle.condition_eval.specs.Truths as truths;
 ghost use Rattle.condition_eval.specs.Sides as sides;
@@ -7,7 +8,7 @@ use crate::number::number_order;
 use crate::side::{Side, kind, side_of_literal, side_of_value};
 use crate::truth::{Kind, Reason, Truth};
 use config_grammar::Literal;
-use event_tree::{Text, Value};
+use event_tree::{Instant, Number, Text, Value};
 use std::cmp::Ordering;
 
 /// How two values stand to one another.
@@ -20,17 +21,60 @@ pub(crate) enum Order {
     Wrong(Kind, Kind),
 }
 
-#[tactic(auto, using(crate::proofs::Outs::outs))]
 /// The order of two numbers, of two texts by their bytes, or of two times.
+#[tactic(auto, using(crate::proofs::Outs::outs))]
 pub(crate) fn compared(left: Side<'_>, right: Side<'_>) -> Order
     ensures { result ≡ spec.order_of (sides.value_of left.entry) (sides.value_of right.entry) }
 {
-    match (left, right) {
-        (Side::Null, _) | (_, Side::Null) => Order::Null,
-        (Side::Number(a), Side::Number(b)) => Order::Is(number_order(*a, *b)),
-        (Side::Text(a), Side::Text(b)) => Order::Is(a.cmp(b)),
-        (Side::Time(a), Side::Time(b)) => Order::Is(a.nanos().cmp(&b.nanos())),
-        (left, right) => Order::Wrong(kind(left), kind(right)),
+    match left {
+        Side::Null => Order::Null,
+        Side::Bool(_) => unordered(Kind::Boolean, right),
+        Side::Number(number) => after_number(number, right),
+        Side::Text(text) => after_text(text, right),
+        Side::Time(moment) => after_time(moment, right),
+        Side::Values(_) | Side::Literals(_) => unordered(Kind::List, right),
+        Side::Object(_) => unordered(Kind::Object, right),
+    }
+}
+
+#[tactic(auto, using(crate::proofs::Outs::outs))]
+fn after_number(left: &Number, right: Side<'_>) -> Order
+    ensures { result ≡ spec.after_number left.now (out-Value (sides.value_of right.entry)) }
+{
+    match right {
+        Side::Number(right) => Order::Is(number_order(*left, *right)),
+        other => unordered(Kind::Number, other),
+    }
+}
+
+#[tactic(auto, using(crate::proofs::Outs::outs))]
+fn after_text(left: &Text, right: Side<'_>) -> Order
+    ensures { result ≡ spec.after_text left.now (out-Value (sides.value_of right.entry)) }
+{
+    match right {
+        Side::Text(right) => Order::Is(left.cmp(right)),
+        other => unordered(Kind::Text, other),
+    }
+}
+
+#[tactic(auto, using(crate::proofs::Outs::outs))]
+fn after_time(left: &Instant, right: Side<'_>) -> Order
+    ensures { result ≡ spec.after_time left.now (out-Value (sides.value_of right.entry)) }
+{
+    match right {
+        Side::Time(right) => Order::Is(left.nanos().cmp(&right.nanos())),
+        other => unordered(Kind::Time, other),
+    }
+}
+
+/// What has no order with a value of this kind, unless it is null.
+#[tactic(auto, using(crate::proofs::Outs::outs))]
+fn unordered(left: Kind, right: Side<'_>) -> Order
+    ensures { result ≡ spec.unordered left (out-Value (sides.value_of right.entry)) }
+{
+    match right {
+        Side::Null => Order::Null,
+        other => Order::Wrong(left, kind(other)),
     }
 }
 

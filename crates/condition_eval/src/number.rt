@@ -1,4 +1,4 @@
-ghost use Rattle.std.specs.Prelude.{◌≡◌, ◌≤◌};
+ghost use Rattle.std.specs.Prelude.{◌≡◌, ◌≤◌, max};
 ghost use Rattle.condition_eval.specs.Values as spec;
 
 use event_tree::Number;
@@ -8,12 +8,14 @@ use std::cmp::Ordering;
 pub(crate) fn number_order(left: Number, right: Number) -> Ordering
     ensures { result ≡ spec.number_order left right }
 {
-    let places = if left.scale() < right.scale() {
-        right.scale()
-    } else {
-        left.scale()
-    };
+    let places = most(left.scale(), right.scale());
     raised(left, places).cmp(&raised(right, places))
+}
+
+fn most(left: u8, right: u8) -> u8
+    ensures { result ≡ max left right }
+{
+    if left < right { right } else { left }
 }
 
 /// The mantissa of the number with so many places, of which it has no more.
