@@ -1,5 +1,5 @@
 -- The test whether two values are equal.
-use Rattle.std.proofs.Common.{◌≡◌, ◌↔◌, Bool, true, false, refl, sym, ◌∙◌, true≢false}
+use Rattle.std.proofs.Common.{◌≡◌, ◌↔◌, Bool, true, false, refl, sym, true≢false}
 use Rattle.event_tree.specs.declared.value.Value.{Value}
 use Rattle.condition_eval.specs.Equality.{are_equal, value_discrete, is_yes}
 

@@ -1,11 +1,10 @@
 -- What a pattern finds is what the pattern finds that the grammar reads from its text.
-use Rattle.std.proofs.Common.{◌≡◌, ℕ, ◌<◌, List, get_or, Bool, true, Option, None, Some, refl, sym, ap, ◌∙◌, subst}
+use Rattle.std.proofs.Common.{◌≡◌, ℕ, ◌<◌, List, get_or, true, Option, None, Some, refl, sym, ap, ◌∙◌}
 use Rattle.std.specs.Prelude.{chars, is_some, option_and_then, option_map, IsSomeAnd}
 use Rattle.regex_hir.specs.Re.{Re}
 use Rattle.regex_hir.specs.Meaning.{meaning}
 use Rattle.regex_hir.specs.Find.{find_str}
 use Rattle.regex_hir.specs.declared.hir.Hir.{Hir}
-use Rattle.regex_syntax.specs.Captures.{SameCaptures}
 use Rattle.regex_syntax.specs.Grammar.{Names, read}
 use Rattle.regex_syntax.specs.Verdict.{default_config, Reads}
 use Rattle.regex.proofs.ForCallers.{is_match_alike}

@@ -1,5 +1,5 @@
 -- Texts that hold others.
-use Rattle.std.proofs.Common.{◌≡◌, ◌↔◌, ℕ, ◌==◌, List, [], ◌∷◌, ◌++◌, Bool, true, false, refl, sym, ap, subst, ◌∙◌, true≢false, ◌||◌, ◌&&◌, eqb-true, arith}
+use Rattle.std.proofs.Common.{◌≡◌, ◌↔◌, ℕ, ◌==◌, List, [], ◌∷◌, ◌++◌, Bool, true, false, refl, sym, ap, subst, true≢false, ◌||◌, ◌&&◌, eqb-true, arith}
 use Rattle.std.proofs.lemmas.Bool.Decides.{nat_tests}
 use Rattle.std.specs.Str.Iter.{HasSubslice}
 use Rattle.condition_eval.specs.Values.{begins, holds}
@@ -53,14 +53,17 @@ or_either : (a b : Bool) (P : Type 0) → (a ≡ true → P) → (b ≡ true →
 or_either true b P f g e = f refl
 or_either false b P f g e = g e
 
-held_where : (part text : List ℕ) → holds part text ≡ true → HasSubslice text part
+pub held_where : (part text : List ℕ) → holds part text ≡ true → HasSubslice text part
 unfolding holds
 held_where part [] e = let r = begins_behind part [] e in ([], r.0, r.1)
 held_where part (b ∷ text) e = or_either (begins part (b ∷ text)) (holds part text) _ (λ f. let r = begins_behind part (b ∷ text) f in ([], r.0, r.1)) (λ g. let r = held_where part text g in (b ∷ r.0, r.1, ap (λ s. b ∷ s) r.2)) e
 
+pub holds_where : (part text : List ℕ) → HasSubslice text part → holds part text ≡ true
+holds_where part text s = subst (λ t. holds part t ≡ true) (sym s.2) (holds_behind part s.0 s.1)
+
 -- a test that is true where the text holds the part is this one
 pub is_holding : (r : Bool) (part text : List ℕ) → ((r ≡ true) ↔ HasSubslice text part) → r ≡ holds part text
-is_holding true part text h = let s = h.0 refl in sym (subst (λ t. holds part t ≡ true) (sym s.2) (holds_behind part s.0 s.1))
+is_holding true part text h = sym (holds_where part text (h.0 refl))
 is_holding false part text h = not_true (holds part text) (λ e. true≢false (sym (h.1 (held_where part text e))))
   where
     not_true : (b : Bool) → (b ≡ true → ⊥) → false ≡ b

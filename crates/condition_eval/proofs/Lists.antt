@@ -1,5 +1,5 @@
 -- Lists that are compared from the front.
-use Rattle.std.proofs.Common.{◌≡◌, ℕ, zero, suc, ◌+◌, ◌<◌, List, [], ◌∷◌, length, take, map, get_or, refl, ap, sym, subst, add-one, arith}
+use Rattle.std.proofs.Common.{◌≡◌, ℕ, zero, suc, ◌+◌, ◌<◌, List, [], ◌∷◌, length, take, map, get_or, ap, sym, subst, add-one, arith}
 
 take_suc : {A : Type 0} (xs ys : List A) (i : ℕ) (a b : A) → i < length xs → i < length ys → a ≡ get_or xs i a → b ≡ get_or ys i b → take i xs ≡ take i ys → a ≡ b → take (suc i) xs ≡ take (suc i) ys
 take_suc [] ys i a b l k p q t e = absurd (omega arith)

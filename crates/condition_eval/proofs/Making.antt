@@ -1,10 +1,10 @@
 -- The patterns that are made of a condition, part by part.
-use Rattle.std.proofs.Common.{◌≡◌, ℕ, suc, zero, ◌+◌, ◌-◌, ◌<◌, ◌≤◌, get_or, List, [], ◌∷◌, ◌++◌, length, drop, map, inl, inr, refl, sym, ap, subst, ◌∙◌, append_assoc, length-append, slice_set, take, arith}
+use Rattle.std.proofs.Common.{◌≡◌, ℕ, suc, zero, ◌+◌, ◌-◌, ◌<◌, ◌≤◌, get_or, List, [], ◌∷◌, ◌++◌, length, drop, inl, inr, refl, sym, ap, subst, ◌∙◌, append_assoc, length-append, slice_set, take, arith}
 use Rattle.std.specs.Prelude.{Result, Ok, Err, OnOk, IfErr}
 use Rattle.std.proofs.lemmas.List.{append-nil, drop-drop, length-drop, length-map}
 use Rattle.std.proofs.Math.Seq.{take-append_seam}
 use Rattle.regex_hir.specs.Re.{Re}
-use Rattle.pattern_box.specs.Patterns.{pattern_re, pattern_groups, IsReadFrom}
+use Rattle.pattern_box.specs.Patterns.{IsReadFrom}
 use Rattle.pattern_box.specs.declared.pattern.Pattern as box
 use Rattle.pattern_box.specs.declared.fault.PatternFault.{PatternFault}
 use Rattle.condition_eval.specs.Made.{AreReadFrom, Added, OneIsRefused, BeginWith, meaning_of, meanings}

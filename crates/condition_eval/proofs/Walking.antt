@@ -1,5 +1,5 @@
 -- The parts of a condition: their patterns begin where its own do, and they are less.
-use Rattle.std.proofs.Common.{◌≡◌, ℕ, suc, ◌+◌, ◌*◌, ◌<◌, List, ◌++◌, ap, subst, ◌∙◌, arith}
+use Rattle.std.proofs.Common.{◌≡◌, suc, ◌+◌, List, ◌++◌, ap, subst, ◌∙◌}
 use Rattle.pattern_box.specs.declared.pattern.Pattern as box
 use Rattle.config_grammar.specs.declared.tree.Condition.{Condition}
 use Rattle.config_grammar.specs.declared.tree.Condition.TheVariants as v

@@ -1,11 +1,13 @@
 -- Whether two values are equal, as a test.
-use Rattle.std.specs.Prelude.{◌≡◌, ℕ, zero, suc, Bool, true, false, refl}
+use Rattle.std.specs.Prelude.{◌≡◌, ℕ, Bool, true, false, refl}
 use Rattle.event_tree.specs.declared.value.Value.{Value}
 use Rattle.event_tree.specs.contracts.value.Value as tree
 use Rattle.std.specs.Coded.{Coded}
 use base.Stored.{Gv, gnil, gnum, gcons}
 use mathlib.Core.Path.{sym, ap, subst}
 use native.Mathlib.Decide.{ℕ_discrete}
+
+-- A value has a code, a tree of numbers, and values with one code are equal. So it is decided on codes whether values are equal.
 
 abbrev is_number : Gv → Type 0
 is_number gnil = ⊥
@@ -41,6 +43,7 @@ same_pair a b c d (yes p) (yes q) = yes (λ i. gcons (p i) (q i))
 same_pair a b c d (no p) q = no (λ e. p (ap first e))
 same_pair a b c d (yes p) (no q) = no (λ e. q (ap second e))
 
+-- whether two codes are equal can be decided
 code_discrete : (x y : Gv) → Dec (x ≡ y)
 code_discrete gnil gnil = yes refl
 code_discrete gnil (gnum n) = no (λ e. subst is_number (sym e) tt)
@@ -63,6 +66,7 @@ decided x y (no d) = no (λ e. d (ap value_coded.code e))
 pub value_discrete : (x y : Value) → Dec (x ≡ y)
 value_discrete x y = decided x y (code_discrete (value_coded.code x) (value_coded.code y))
 
+-- the decision as a test
 abbrev pub is_yes : {P : Type 0} → Dec P → Bool
 is_yes (yes p) = true
 is_yes (no d) = false

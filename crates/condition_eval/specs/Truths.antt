@@ -1,5 +1,5 @@
 -- What a condition says of an event.
-use Rattle.std.specs.Prelude.{ℕ, Bool, true, false, if◌then◌else◌, List, is_some, option_and_then, chars}
+use Rattle.std.specs.Prelude.{ℕ, Bool, if◌then◌else◌, List, is_some, option_and_then, chars}
 use Rattle.std.specs.Ordering.{is_lt, is_gt, is_le, is_ge}
 use Rattle.std.specs.declared.cmp.Ordering.{Ordering}
 use Rattle.regex_hir.specs.Find.{find_str}
@@ -14,9 +14,7 @@ use Rattle.config_grammar.specs.declared.tree.Condition.TheFolds.{fold-Condition
 use Rattle.condition_eval.specs.Equality.{are_equal}
 use Rattle.condition_eval.specs.Made.{pattern_text}
 use Rattle.condition_eval.specs.Values.{operand_value, order_of, is_in}
-use Rattle.condition_eval.specs.declared.truth.Kind.{Kind}
 use Rattle.condition_eval.specs.declared.truth.Kind.TheVariants as k
-use Rattle.condition_eval.specs.declared.truth.Reason.{Reason}
 use Rattle.condition_eval.specs.declared.truth.Reason.TheVariants as r
 use Rattle.condition_eval.specs.declared.truth.Truth.{Truth}
 use Rattle.condition_eval.specs.declared.truth.Truth.TheVariants as t

@@ -1,5 +1,5 @@
 -- What operands are in an event, and how values are compared.
-use Rattle.std.specs.Prelude.{ℕ, max, ◌-◌, ◌^◌, ℤ, pos, ◌*ℤ◌, Bool, true, false, ◌||◌, ◌&&◌, ◌==◌, List, [], ◌∷◌, map, Option, unwrap_or}
+use Rattle.std.specs.Prelude.{ℕ, max, ◌-◌, ◌^◌, ℤ, pos, ◌*ℤ◌, Bool, true, false, ◌||◌, ◌&&◌, ◌==◌, List, [], ◌∷◌, map, unwrap_or}
 use Rattle.std.specs.List.{list_any}
 use Rattle.std.specs.Ordering.{int_cmp}
 use Rattle.std.specs.declared.cmp.Ordering.{Ordering}

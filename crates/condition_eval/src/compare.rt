@@ -1,7 +1,6 @@
 ghost use Rattle.std.specs.Prelude.{◌≡◌, ◌↔◌, IsTrue, map};
 ghost use Rattle.event_tree.specs.declared.value.Value.{out-Value};
 ghost use Rattle.condition_eval.specs.Values as spec;
-ghost use Rattle.condition_eval.specs.Truths as truths;
 ghost use Rattle.condition_eval.specs.Sides as sides;
 
 use crate::number::number_order;

@@ -7,6 +7,7 @@
 #![tactic(auto)]
 
 mod compare;
+pub mod laws;
 mod number;
 mod operators;
 mod patterns;

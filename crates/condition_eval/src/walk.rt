@@ -196,8 +196,8 @@ fn search(
     Ok(here(truth, at + 1))
 }
 
-#[tactic(auto, using(crate::proofs::Outs::outs))]
 /// Whether the pattern is found in a text. Null holds none, and other kinds are wrong.
+#[tactic(auto, using(crate::proofs::Outs::outs))]
 fn matching(side: Side<'_>, written: &Written, pattern: &mut Pattern) -> Result<Truth, AllocError>
     requires { IsReadFrom (pattern_text written.now) pattern.old }
     ensures truth { IfOk result (λ truth. truth
@@ -219,8 +219,8 @@ fn is_found(written: &Written, pattern: &mut Pattern, text: &str) -> Result<bool
     Ok(pattern.spans(text)?.is_some())
 }
 
-#[tactic(auto, using(crate::proofs::TextsOf::counts, crate::proofs::TextsOf::weights))]
 // The place behind the patterns of the condition, which begin at the place `at`.
+#[tactic(auto, using(crate::proofs::TextsOf::counts, crate::proofs::TextsOf::weights))]
 fn past(condition: &Condition, at: usize) -> usize
     requires { at + length (texts condition.now) < 2 ^ 64 }
     ensures { result ≡ at + length (texts condition.now) }

@@ -1,4 +1,4 @@
-use Rattle.std.proofs.Common.{map, ◌≡◌, ◌↔◌, sym, ◌∙◌, true}
+use Rattle.std.proofs.Common.{map}
 use Rattle.condition_eval.specs.Values.{literal_value}
 use Rattle.condition_eval.proofs.Outs.{as_lists, as_lists_back, as_objects}
 use Rattle.condition_eval.proofs.compare.are_equal.Goals as goal

@@ -1,4 +1,4 @@
-use Rattle.std.proofs.Common.{◌≡◌, ◌<◌, length, map, refl, arith, rules, sym, ◌∙◌, true, false, true≢false}
+use Rattle.std.proofs.Common.{◌<◌, length, map, arith, rules, sym, true≢false}
 use Rattle.std.proofs.lemmas.List.{length-map}
 use Rattle.condition_eval.specs.Values.{literal_value}
 use Rattle.condition_eval.proofs.Lists.{take_step, same_at, get_map}

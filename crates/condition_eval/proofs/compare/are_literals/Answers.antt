@@ -1,4 +1,4 @@
-use Rattle.std.proofs.Common.{◌≡◌, ◌<◌, length, map, refl, arith, rules, sym, ◌∙◌}
+use Rattle.std.proofs.Common.{◌<◌, length, map, arith, rules}
 use Rattle.std.proofs.lemmas.List.{length-map}
 use Rattle.condition_eval.specs.Values.{literal_value}
 use Rattle.condition_eval.proofs.Lists.{take_step, get_map}

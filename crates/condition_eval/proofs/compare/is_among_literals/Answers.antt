@@ -1,4 +1,4 @@
-use Rattle.std.proofs.Common.{◌≡◌, ◌<◌, true, false, length, sym, ◌∙◌, true≢false, arith, rules}
+use Rattle.std.proofs.Common.{◌<◌, length, sym, ◌∙◌, true≢false, arith}
 use Rattle.condition_eval.specs.Values.{literal_value}
 use Rattle.condition_eval.specs.Sides.{value_of}
 use Rattle.condition_eval.proofs.Among.{among_here, among_later}

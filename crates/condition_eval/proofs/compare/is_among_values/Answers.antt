@@ -1,5 +1,4 @@
-use Rattle.std.proofs.Common.{◌≡◌, ◌<◌, true, false, length, sym, ◌∙◌, true≢false, arith, rules}
-use Rattle.condition_eval.specs.Values.{literal_value}
+use Rattle.std.proofs.Common.{◌<◌, length, sym, ◌∙◌, true≢false, arith}
 use Rattle.condition_eval.specs.Sides.{value_of}
 use Rattle.condition_eval.proofs.Among.{value_here, value_later}
 use Rattle.condition_eval.proofs.compare.is_among_values.Goals as goal

@@ -1,4 +1,4 @@
-use Rattle.std.proofs.Common.{◌≡◌, max, FitsSigned, to_z, of_z, ap, ap₂, ◌∙◌, arith, rules}
+use Rattle.std.proofs.Common.{◌≡◌, max, FitsSigned, ap, ap₂, ◌∙◌, rules}
 use mir.Syntax.{w128}
 use Rattle.std.specs.Ordering.{int_cmp}
 use Rattle.std.proofs.lemmas.Int.{to_z-of_z}

@@ -1,5 +1,4 @@
-use Rattle.std.proofs.Common.{◌≡◌, ◌<◌, ◌-◌, ◌^◌, pos, ◌*ℤ◌, ap, ap₂, ◌∙◌, arith, rules}
-use Rattle.condition_eval.specs.Values as spec
+use Rattle.std.proofs.Common.{◌≡◌, ◌<◌, ◌-◌, ◌^◌, pos, ◌*ℤ◌, ap₂, ◌∙◌, rules}
 use Rattle.condition_eval.proofs.Raising.{product}
 use Rattle.condition_eval.proofs.number.raised.Goals as goal
 

@@ -1,4 +1,4 @@
-use Rattle.std.proofs.Common.{◌≡◌, List, ℕ, ◌∷◌, [], subst, sym, ap, ◌∙◌, rules}
+use Rattle.std.proofs.Common.{◌∷◌, [], subst, sym, ◌∙◌}
 use Rattle.pattern_box.specs.Patterns.{IsReadFrom}
 use Rattle.condition_eval.specs.Made.{Added, pattern_text}
 use Rattle.condition_eval.proofs.Making.{added_one}

@@ -1,6 +1,5 @@
-use Rattle.std.proofs.Common.{◌≡◌, ◌<◌, ◌+◌, ◌++◌, length, drop, arith, rules}
+use Rattle.std.proofs.Common.{◌≡◌, ◌<◌, length, drop, arith, rules}
 use Rattle.condition_eval.specs.Made.{texts}
-use Rattle.condition_eval.proofs.TextsOf.{weight}
 use Rattle.condition_eval.proofs.Making.{begins_left, begins_next, past_next}
 use Rattle.condition_eval.proofs.Walking as walking
 use Rattle.config_grammar.specs.declared.tree.Condition.TheVariants as v

@@ -1,4 +1,4 @@
-use Rattle.std.proofs.Common.{suc, ◌+◌, ◌*◌}
+use Rattle.std.proofs.Common.{◌+◌, ◌*◌}
 use Rattle.condition_eval.proofs.TextsOf.{weight}
 use Rattle.condition_eval.proofs.walk.+walk.Given as goal
 
