@@ -1,3 +1,7 @@
+ghost use Rattle.std.specs.Prelude.{IfOk};
+ghost use Rattle.condition_eval.specs.Truths.{truth};
+ghost use Rattle.condition_eval_tests.specs.Outcomes.{IsOutcome};
+
 use condition_eval::{Truth, eval, patterns_of};
 use config_grammar::{Condition, Statement};
 use config_parse::parse;
@@ -34,7 +38,10 @@ pub fn outcome_of(alloc: Global, text: &str, event: &Event) -> Result<Outcome, A
     }
 }
 
-fn said(alloc: Global, condition: &Condition, event: &Event) -> Result<Outcome, AllocError> {
+/// What the condition says, or that one of its patterns is refused.
+fn said(alloc: Global, condition: &Condition, event: &Event) -> Result<Outcome, AllocError>
+    ensures { IfOk result (IsOutcome (truth condition.now event.now)) }
+{
     match patterns_of(alloc, condition) {
         Ok(patterns) => {
             let mut patterns = patterns;
