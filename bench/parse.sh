@@ -1,7 +1,8 @@
 #!/usr/bin/env bash
 # How fast does a configuration parse? Runs the program bench_parse on a configuration of a megabyte, as
 # operators write them, with 1 pass and with 11; the difference of the two times is that of ten passes. The
-# least of five runs counts. Prints MB/s and nanoseconds a token, for lexing alone and for parsing whole.
+# least of five runs counts. Prints MB/s and nanoseconds a token, for lexing alone, for parsing whole and for printing
+# what was read.
 . "$(dirname "$0")/common.sh"
 
 build bench_parse
@@ -21,7 +22,7 @@ awk 'BEGIN {
 
 size=$(wc -c <"$work/config")
 tokens=$("$program" lex "$work/config" 1)
-for call in lex parse; do
+for call in lex parse print; do
     one=$(least_time "$program" "$call" "$work/config" 1)
     many=$(least_time "$program" "$call" "$work/config" 11)
     awk -v call="$call" -v time=$((many - one)) -v size="$size" -v tokens="$tokens" 'BEGIN {

@@ -1,0 +1,11 @@
+//! Tests of `print`. The texts were worked out by hand from its rules.
+#![tactic(auto)]
+
+mod again;
+
+pub use again::{printed, reads_again};
+
+#[cfg(test)]
+mod tables;
+#[cfg(test)]
+mod tests;
