@@ -3,7 +3,7 @@
 
 mod again;
 
-pub use again::{printed, reads_again};
+pub use again::{is_copied, printed, reads_again};
 
 #[cfg(test)]
 mod tables;
