@@ -1,27 +1,26 @@
 -- Statuses that are not Done, and the lines of statuses.
 use Rattle.std.proofs.Common.{◌≡◌, ◌⊎◌, inl, inr, ◌++◌, ℕ, List, codes, refl, ap, sym, ◌∙◌}
+use Rattle.logstash_top.specs.declared.config.Refusal.{Refusal}
+use Rattle.logstash_top.specs.declared.config.Refusal.TheVariants.{Config, Memory}
 use Rattle.logstash_top.specs.declared.status.Status.{Status}
 use Rattle.logstash_top.specs.declared.status.Status.TheVariants.{Done, BadConfig, InputFault, NoMemory}
 use Rattle.logstash_top.specs.declared.status.ConfigFault.{ConfigFault}
-use Rattle.logstash_top.specs.declared.status.ConfigFault.TheVariants.{Thin}
-use Rattle.logstash_top.specs.Status.{thin_fault, line_of}
+use Rattle.logstash_top.specs.Status.{config_fault, config_line, line_of, status_of_refusal}
 
-apart : (s : Status) → s ≡ thin_fault → s ≡ Done → ⊥
-apart s one other = cc
+apart : (s : Status) (fault : ConfigFault) → s ≡ config_fault fault → s ≡ Done → ⊥
+apart s fault one other = cc
 
 apart_memory : (s : Status) → s ≡ NoMemory → s ≡ Done → ⊥
 apart_memory s one other = cc
 
-pub thin_not_done : (s : Status) → (s ≡ thin_fault) ⊎ (s ≡ NoMemory) → s ≡ Done → ⊥
-thin_not_done s (inl thin) done = apart s thin done
-thin_not_done s (inr memory) done = apart_memory s memory done
-
-thin_line : (pipeline : List ℕ) (fault : ConfigFault) → line_of (BadConfig pipeline fault) ≡ codes "logstash: pipeline " ++ (pipeline ++ codes ": not built\n")
-thin_line pipeline Thin = refl
+pub refused_not_done : (s : Status) (r : Refusal) → (s ≡ status_of_refusal r) ⊎ (s ≡ NoMemory) → s ≡ Done → ⊥
+refused_not_done s (Config fault) (inl is) done = apart s fault is done
+refused_not_done s Memory (inl is) done = apart_memory s is done
+refused_not_done s r (inr memory) done = apart_memory s memory done
 
 -- the lines of statuses with ids, by their parts
-pub config_line : (s : Status) (pipeline text : List ℕ) (fault : ConfigFault) → s ≡ BadConfig pipeline fault → text ≡ pipeline → codes "logstash: pipeline " ++ (text ++ codes ": not built\n") ≡ line_of s
-config_line s pipeline text fault is same = ap (λ t. codes "logstash: pipeline " ++ (t ++ codes ": not built\n")) same ∙ sym (ap line_of is ∙ thin_line pipeline fault)
+pub config_lines : (s : Status) (pipeline text : List ℕ) (fault : ConfigFault) → s ≡ BadConfig pipeline fault → text ≡ pipeline → config_line text fault ≡ line_of s
+config_lines s pipeline text fault is same = ap (λ t. config_line t fault) same ∙ sym (ap line_of is)
 
 pub input_line : (s : Status) (pipeline input one two : List ℕ) → s ≡ InputFault pipeline input → one ≡ pipeline → two ≡ input
     → codes "logstash: pipeline " ++ (one ++ (codes ": input fault " ++ (two ++ codes "\n"))) ≡ line_of s
