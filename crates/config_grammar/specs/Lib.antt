@@ -6,3 +6,4 @@ pub mod Levels
 pub mod Bytes
 pub mod Lexemes
 pub mod Texts
+pub mod Readers

@@ -3,11 +3,16 @@
 
 mod bytes;
 mod context;
+mod copies;
+mod equality;
+mod fault;
 mod level;
 mod lexer;
+mod readers;
 mod token;
 mod tree;
 
+pub use fault::{FromFault, SettingFault};
 pub use level::Opener;
 pub use lexer::lexemes;
 pub use token::{Comparison, Conjunction, Disjunction, Lexeme, Matching, Section, Token, Word};

@@ -1,4 +1,4 @@
-ghost use Rattle.std.specs.Prelude.{◌≡◌, ◌≢◌, ◌<◌, ◌≤◌, ◌-◌, [], ◌∷◌, false, true, take, drop, length, slice_index, MatchResult, IfOk};
+ghost use Rattle.std.specs.Prelude.{◌≡◌, ◌≢◌, ◌<◌, ◌≤◌, ◌-◌, [], ◌∷◌, false, true, take, drop, length, slice_index, MatchResult, IfOk, IsTrue, ◌↔◌};
 ghost use Rattle.event_tree.specs.Events.{Way};
 ghost use Rattle.event_tree.specs.PathTexts.{is_bracket, NoBracket, IsPathText, IsPathFault, PathReads, way_of};
 
@@ -82,6 +82,32 @@ impl Path {
         ensures { result.now ≡ self.now.parts }
     {
         self.parts.as_slice()
+    }
+
+    /// The same path again, in memory of the same allocator.
+    pub fn copy(&self) -> Result<Path, AllocError>
+        ensures { IfOk result (λ copy. copy ≡ self.now) }
+    {
+        Ok(Path {
+            meta: self.meta,
+            parts: self.parts.clone()?,
+        })
+    }
+
+    /// Whether two paths have the same parts and lead into the same of `fields` and `meta`.
+    #[tactic(auto, using(plain_lists::proofs::ImplLemmas::exact))]
+    pub fn same(&self, other: &Path) -> bool
+        ensures { IsTrue result ↔ (self.now ≡ other.now) }
+    {
+        self.meta == other.meta && self.parts == other.parts
+    }
+}
+
+impl Clone for Path {
+    ghost is_clone = { λ path copy. copy ≡ path };
+
+    fn clone(&self) -> Result<Self, AllocError> {
+        self.copy()
     }
 }
 
