@@ -38,13 +38,15 @@ pub checked_run : {U : Type 0} (text : List ℕ) (config : Configuration) (u : U
 checked_run text config u p built = record {
   told = (config, p.found, built);
   only = λ fault h. (reason_of_config text config p fault h).0 built;
-  only_run = λ _. tt }
+  only_run = λ _. tt;
+}
 
 pub checked_thin : {U : Type 0} (text : List ℕ) (config : Configuration) → Parsed text (Ok config) → (IsBuilt config → ⊥) → Checked {U = U} text (Err (Config Thin))
 checked_thin text config p not_built = record {
   told = (config, p.found, not_built);
   only = λ fault h _. ap Config (sym (reason_of_config text config p fault h).1);
-  only_run = λ (other, is, built). absurd (not_built (subst IsBuilt (sym (p.only other is.0 is.1)) built)) }
+  only_run = λ (other, is, built). absurd (not_built (subst IsBuilt (sym (p.only other is.0 is.1)) built));
+}
 
 -- a fault of the text in the words of this crate
 abbrev pub fault_of : TextFault → Refusal
@@ -72,7 +74,8 @@ pub checked_fault : {U : Type 0} (text : List ℕ) (fault : TextFault) → Parse
 checked_fault text fault p = record {
   told = told_fault text fault p;
   only = λ reason h no. only_fault text fault p reason h no;
-  only_run = λ (config, is, built). ap fault_of (p.only config is.0 is.1) }
+  only_run = λ (config, is, built). ap fault_of (p.only config is.0 is.1);
+}
 
 -- ---- the words
 
@@ -85,7 +88,8 @@ answers_unread words none = record {
   refused = λ text is fault h. absurd (none text is);
   runs = λ text is run. absurd (none text is);
   words_cause = λ fault is text. none text;
-  config_cause = λ pipeline fault is. absurd cc }
+  config_cause = λ pipeline fault is. absurd cc;
+}
 
 pub answers_refused : {U : Type 0} (words : List (List ℕ)) (text : List ℕ) (refusal : Refusal) (status : Status) → IsCommand words text → Checked {U = U} text (Err refusal)
     → (status ≡ status_of_refusal refusal) ⊎ (status ≡ NoMemory) → Answers words status
@@ -94,7 +98,8 @@ answers_refused words text refusal status is checked gives = record {
   refused = λ other is_other fault h. refused_as refusal (checked.only fault (subst (λ t. IsRefusedFor t fault) (same_text words other text is_other is) h)) gives;
   runs = λ other is_other run. run_as refusal (checked.only_run (subst IsRun (same_text words other text is_other is) run)) gives;
   words_cause = λ fault is_bad. absurd (no_words refusal fault gives is_bad);
-  config_cause = λ pipeline fault is_bad. cause refusal pipeline fault checked.told gives is_bad }
+  config_cause = λ pipeline fault is_bad. cause refusal pipeline fault checked.told gives is_bad;
+}
   where
     refused_as : {fault : ConfigFault} (r : Refusal) → ((r ≡ Memory → ⊥) → r ≡ Config fault) → (status ≡ status_of_refusal r) ⊎ (status ≡ NoMemory) → (status ≡ config_fault fault) ⊎ (status ≡ NoMemory)
     refused_as (Config f) only (inl s) = inl (s ∙ ap status_of_refusal (only (λ e. cc)))
@@ -126,4 +131,5 @@ answers_run words text u status is checked ended = record {
   refused = λ other is_other fault h. absurd (checked.only fault (subst (λ t. IsRefusedFor t fault) (same_text words other text is_other is) h));
   runs = λ other is_other run. ended;
   words_cause = λ fault bad. absurd (elim ended [ inl s ↦ cc | inr (inl s) ↦ cc | inr (inr (inl s)) ↦ cc | inr (inr (inr s)) ↦ cc ]);
-  config_cause = λ pipeline fault bad. absurd (elim ended [ inl s ↦ cc | inr (inl s) ↦ cc | inr (inr (inl s)) ↦ cc | inr (inr (inr s)) ↦ cc ]) }
+  config_cause = λ pipeline fault bad. absurd (elim ended [ inl s ↦ cc | inr (inl s) ↦ cc | inr (inr (inl s)) ↦ cc | inr (inr (inr s)) ↦ cc ]);
+}
