@@ -1,2 +1,3 @@
 pub mod Marks
 pub mod Examples
+pub mod Written

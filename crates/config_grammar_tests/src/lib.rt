@@ -6,7 +6,9 @@ mod marks;
 mod texts;
 
 pub use marks::mark;
-pub use texts::examples;
+pub use texts::{derivations, examples};
 
+#[cfg(test)]
+mod reader_tests;
 #[cfg(test)]
 mod tests;
