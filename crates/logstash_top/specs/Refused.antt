@@ -3,6 +3,8 @@ use Rattle.std.specs.Prelude.{◌≡◌, ◌≤◌, ◌<◌, ℕ, List, length, 
 use Rattle.config_grammar.specs.Texts.{Reads, IsSyntaxAt, IsDeepAt}
 use Rattle.config_grammar.specs.declared.tree.Config.{Config as Configuration}
 use Rattle.config_parse.specs.declared.text.TheConstants.{LENGTH, LEVELS}
+use Rattle.config_parse.specs.declared.fault.ConfigFault.{ConfigFault as TextFault}
+use Rattle.config_parse.specs.declared.fault.ConfigFault.TheVariants as text_fault
 use Rattle.logstash_top.specs.Built.{IsBuilt}
 use Rattle.logstash_top.specs.declared.status.ConfigFault.{ConfigFault}
 use Rattle.logstash_top.specs.declared.status.ConfigFault.TheVariants.{Long, Syntax, Deep, Thin}
@@ -23,6 +25,13 @@ IsRefusedFor text Long = LENGTH < length text
 IsRefusedFor text (Syntax at) = (length text ≤ LENGTH) × IsSyntaxAt LEVELS text at
 IsRefusedFor text (Deep at) = (length text ≤ LENGTH) × IsDeepAt LEVELS text at
 IsRefusedFor text Thin = (config : Configuration) × IsConfig text config × (IsBuilt config → ⊥)
+
+-- a fault of the text, in the words of a status
+abbrev pub refusal_of : TextFault → Refusal
+refusal_of text_fault.Long = Config Long
+refusal_of (text_fault.Syntax at) = Config (Syntax at)
+refusal_of (text_fault.Deep at) = Config (Deep at)
+refusal_of text_fault.Memory = Memory
 
 abbrev pub IsTold : List ℕ → Refusal → Type 0
 IsTold text (Config fault) = IsRefusedFor text fault

@@ -1,5 +1,5 @@
 ghost use Rattle.std.specs.Prelude.{◌≡◌};
-ghost use Rattle.logstash_top.specs.Refused.{Checked};
+ghost use Rattle.logstash_top.specs.Refused.{Checked, refusal_of};
 
 use crate::built::is_built;
 use crate::status::ConfigFault;
@@ -15,17 +15,27 @@ pub(crate) enum Refusal {
     Memory,
 }
 
+impl From<TextFault> for Refusal {
+    ghost from_gives = { λ fault refusal. refusal ≡ refusal_of fault };
+
+    fn from(fault: TextFault) -> Refusal {
+        match fault {
+            TextFault::Long => Refusal::Config(ConfigFault::Long),
+            TextFault::Syntax(at) => Refusal::Config(ConfigFault::Syntax(at)),
+            TextFault::Deep(at) => Refusal::Config(ConfigFault::Deep(at)),
+            TextFault::Memory => Refusal::Memory,
+        }
+    }
+}
+
 /// Reads the text of a configuration, and sees whether it is one that the program runs.
 pub(crate) fn check(alloc: Global, text: &str) -> Result<(), Refusal>
     ensures { Checked text.now result }
 {
-    let fault = match parse(alloc, text) {
-        Ok(config) if is_built(&config) => return Ok(()),
-        Ok(_) => ConfigFault::Thin,
-        Err(TextFault::Long) => ConfigFault::Long,
-        Err(TextFault::Syntax(at)) => ConfigFault::Syntax(at),
-        Err(TextFault::Deep(at)) => ConfigFault::Deep(at),
-        Err(TextFault::Memory) => return Err(Refusal::Memory),
-    };
-    Err(Refusal::Config(fault))
+    let config = parse(alloc, text)?;
+    if is_built(&config) {
+        Ok(())
+    } else {
+        Err(Refusal::Config(ConfigFault::Thin))
+    }
 }
