@@ -1,13 +1,12 @@
 -- What the answers of `parse` make of a text.
-use Rattle.std.proofs.Common.{◌≡◌, ◌⊎◌, inl, inr, ◌≤◌, ◌<◌, ◌↔◌, ℕ, List, length, Result, MatchResult, IfOk, Ok, Err, refl, ap, sym, ◌∙◌, subst}
+use Rattle.std.proofs.Common.{◌≡◌, ◌≤◌, ◌<◌, ◌↔◌, ℕ, List, length, Result, MatchResult, IfOk, Ok, Err, refl, ap, sym, subst}
 use Rattle.config_grammar.specs.declared.tree.Config.{Config as Configuration}
 use Rattle.config_grammar.specs.Texts.{Reads, IsSyntaxAt, IsDeepAt}
 use Rattle.config_parse.specs.declared.text.TheConstants.{LENGTH, LEVELS}
 use Rattle.config_parse.specs.declared.fault.ConfigFault.{ConfigFault as TextFault}
 use Rattle.config_parse.specs.declared.fault.ConfigFault.TheVariants as text_fault
 use Rattle.logstash_top.specs.Built.{IsBuilt}
-use Rattle.logstash_top.specs.Refused.{IsConfig, IsRun, IsRefusedFor, refusal_of, IsTold, Checked}
-use Rattle.logstash_top.specs.declared.config.Refusal.{Refusal}
+use Rattle.logstash_top.specs.Refused.{IsConfig, IsRefusedFor, refusal_of, IsTold, Checked}
 use Rattle.logstash_top.specs.declared.config.Refusal.TheVariants.{Config, Memory}
 use Rattle.logstash_top.specs.declared.status.ConfigFault.{ConfigFault}
 use Rattle.logstash_top.specs.declared.status.ConfigFault.TheVariants.{Long, Syntax, Deep, Thin}

@@ -1,5 +1,5 @@
 -- The configurations that are built.
-use Rattle.std.specs.Prelude.{◌≡◌, ◌⊎◌, List, [], ◌∷◌, codes}
+use Rattle.std.specs.Prelude.{◌≡◌, ◌⊎◌, [], ◌∷◌, codes}
 use Rattle.config_grammar.specs.Joining.{Entries, plugin_of}
 use Rattle.config_grammar.specs.declared.tree.Config.{Config}
 use Rattle.config_grammar.specs.declared.tree.Plugin.{Plugin}

@@ -1,5 +1,5 @@
 -- The statuses, their numbers and their lines on stderr.
-use Rattle.std.specs.Prelude.{◌≡◌, ◌⊎◌, ℕ, List, [], ◌∷◌, ◌++◌, codes, decimal}
+use Rattle.std.specs.Prelude.{◌≡◌, ◌⊎◌, ℕ, List, [], ◌++◌, codes, decimal}
 use Rattle.logstash_top.specs.declared.status.Status.{Status}
 use Rattle.logstash_top.specs.declared.status.Status.TheVariants.{Done, BadWords, BadConfig, InputFault, OutputFault, NoMemory}
 use Rattle.logstash_top.specs.declared.status.WordsFault.{WordsFault}

@@ -1,5 +1,4 @@
 use Rattle.std.proofs.lemmas.Result.{err_from_is_err_and}
-use Rattle.logstash_top.specs.Refused.{Checked}
 use Rattle.logstash_top.proofs.Answering.{checked_run, checked_thin, checked_fault}
 use Rattle.logstash_top.proofs.config.check.Goals as goal
 
