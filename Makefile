@@ -29,6 +29,7 @@ bench: all
 	bash bench/crc.sh
 	bash bench/patterns.sh
 	bash bench/parse.sh
+	bash bench/conditions.sh
 	bash bench/store.sh
 
 clean:

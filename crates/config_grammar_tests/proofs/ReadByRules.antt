@@ -1,7 +1,6 @@
 -- The derivations of three texts, rule by rule.
-use Rattle.std.proofs.Common.{◌≡◌, ℕ, suc, List, [], ◌∷◌, ◌++◌, Option, Some, None, refl, sym, ap, subst, ◌∙◌, codes}
+use Rattle.std.proofs.Common.{◌≡◌, ℕ, suc, List, [], ◌∷◌, ◌++◌, Some, refl, sym, ap, subst, ◌∙◌, codes}
 use Rattle.event_tree.specs.Number.{Num}
-use Rattle.event_tree.specs.PathTexts.{way_of}
 use Rattle.config_grammar.specs.declared.token.Token.{Token}
 use Rattle.config_grammar.specs.declared.token.Token.TheVariants as t
 use Rattle.config_grammar.specs.declared.token.Comparison.{Comparison}
@@ -13,105 +12,15 @@ use Rattle.config_grammar.specs.declared.tree.SettingValue.TheOpen.{SettingValue
 use Rattle.config_grammar.specs.declared.tree.SettingValue.TheVariants as v
 use Rattle.config_grammar.specs.declared.tree.Plugin.{Plugin}
 use Rattle.config_grammar.specs.declared.tree.Settings.{Settings}
-use Rattle.config_grammar.specs.declared.tree.Condition.{Condition}
-use Rattle.config_grammar.specs.declared.tree.Condition.TheVariants as c
-use Rattle.config_grammar.specs.declared.tree.Operand.{Operand}
-use Rattle.config_grammar.specs.declared.tree.Operand.TheVariants as o
 use Rattle.config_grammar.specs.declared.tree.Pattern.{Pattern}
 use Rattle.config_grammar.specs.declared.tree.Pattern.TheVariants as p
 use Rattle.config_grammar.specs.declared.tree.Statement.TheVariants as s
 use Rattle.config_grammar.specs.declared.tree.Config.{Config}
 use Rattle.config_grammar.specs.Words.{compared, matched, pattern}
-use Rattle.config_grammar.specs.Joining.{Entries, with_entries, with_setting, joined_value, plugin_of}
-use Rattle.config_grammar.specs.Grammar.{
-  ReadsValue,
-  scalar_value,
-  bare,
-  array,
-  hash,
-  ReadsNest,
-  no_nest,
-  nested,
-  ReadsItems,
-  no_item,
-  items,
-  ReadsMore,
-  no_more,
-  more,
-  ReadsPairs,
-  no_pair,
-  pair,
-  ReadsSettings,
-  no_setting,
-  setting,
-  ReadsMoreLiterals,
-  no_more_literal,
-  more_literals,
-  ReadsLiterals,
-  no_literal,
-  literals,
-  ReadsOperand,
-  one_token,
-  list,
-  ReadsTail,
-  alone,
-  comparison,
-  matching,
-  within,
-  not_within,
-  ReadsUnary,
-  compare,
-  negation,
-  group,
-  ReadsJoined,
-  joined,
-  ReadsAnds,
-  no_and,
-  and,
-  ReadsCondition,
-  condition,
-  ReadsOrs,
-  no_or,
-  or,
-  ReadsPlugin,
-  plugin,
-  ReadsStatements,
-  no_statement,
-  plugin_statement,
-  branch,
-  ReadsArm,
-  arm,
-  ReadsElse,
-  no_else,
-  else_if,
-  else,
-  ReadsPlugins,
-  no_plugin,
-  plugins,
-  ReadsSections,
-  no_section,
-  input,
-  filter,
-  output,
-  ReadsConfig,
-}
+use Rattle.config_grammar.specs.Joining.{Entries, with_entries, joined_value, plugin_of}
+use Rattle.config_grammar.specs.Grammar.{ReadsValue, scalar_value, bare, array, hash, no_nest, nested, no_item, items, no_more, more, no_pair, pair, no_setting, setting, no_more_literal, more_literals, no_literal, literals, one_token, list, alone, comparison, matching, within, not_within, ReadsUnary, compare, negation, group, joined, no_and, and, condition, no_or, or, ReadsPlugin, plugin, no_statement, plugin_statement, branch, arm, no_else, else_if, else, no_plugin, plugins, no_section, input, filter, output, ReadsConfig}
 use Rattle.config_grammar_tests.specs.Examples.{whole}
-use Rattle.config_grammar_tests.specs.Written.{
-  word,
-  field,
-  digit,
-  settings_tokens,
-  settings_config,
-  joints_tokens,
-  joints_config,
-  arms_tokens,
-  arms_config,
-  of_field,
-  of_number,
-  left_of_or,
-  right_of_xor,
-  joints_condition,
-}
+use Rattle.config_grammar_tests.specs.Written.{word, field, digit, settings_tokens, settings_config, joints_tokens, joints_config, arms_tokens, arms_config, of_field, of_number}
 
 -- Values of one token.
 bareword_value : {d : ℕ} (s : List ℕ) → ReadsValue d (word s ∷ []) (v.Text s)

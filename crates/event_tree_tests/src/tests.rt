@@ -351,6 +351,30 @@ fn numbers_have_one_least_form(rt: HostRuntime) {
     }
 }
 
+/// Whether a copy of one path is the same as another path.
+fn copy_is(alloc: Global, text: &str, other: &str) -> Result<bool, PathFault> {
+    let copy = Path::read(alloc, text)?.copy()?;
+    Ok(copy.same(&Path::read(alloc, other)?))
+}
+
+#[test]
+fn paths_are_the_same_by_their_parts(rt: HostRuntime) -> Result<(), Fail> {
+    let alloc = rt.alloc();
+    let cases = [
+        ("a", "[a]", true),
+        ("[a][0]", "[a][0]", true),
+        ("[a][b]", "[b][a]", false),
+        ("[a][b]", "[a]", false),
+        ("[@metadata][a]", "[@metadata][a]", true),
+        ("[@metadata][a]", "[a]", false),
+        ("@metadata", "metadata", false),
+    ];
+    for (text, other, want) in cases {
+        assert!(rt; copy_is(alloc, text, other)? == want, "{text}");
+    }
+    Ok(())
+}
+
 #[test]
 fn instants_end_with_the_year_9999(rt: HostRuntime) {
     assert!(rt; Instant::from_nanos(253_402_300_799_999_999_999).is_some());

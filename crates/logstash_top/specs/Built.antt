@@ -1,42 +1,27 @@
--- The configurations that are built, by their tokens.
-use Rattle.std.specs.Prelude.{◌≡◌, ◌⊎◌, ℕ, Bool, false, not, ◌||◌, ◌==◌, List, [], ◌∷◌, if◌then◌else◌, codes}
+-- The configurations that are built.
+use Rattle.std.specs.Prelude.{◌≡◌, ◌⊎◌, [], ◌∷◌, codes}
+use Rattle.config_grammar.specs.Joining.{Entries, plugin_of}
+use Rattle.config_grammar.specs.declared.tree.Config.{Config}
+use Rattle.config_grammar.specs.declared.tree.Plugin.{Plugin}
+use Rattle.config_grammar.specs.declared.tree.Statement.{Statement}
+use Rattle.config_grammar.specs.declared.tree.SettingValue.TheVariants as value
+use Rattle.config_grammar.specs.declared.tree.Statement.TheVariants as statement
 
--- space, tab, line feed and carriage return
-abbrev pub is_blank : ℕ → Bool
-is_blank b = (b == 32) || (b == 9) || (b == 10) || (b == 13)
+-- `stdin {}`
+abbrev pub stdin : Plugin
+stdin = plugin_of (codes "stdin") []
 
--- `{` and `}`
-abbrev pub is_brace : ℕ → Bool
-is_brace b = (b == 123) || (b == 125)
+-- `stdout` with its settings
+abbrev pub stdout : Entries → Statement
+stdout settings = statement.Plugin (plugin_of (codes "stdout") settings)
 
--- any other byte belongs to a word
-abbrev pub is_word : ℕ → Bool
-is_word b = not (is_blank b || is_brace b)
+-- `codec => json_lines`
+abbrev pub json_lines : Entries
+json_lines = (codes "codec", value.Text (codes "json_lines")) ∷ []
 
-abbrev pub begins_word : List ℕ → Bool
-begins_word [] = false
-begins_word (b ∷ bytes) = is_word b
+abbrev pub from_stdin : Entries → Config
+from_stdin settings = record { inputs = stdin ∷ []; filters = []; outputs = stdout settings ∷ [] }
 
--- a token stands at the front
-abbrev pub BeginsToken : List ℕ → Type 0
-BeginsToken [] = ⊥
-BeginsToken (b ∷ bytes) = is_blank b ≡ false
-
--- the byte before the first token, as a part of it
-abbrev pub before_first : ℕ → List (List ℕ) → List (List ℕ)
-before_first b [] = (b ∷ []) ∷ []
-before_first b (token ∷ tokens) = (b ∷ token) ∷ tokens
-
--- the tokens of a text: each brace, and each longest run of other bytes that are no blanks
-unfoldable pub tokens_of : List ℕ → List (List ℕ)
-tokens_of [] = []
-tokens_of (b ∷ bytes) =
-    if is_blank b then tokens_of bytes
-    else (if is_brace b || not (begins_word bytes) then (b ∷ []) ∷ tokens_of bytes
-    else before_first b (tokens_of bytes))
-
--- from stdin to stdout as JSON lines: with the codec, or without it, since it is the default of `stdout`
-abbrev pub IsBuilt : List ℕ → Type 0
-IsBuilt text =
-    (tokens_of text ≡ tokens_of (codes "input { stdin { } } output { stdout { } }"))
-    ⊎ (tokens_of text ≡ tokens_of (codes "input { stdin { } } output { stdout { codec => json_lines } }"))
+-- from stdin to stdout as JSON lines: without a codec, since that is the default of `stdout`, or with it
+abbrev pub IsBuilt : Config → Type 0
+IsBuilt config = (config ≡ from_stdin []) ⊎ (config ≡ from_stdin json_lines)

@@ -1,5 +1,6 @@
 pub mod Words
 pub mod Built
+pub mod Refused
 pub mod Status
 pub mod Rows
 pub mod Runs

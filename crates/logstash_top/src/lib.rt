@@ -3,6 +3,7 @@
 #![tactic(auto)]
 
 mod built;
+mod config;
 mod parts;
 mod pump;
 mod rows;

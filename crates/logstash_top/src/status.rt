@@ -12,10 +12,19 @@ pub enum WordsFault {
     Unread,
 }
 
-/// Why the text of a configuration is refused.
+/// Why the text of a configuration is refused. Places are counted in bytes from the text's start.
 #[derive(Clone, Copy, Debug, PartialEq, Eq, Error)]
 pub enum ConfigFault {
-    /// It is not one that this program runs yet.
+    /// It has more than 1,048,576 bytes.
+    #[error("long")]
+    Long,
+    /// The token at this place can't stand behind those before it; or the text ends early, and this is its length.
+    #[error("syntax at {0}")]
+    Syntax(usize),
+    /// The token at this place opens the 65th level.
+    #[error("deep at {0}")]
+    Deep(usize),
+    /// It is a configuration, and not one that this program runs yet.
     #[error("not built")]
     Thin,
 }

@@ -1,16 +1,17 @@
 ghost use Rattle.std.specs.Prelude.{◌≡◌, ◌≤◌, ◌⊎◌, IsErr, IfOk, OnOk, map, string_bytes};
 ghost use Rattle.outside.specs.Counts.{HasCause, Rose};
 ghost use Rattle.outside.specs.Telling.{Grows, GrowsInPart, IsFlushed};
-ghost use Rattle.logstash_top.specs.Status.{Answers, Completes, IsRefused, input_fault, output_fault, thin_fault, status_of, line_of};
+ghost use Rattle.logstash_top.specs.Status.{Answers, Completes, IsRefused, input_fault, output_fault, status_of, status_of_refusal, config_line, placed_line, line_of};
 ghost use Rattle.logstash_top.specs.Runs.{Ran, IsUntouched};
 
-use crate::built::is_built;
+use crate::config::{Refusal, check};
 use crate::parts::write_parts;
 use crate::pump::run;
 use crate::status::{ConfigFault, Status, WordsFault};
 use crate::stop::Stop;
 use crate::words::config_text;
 use crate::world::ThinWorld;
+use itoa::Buffer;
 use outside::{Clock, Failed, Sink, Source};
 use plain_lists::Text;
 use std::alloc::{AllocError, Global};
@@ -24,9 +25,11 @@ use std::sync::Wait;
 /// stdout was counted in it. The line of the status goes to stderr, and a fault there changes
 /// nothing. Where stdin has nothing yet, the clock is paused before the next read.
 ///
-/// - `Status::BadWords` comes exactly where the words are not `-e` and one text, and
-///   `Status::BadConfig` exactly where the tokens of that text are not those of a configuration that
-///   is built, or memory ran out: then nothing was read and nothing written to stdout.
+/// - `Status::BadWords` comes exactly where the words are not `-e` and one text.
+/// - `Status::BadConfig` comes exactly where that text is refused, with the reason: it is longer than
+///   1,048,576 bytes, its first token that no configuration has there stands at the place, its token at
+///   the place opens level 65, or it is a configuration that isn't built; unless memory ran out.
+///   At these two nothing was read and nothing written to stdout.
 /// - `Status::InputFault` and `Status::OutputFault` come only where the count of stdin's, or of
 ///   stdout's, faults rose in this call, or stands at the last value of u64.
 /// - `Status::NoMemory` may come anywhere. At each status stdout holds what stood there and then
@@ -82,8 +85,8 @@ fn outcome<R: Wait, I: Source, O: Sink, K: Clock>(
     let Some(text) = config_text(words) else {
         return Status::BadWords(WordsFault::Unread);
     };
-    if !is_built(text) {
-        return not_built(alloc);
+    if let Err(refusal) = check(alloc, text) {
+        return refused(alloc, refusal);
     }
     match run(rt, alloc, world) {
         Ok(()) => Status::Done,
@@ -91,12 +94,15 @@ fn outcome<R: Wait, I: Source, O: Sink, K: Clock>(
     }
 }
 
-fn not_built(alloc: Global) -> Status
-    ensures { (result ≡ thin_fault) ⊎ (result ≡ Status.NoMemory) }
+fn refused(alloc: Global, refusal: Refusal) -> Status
+    ensures { (result ≡ status_of_refusal refusal) ⊎ (result ≡ Status.NoMemory) }
 {
-    match Text::of(alloc, "main") {
-        Ok(pipeline) => Status::BadConfig(pipeline, ConfigFault::Thin),
-        Err(_) => Status::NoMemory,
+    match refusal {
+        Refusal::Config(fault) => match Text::of(alloc, "main") {
+            Ok(pipeline) => Status::BadConfig(pipeline, fault),
+            Err(_) => Status::NoMemory,
+        },
+        Refusal::Memory => Status::NoMemory,
     }
 }
 
@@ -142,10 +148,7 @@ fn write_line<O: Sink>(status: &Status, stderr: &mut O) -> Result<(), Failed>
         Status::BadWords(WordsFault::Unread) => {
             write_parts(stderr, &["logstash: words: unread\n"])
         }
-        Status::BadConfig(pipeline, ConfigFault::Thin) => write_parts(
-            stderr,
-            &["logstash: pipeline ", pipeline.as_str(), ": not built\n"],
-        ),
+        Status::BadConfig(pipeline, fault) => write_config_line(pipeline.as_str(), fault, stderr),
         Status::InputFault(pipeline, input) => write_parts(
             stderr,
             &[
@@ -162,4 +165,45 @@ fn write_line<O: Sink>(status: &Status, stderr: &mut O) -> Result<(), Failed>
         ),
         Status::NoMemory => write_parts(stderr, &["logstash: no memory\n"]),
     }
+}
+
+/// Writes the line of a refused configuration.
+fn write_config_line<O: Sink>(
+    pipeline: &str,
+    fault: &ConfigFault,
+    stderr: &mut O,
+) -> Result<(), Failed>
+    ensures ok { OnOk result (Grows (O.taken stderr.old) (O.taken stderr.new) (config_line pipeline.now fault.now)) }
+    ensures part { GrowsInPart (O.taken stderr.old) (O.taken stderr.new) (config_line pipeline.now fault.now) }
+    ensures cause { HasCause (O.faults stderr.old) (O.faults stderr.new) (IsErr result) }
+{
+    let mut buffer = Buffer::new();
+    match fault {
+        ConfigFault::Long => write_parts(stderr, &["logstash: pipeline ", pipeline, ": long\n"]),
+        ConfigFault::Syntax(at) => {
+            write_placed(pipeline, ": syntax at ", buffer.format(*at), stderr)
+        }
+        ConfigFault::Deep(at) => write_placed(pipeline, ": deep at ", buffer.format(*at), stderr),
+        ConfigFault::Thin => write_parts(
+            stderr,
+            &["logstash: pipeline ", pipeline, ": not built\n"],
+        ),
+    }
+}
+
+/// Writes the line of a configuration that is refused at a place.
+fn write_placed<'a, O: Sink>(
+    pipeline: &'a str,
+    reason: &'a str,
+    place: &'a str,
+    stderr: &mut O,
+) -> Result<(), Failed>
+    ensures ok { OnOk result (Grows (O.taken stderr.old) (O.taken stderr.new) (placed_line pipeline.now reason.now place.now)) }
+    ensures part { GrowsInPart (O.taken stderr.old) (O.taken stderr.new) (placed_line pipeline.now reason.now place.now) }
+    ensures cause { HasCause (O.faults stderr.old) (O.faults stderr.new) (IsErr result) }
+{
+    write_parts(
+        stderr,
+        &["logstash: pipeline ", pipeline, reason, place, "\n"],
+    )
 }

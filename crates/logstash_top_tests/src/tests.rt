@@ -97,8 +97,10 @@ fn each_line_gives_a_row(rt: HostRuntime) -> Result<(), Fail> {
     for text in [
         BUILT,
         "input { stdin {} } output { stdout {} }",
-        "input{stdin{}}output{stdout{codec => json_lines}}",
+        "input{stdin{}}output{stdout{codec=>json_lines}}",
         "\tinput\r\n{ stdin\n{\t}\n}\n\noutput { stdout { codec\n=>\tjson_lines } }\n",
+        "# lines\ninput { \"stdin\" {} } output { 'stdout' { \"codec\" => 'json_lines' } } # to the end",
+        "output { stdout { codec => line codec => json_lines } } filter { } input { } input { stdin {} }",
     ] {
         let (status, world) = run(&rt, rt.alloc(), &["-e", text], &Case::of(b"hello\n"))?;
         assert_eq!(rt; status.number(), 0, "{text}");
@@ -186,20 +188,51 @@ fn other_words_and_other_texts_are_refused(rt: HostRuntime) -> Result<(), Fail> 
             )?;
         }
     }
-    for text in [
-        "",
-        "input { stdin {} }",
-        "# lines\ninput { stdin {} } output { stdout {} }",
-        "input { \"stdin\" {} } output { stdout {} }",
-        "input { stdin {} } output { stdout { codec=>json_lines } }",
-        "input { stdin {} } output { stdout { codec => json_lines } } }",
-    ] {
-        let line = b"logstash: pipeline main: not built\n";
+    // why each text is refused
+    let texts: [(&str, &[u8]); 14] = [
+        ("", b"not built"),
+        ("input { stdin {} }", b"not built"),
+        ("input { stdin {} stdin {} } output { stdout {} }", b"not built"),
+        ("input { stdin { id => a } } output { stdout {} }", b"not built"),
+        ("input { stdin {} } filter { drop {} } output { stdout {} }", b"not built"),
+        ("input { stdin {} } output { if [a] { stdout {} } }", b"not built"),
+        ("input { stdin {} } output { stdout { codec => line } }", b"not built"),
+        (
+            "input { stdin {} } output { stdout { codec => json_lines {} } }",
+            b"not built",
+        ),
+        ("input { stdin {} } output { stdout {} } }", b"syntax at 40"),
+        ("input { stdin {} ", b"syntax at 17"),
+        ("inputs { stdin {} }", b"syntax at 0"),
+        ("input { if [a] { stdin {} } }", b"syntax at 11"),
+        ("filter { if [#] == 1 {} }", b"syntax at 12"),
+        (
+            "filter { if ((((((((((((((((((((((((((((((((((((((((((((((((((((((((((((((((",
+            b"deep at 75",
+        ),
+    ];
+    for (text, reason) in texts {
+        let mut line = Vec::from_slice(rt.alloc(), b"logstash: pipeline main: ")?;
+        line.extend_from_slice(reason)?;
+        line.push(b'\n')?;
         for call in [0, 1, 3, NEVER] {
-            is_refused(&rt, rt.alloc(), &["-e", text], call, 3, line)?;
+            is_refused(&rt, rt.alloc(), &["-e", text], call, 3, &line)?;
         }
     }
     Ok(())
+}
+
+#[test]
+fn a_text_of_more_than_a_megabyte_is_refused(rt: HostRuntime) -> Result<(), Fail> {
+    let mut text = String::from_str(rt.alloc(), BUILT)?;
+    while text.len() < 1_048_576 {
+        text.push(' ')?;
+    }
+    let (status, _) = run(&rt, rt.alloc(), &["-e", text.as_str()], &Case::of(b""))?;
+    assert_eq!(rt; status.number(), 0);
+    text.push(' ')?;
+    let line = b"logstash: pipeline main: long\n";
+    is_refused(&rt, rt.alloc(), &["-e", text.as_str()], NEVER, 3, line)
 }
 
 // Nothing is read, and nothing written to stdout, also where this call of stderr fails: a write or the

@@ -1,1 +1,3 @@
 pub mod Taking
+mod Pieces
+mod Linked

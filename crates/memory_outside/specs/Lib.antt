@@ -5,3 +5,4 @@ pub mod Sinks
 pub mod Clocks
 pub mod Controls
 pub mod Showings
+pub mod Links

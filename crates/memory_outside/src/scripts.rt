@@ -89,7 +89,7 @@ impl Script {
         let waits = self.waiting.contains(&self.made);
         self.begin()?;
         if waits {
-            self.waits = self.waits.saturating_add(1);
+            self.wait();
         }
         Ok(!waits)
     }
@@ -102,6 +102,15 @@ impl Script {
     {
         self.faults = self.faults.saturating_add(1);
         Failed
+    }
+
+    /// Counts a call that was begun as one that found nothing yet.
+    pub fn wait(&mut self)
+        ensures state { self.new ≡ record self.old { waits = one_more self.old.waits } }
+        ensures later { self.old.waits ≤ self.new.waits }
+        ensures rose { Rose self.old.waits self.new.waits }
+    {
+        self.waits = self.waits.saturating_add(1);
     }
 
     /// How many calls were made.

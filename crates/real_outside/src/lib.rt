@@ -5,13 +5,16 @@
 //! error or not-yet.
 #![tactic(auto)]
 
+mod connections;
 mod file_stores;
 mod folders;
 mod go_controls;
+mod listeners;
 mod opened_files;
 mod real_files;
 mod stdin_sources;
 mod system_clocks;
+mod tcp_links;
 mod write_sinks;
 
 pub use file_stores::FileStore;
@@ -19,4 +22,5 @@ pub use go_controls::GoControl;
 pub use real_files::RealFiles;
 pub use stdin_sources::StdinSource;
 pub use system_clocks::SystemClock;
+pub use tcp_links::TcpLinks;
 pub use write_sinks::WriteSink;

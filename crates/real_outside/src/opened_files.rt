@@ -47,6 +47,15 @@ impl Opened {
         Ok(())
     }
 
+    // Syncs it, if it changed.
+    fn sync(&mut self) -> io::Result<()> {
+        if self.changed {
+            self.file.sync_all()?;
+            self.changed = false;
+        }
+        Ok(())
+    }
+
     fn cut(&mut self, length: u64) -> io::Result<()> {
         let end = self.end()?;
         self.length = None;
@@ -166,8 +175,7 @@ impl OpenedFiles {
     pub fn sync(&mut self, rt: &impl Files<File = File>) -> io::Result<()> {
         for name in self.changed.as_slice() {
             if let Some(opened) = self.files.get_mut(name.as_str()) {
-                opened.file.sync_all()?;
-                opened.changed = false;
+                opened.sync()?;
             }
         }
         self.changed.clear();

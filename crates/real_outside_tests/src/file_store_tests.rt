@@ -1,7 +1,8 @@
 use crate::calls::{append, cut, gives, has_length, lists, path, remove, sync, write_at};
 use crate::folders::fresh_folder;
 use std::alloc::Global;
-use std::fs;
+use std::fs::{self, File};
+use std::io;
 use std::test::Fail;
 use store_disk::FileStore;
 
@@ -91,6 +92,43 @@ fn a_file_store_tells_a_full_disk_and_a_failing_sync(rt: HostRuntime) {
     assert!(rt; tells_a_full_disk(&mut store));
     let mut store = FileStore::new(rt.alloc(), &rt);
     assert!(rt; tells_a_failing_sync(&mut store));
+}
+
+// The greatest length that a file may have where this one stands.
+fn greatest_length(file: &File) -> io::Result<u64> {
+    let mut most = 0;
+    for bit in 0..63_u32 {
+        let length = most | (1_u64 << (62 - bit));
+        if file.set_len(length).is_ok() {
+            most = length;
+        }
+    }
+    file.set_len(0)?;
+    Ok(most)
+}
+
+// A write of four bytes fails of which two are taken, and later calls work.
+fn tells_a_short_write(store: &mut FileStore<&HostRuntime>, page: &str, at: u64) -> bool {
+    append(store, page, b"abc")
+        && !write_at(store, page, at, b"more")
+        && store.faults() == 1
+        && cut(store, page, 2)
+        && append(store, page, b"d")
+        && has_length(store, page, Some(3))
+        && sync(store)
+        && store.faults() == 1
+}
+
+#[test]
+fn a_file_store_tells_a_short_write(rt: HostRuntime) -> Result<(), Fail> {
+    let folder = fresh_folder(&rt, rt.alloc(), "short")?;
+    fs::create_dir(&rt, folder.as_str())?;
+    let page = path(rt.alloc(), folder.as_str(), "page.0")?;
+    let most = greatest_length(&File::create(&rt, page.as_str())?)?;
+    let mut store = FileStore::new(rt.alloc(), &rt);
+    assert!(rt; tells_a_short_write(&mut store, page.as_str(), most.saturating_sub(2)));
+    fs::remove_dir_all(&rt, folder.as_str())?;
+    Ok(())
 }
 
 // Appends to one of many files, and syncs now and then.

@@ -10,6 +10,8 @@ mod file_store_tests;
 mod folders;
 #[cfg(test)]
 mod real_files_tests;
+#[cfg(test)]
+mod tcp_tests;
 
 pub use calls::{
     append, cut, gives, has_length, has_one, is_long, lists, path, reads, remove, sync, write_at,

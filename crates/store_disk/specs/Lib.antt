@@ -10,5 +10,7 @@ pub use Rattle.store_images.specs.Images
 pub use Rattle.store_images.specs.Times
 pub use Rattle.store_images.specs.Chance
 pub use Rattle.store_images.specs.Moments
+pub use Rattle.store_images.specs.Steps
+pub use Rattle.store_images.specs.Leftovers
 pub use Rattle.time_instant.specs.Calendar
 pub mod Faults

@@ -9,14 +9,17 @@ mod worlds;
 
 pub use faults::{Damage, QueueFault};
 pub use memory_outside::{
-    Gave, ListClock, ListControl, MemoryFiles, MemorySink, MemorySource, Script, Showing,
+    ConnState, Gave, ListClock, ListControl, MemoryFiles, MemoryLinks, MemorySink, MemorySource,
+    Script, Sent, Showing,
 };
 pub use memory_store::{Call, Logged, MemoryStore, Table};
 pub use outside::{
     Clock, Come, Control, Failed, Files, Links, ListFault, Names, Said, Sink, Source, Step,
     write_all,
 };
-pub use real_outside::{FileStore, GoControl, RealFiles, StdinSource, SystemClock, WriteSink};
+pub use real_outside::{
+    FileStore, GoControl, RealFiles, StdinSource, SystemClock, TcpLinks, WriteSink,
+};
 pub use store_images::Store;
 pub use time_instant::Instant;
 pub use worlds::World;

@@ -3,6 +3,8 @@
 
 mod fixtures;
 #[cfg(test)]
+mod links_tests;
+#[cfg(test)]
 mod memory_tests;
 #[cfg(test)]
 mod tests;

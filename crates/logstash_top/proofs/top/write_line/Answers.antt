@@ -1,13 +1,13 @@
 use Rattle.std.proofs.Common.{OnOk, sym, ap, subst}
 use Rattle.outside.specs.Telling.{Grows}
 use Rattle.logstash_top.specs.Status.{line_of}
-use Rattle.logstash_top.proofs.Statuses.{config_line, input_line}
+use Rattle.logstash_top.proofs.Statuses.{config_lines, input_line}
 use Rattle.logstash_top.proofs.top.write_line.Goals as goal
 
-pub returns-in-BadConfig-default-Thin-clause-ok : goal.returns-in-BadConfig-default-Thin-clause-ok
-returns-in-BadConfig-default-Thin-clause-ok g c =
-    subst (λ l. OnOk c.write_parts-in-BadConfig-default-Thin.result (Grows (g.O.Sink.taken c.args.stderr.now) (g.O.Sink.taken c.write_parts-in-BadConfig-default-Thin.new.sink) l))
-    (config_line c.args.status.now c.in-BadConfig-default-Thin.pipeline c.as_str.result.now c.in-BadConfig-default-Thin.field-1 c.in-BadConfig-default-Thin.is c.as_str.ensures) c.write_parts-in-BadConfig-default-Thin.ensures.ok
+pub returns-in-BadConfig-clause-ok : goal.returns-in-BadConfig-clause-ok
+returns-in-BadConfig-clause-ok g c =
+    subst (λ l. OnOk c.write_config_line.result (Grows (g.O.Sink.taken c.args.stderr.now) (g.O.Sink.taken c.write_config_line.new.stderr) l))
+    (config_lines c.args.status.now c.in-BadConfig.pipeline c.as_str.result.now c.in-BadConfig.fault c.in-BadConfig.is c.as_str.ensures) c.write_config_line.ensures.ok
 
 pub returns-in-InputFault-clause-ok : goal.returns-in-InputFault-clause-ok
 returns-in-InputFault-clause-ok g c =

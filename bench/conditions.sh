@@ -1,0 +1,22 @@
+#!/usr/bin/env bash
+# How long does it take to evaluate a condition of ten parts on an event of thirty fields? Runs the
+# program bench_conditions on few and on many rounds; the difference of the two times is that of the
+# evaluations, without the start. The least of five runs counts. Each condition is Yes, and all of its
+# parts are evaluated. The event's fields with even numbers are texts, the others numbers.
+. "$(dirname "$0")/common.sh"
+
+build bench_conditions
+
+measure() {
+    few=$(least_time "$program" "$2" 1000)
+    many=$(least_time "$program" "$2" 201000)
+    echo "$1: $(((many - few) / 200000)) ns an evaluation"
+}
+
+text='"a value of some bytes"'
+measure "ten comparisons" "[field00] == $text and [field02] != 'another' and [field01] > 0
+    and [field03] >= 3 and [field05] < 5.5 and [field04] >= 'a' and [field07] in [5, 6, 7]
+    and 'some' in [field06] and [missing] not in [1, 2] and [field08]"
+measure "eight comparisons and two patterns" "[field00] == $text and [field02] =~ /^a value/
+    and [field01] > 0 and [field03] >= 3 and [field05] < 5.5 and [field04] >= 'a'
+    and [field07] in [5, 6, 7] and [field06] !~ /^no/ and [missing] not in [1, 2] and [field08]"

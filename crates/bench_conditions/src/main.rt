@@ -1,0 +1,80 @@
+//! Evaluates a condition on an event of thirty fields, to be timed from outside
+//! (bench/conditions.sh).
+#![tactic(auto)]
+
+use anyhow::{Context, Result, bail};
+use condition_eval::{Truth, eval, patterns_of};
+use config_grammar::{Condition, Config, Statement};
+use config_parse::parse;
+use event_tree::{Event, Number, Path, Text, Value};
+use pattern_box::Patterns;
+use std::alloc::Global;
+use std::env;
+
+/// How many fields the event has.
+const FIELDS: u8 = 30;
+
+fn main(rt: HostRuntime) -> Result<()> {
+    let alloc = rt.alloc();
+    let words: Vec<String> = env::args(&rt)?.skip(1).collect(alloc)?;
+    let [text, rounds] = words.as_slice() else {
+        println!(rt; "usage: bench_conditions CONDITION ROUNDS")?;
+        return Ok(());
+    };
+    let rounds = rounds.as_str().parse::<u32>().context("rounds")?;
+    let config = config(alloc, text.as_str())?;
+    let condition = condition(&config)?;
+    let mut patterns = patterns_of(alloc, condition)?;
+    let event = event(alloc)?;
+    let found = rounds_that_hold(condition, &mut patterns, &event, rounds)?;
+    println!(rt; "{found}")?;
+    Ok(())
+}
+
+fn config(alloc: Global, text: &str) -> Result<Config> {
+    let source = format!(in alloc; "filter {{ if {text} {{ }} }}")?;
+    Ok(parse(alloc, source.as_str())?)
+}
+
+/// The condition of the one branch.
+fn condition(config: &Config) -> Result<&Condition> {
+    if let Some(Statement::Branch(arms)) = config.filters.get(0) {
+        if let Some(arm) = arms.get(0) {
+            if let Some(condition) = &arm.condition {
+                return Ok(condition);
+            }
+        }
+    }
+    bail!("no condition")
+}
+
+/// Fields `field00` to `field29`, texts and numbers in turn.
+fn event(alloc: Global) -> Result<Event> {
+    let mut event = Event::new(alloc);
+    for i in 0..FIELDS {
+        let path = format!(in alloc; "field{i:02}")?;
+        let value = if i % 2 == 0 {
+            Value::Text(Text::of(alloc, "a value of some bytes")?)
+        } else {
+            Value::Num(Number::new(i64::from(i), 0).context("number")?)
+        };
+        event.put(&Path::read(alloc, path.as_str())?, value)?;
+    }
+    Ok(event)
+}
+
+/// In how many rounds the condition is Yes.
+fn rounds_that_hold(
+    condition: &Condition,
+    patterns: &mut Patterns,
+    event: &Event,
+    rounds: u32,
+) -> Result<u64> {
+    let mut found = 0u64;
+    for _ in 0..rounds {
+        if eval(condition, patterns, event)? == Truth::Yes {
+            found = found.wrapping_add(1);
+        }
+    }
+    Ok(found)
+}

@@ -1,0 +1,11 @@
+pub mod Among
+pub mod EqualityLemmas
+pub mod Finding
+pub mod Holding
+pub mod Lists
+pub mod Making
+pub mod Outs
+pub mod Raising
+pub mod TextsOf
+pub mod TruthsOf
+pub mod Walking

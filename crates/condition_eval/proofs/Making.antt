@@ -1,0 +1,142 @@
+-- The patterns that are made of a condition, part by part.
+use Rattle.std.proofs.Common.{◌≡◌, ℕ, suc, zero, ◌+◌, ◌-◌, ◌<◌, ◌≤◌, get_or, List, [], ◌∷◌, ◌++◌, length, drop, inl, inr, refl, sym, ap, subst, ◌∙◌, append_assoc, length-append, slice_set, take, arith}
+use Rattle.std.specs.Prelude.{Result, Ok, Err, OnOk, IfErr}
+use Rattle.std.proofs.lemmas.List.{append-nil, drop-drop, length-drop, length-map}
+use Rattle.std.proofs.Math.Seq.{take-append_seam}
+use Rattle.regex_hir.specs.Re.{Re}
+use Rattle.pattern_box.specs.Patterns.{IsReadFrom}
+use Rattle.pattern_box.specs.declared.pattern.Pattern as box
+use Rattle.pattern_box.specs.declared.fault.PatternFault.{PatternFault}
+use Rattle.condition_eval.specs.Made.{AreReadFrom, Added, OneIsRefused, BeginWith, meaning_of, meanings}
+
+pub added_none : (ps : List box.Pattern) → Added [] ps ps
+added_none ps = record { more = []; whole = sym (append-nil ps); read = tt }
+
+pub none_added : (ss : List (List ℕ)) (ps : List box.Pattern) → ss ≡ [] → Added ss ps ps
+none_added ss ps e = subst (λ t. Added t ps ps) (sym e) (added_none ps)
+
+pub added_one : (s : List ℕ) (p : box.Pattern) (ps : List box.Pattern) → IsReadFrom s p → Added (s ∷ []) ps (ps ++ p ∷ [])
+added_one s p ps h = record { more = p ∷ []; whole = refl; read = (h, tt) }
+
+read_append : (a b : List (List ℕ)) (xs ys : List box.Pattern) → AreReadFrom a xs → AreReadFrom b ys → AreReadFrom (a ++ b) (xs ++ ys)
+read_append [] b [] ys h k = k
+read_append [] b (x ∷ xs) ys h k = absurd h
+read_append (s ∷ a) b [] ys h k = absurd h
+read_append (s ∷ a) b (x ∷ xs) ys h k = (h.0, read_append a b xs ys h.1 k)
+
+pub added_both : (a b : List (List ℕ)) (ps qs rs : List box.Pattern) → Added a ps qs → Added b qs rs → Added (a ++ b) ps rs
+added_both a b ps qs rs h k = record { more = h.more ++ k.more; whole = k.whole ∙ ap (λ x. x ++ k.more) h.whole ∙ append_assoc ps h.more k.more; read = read_append a b h.more k.more h.read k.read }
+
+pub refused_left : (fault : PatternFault) (a b : List (List ℕ)) → OneIsRefused fault a → OneIsRefused fault (a ++ b)
+refused_left fault [] b h = absurd h
+refused_left fault (s ∷ a) b (inl h) = inl h
+refused_left fault (s ∷ a) b (inr h) = inr (refused_left fault a b h)
+
+pub refused_right : (fault : PatternFault) (a b : List (List ℕ)) → OneIsRefused fault b → OneIsRefused fault (a ++ b)
+refused_right fault [] b h = h
+refused_right fault (s ∷ a) b h = inr (refused_right fault a b h)
+
+pub added_then : (r : Result (Unit {0}) PatternFault) (a b x : List (List ℕ)) (ps qs rs : List box.Pattern) → x ≡ a ++ b → Added a ps qs → OnOk r (Added b qs rs) → OnOk r (Added x ps rs)
+added_then (Ok u) a b x ps qs rs e h k = subst (λ s. Added s ps rs) (sym e) (added_both a b ps qs rs h k)
+added_then (Err f) a b x ps qs rs e h k = tt
+
+pub refused_then : (r : Result (Unit {0}) PatternFault) (a b x : List (List ℕ)) → x ≡ a ++ b → IfErr r (λ fault. OneIsRefused fault b) → IfErr r (λ fault. OneIsRefused fault x)
+refused_then (Ok u) a b x e h = tt
+refused_then (Err f) a b x e h = subst (OneIsRefused f) (sym e) (refused_right f a b h)
+
+pub joint_refused : (fault : PatternFault) (a b x : List (List ℕ)) → x ≡ a ++ b → OneIsRefused fault a → OneIsRefused fault x
+joint_refused fault a b x e h = subst (OneIsRefused fault) (sym e) (refused_left fault a b h)
+
+pub begins_left : (a b : List (List ℕ)) (ps : List box.Pattern) → BeginWith (a ++ b) ps → BeginWith a ps
+begins_left [] b ps h = tt
+begins_left (s ∷ a) b [] h = absurd h
+begins_left (s ∷ a) b (p ∷ ps) h = (h.0, begins_left a b ps h.1)
+
+begins_right : (a b : List (List ℕ)) (ps : List box.Pattern) → BeginWith (a ++ b) ps → BeginWith b (drop (length a) ps)
+begins_right [] b ps h = h
+begins_right (s ∷ a) b [] h = absurd h
+begins_right (s ∷ a) b (p ∷ ps) h = begins_right a b ps h.1
+
+-- a pattern of the same meaning is read from the same text
+same_read : (s : List ℕ) (p q : box.Pattern) → meaning_of p ≡ meaning_of q → IsReadFrom s p → IsReadFrom s q
+same_read s p q e h = (h.0, (h.1.0, h.1.1, h.1.2, sym (ap (λ m. m.0) e) ∙ h.1.3, sym (ap (λ m. m.1) e) ∙ h.1.4))
+
+head_of : Re × ℕ → List (Re × ℕ) → Re × ℕ
+head_of d [] = d
+head_of d (m ∷ ms) = m
+
+tail_of : List (Re × ℕ) → List (Re × ℕ)
+tail_of [] = []
+tail_of (m ∷ ms) = ms
+
+pub begins_same : (ss : List (List ℕ)) (ps qs : List box.Pattern) → meanings ps ≡ meanings qs → BeginWith ss ps → BeginWith ss qs
+unfolding head_of tail_of
+begins_same [] ps qs e h = tt
+begins_same (s ∷ ss) [] qs e h = absurd h
+begins_same (s ∷ ss) (p ∷ ps) [] e h = absurd (cc)
+begins_same (s ∷ ss) (p ∷ ps) (q ∷ qs) e h = (same_read s p q (ap (head_of (meaning_of p)) e) h.0, begins_same ss ps qs (ap tail_of e) h.1)
+
+pub read_same : (ss : List (List ℕ)) (ps qs : List box.Pattern) → meanings ps ≡ meanings qs → AreReadFrom ss ps → AreReadFrom ss qs
+unfolding head_of tail_of
+read_same [] [] [] e h = tt
+read_same [] [] (q ∷ qs) e h = absurd (cc)
+read_same [] (p ∷ ps) qs e h = absurd h
+read_same (s ∷ ss) [] qs e h = absurd h
+read_same (s ∷ ss) (p ∷ ps) [] e h = absurd (cc)
+read_same (s ∷ ss) (p ∷ ps) (q ∷ qs) e h = (same_read s p q (ap (head_of (meaning_of p)) e) h.0, read_same ss ps qs (ap tail_of e) h.1)
+
+pub begin_where_read : (ss : List (List ℕ)) (ps : List box.Pattern) → AreReadFrom ss ps → BeginWith ss ps
+begin_where_read [] ps h = tt
+begin_where_read (s ∷ ss) [] h = absurd h
+begin_where_read (s ∷ ss) (p ∷ ps) h = (h.0, begin_where_read ss ps h.1)
+
+drop_same : (n : ℕ) (ps qs : List box.Pattern) → meanings ps ≡ meanings qs → meanings (drop n ps) ≡ meanings (drop n qs)
+unfolding tail_of
+drop_same zero ps qs e = e
+drop_same (suc n) [] [] e = refl
+drop_same (suc n) [] (q ∷ qs) e = absurd (cc)
+drop_same (suc n) (p ∷ ps) [] e = absurd (cc)
+drop_same (suc n) (p ∷ ps) (q ∷ qs) e = drop_same n ps qs (ap tail_of e)
+
+-- behind the patterns of the left side begin those of the right one
+pub begins_next : (a b : List (List ℕ)) (at next : ℕ) (ps qs : List box.Pattern) → BeginWith (a ++ b) (drop at ps) → meanings qs ≡ meanings ps → next ≡ at + length a → BeginWith b (drop next qs)
+begins_next a b at next ps qs h e n = begins_same b (drop next ps) (drop next qs) (drop_same next ps qs (sym e)) (subst (λ k. BeginWith b (drop k ps)) (sym n) (subst (BeginWith b) (drop-drop (length a) at ps) (begins_right a b (drop at ps) h)))
+
+begins_length : (ss : List (List ℕ)) (ps : List box.Pattern) → BeginWith ss ps → length ss ≤ length ps
+begins_length [] ps h = omega arith
+begins_length (s ∷ ss) [] h = absurd h
+begins_length (s ∷ ss) (p ∷ ps) h = omega (arith, begins_length ss ps h.1)
+
+-- the place behind the patterns is a place
+pub past_fits : (ss : List (List ℕ)) (at bound : ℕ) (ps : List box.Pattern) → BeginWith ss (drop at ps) → at < bound → length ps < bound → at + length ss < bound
+past_fits ss at bound ps h a l = let n : length ss ≤ length ps - at = subst (λ k. length ss ≤ k) (length-drop at ps) (begins_length ss (drop at ps) h) in omega (arith, n)
+
+pub first_within : (s : List ℕ) (at : ℕ) (ps : List box.Pattern) → BeginWith (s ∷ []) (drop at ps) → at < length ps
+first_within s at ps h = let n : 1 ≤ length ps - at = subst (λ k. 1 ≤ k) (length-drop at ps) (begins_length (s ∷ []) (drop at ps) h) in omega (arith, n)
+
+abbrev no_patterns : List box.Pattern
+no_patterns = []
+
+drop_nothing : (n : ℕ) → drop n no_patterns ≡ []
+drop_nothing zero = refl
+drop_nothing (suc n) = refl
+
+pub first_read : (s : List ℕ) (at : ℕ) (ps : List box.Pattern) (p d : box.Pattern) → BeginWith (s ∷ []) (drop at ps) → p ≡ get_or ps at d → IsReadFrom s p
+first_read s at [] p d h e = absurd (subst (BeginWith (s ∷ [])) (drop_nothing at) h)
+first_read s zero (q ∷ ps) p d h e = subst (IsReadFrom s) (sym e) h.0
+first_read s (suc at) (q ∷ ps) p d h e = first_read s at ps p d h e
+
+pub past_next : (a b : List (List ℕ)) (at next bound : ℕ) (ps : List box.Pattern) → BeginWith (a ++ b) (drop at ps) → at < bound → length ps < bound → next ≡ at + length a → next + length b < bound
+past_next a b at next bound ps h l k n = omega (arith, past_fits (a ++ b) at bound ps h l k, length-append a b)
+
+pub set_same : (ps : List box.Pattern) (at : ℕ) (p q d : box.Pattern) → p ≡ get_or ps at d → meaning_of q ≡ meaning_of p → meanings (slice_set ps at q) ≡ meanings ps
+set_same [] at p q d e f = refl
+set_same (x ∷ ps) zero p q d e f = λ i. (f ∙ ap meaning_of e) i ∷ meanings ps
+set_same (x ∷ ps) (suc at) p q d e f = ap (λ ms. meaning_of x ∷ ms) (set_same ps at p q d e f)
+
+-- the patterns of a list whose slice was lent
+pub written_back : (ps qs new : List box.Pattern) → meanings new ≡ meanings qs → qs ≡ ps → meanings ps ≡ meanings (take (length ps) (new ++ drop (length new) ps))
+written_back ps qs new e is =
+    let l : length new ≡ length ps = sym (length-map new meaning_of) ∙ ap length e ∙ length-map qs meaning_of ∙ ap length is in
+    let whole : take (length ps) (new ++ drop (length new) ps) ≡ new = ap (λ n. take n (new ++ drop (length new) ps)) (sym l) ∙ take-append_seam new (drop (length new) ps) in
+    sym (ap meanings whole ∙ e ∙ ap meanings is)

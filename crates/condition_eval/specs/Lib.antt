@@ -1,0 +1,5 @@
+pub mod Equality
+pub mod Made
+pub mod Sides
+pub mod Truths
+pub mod Values

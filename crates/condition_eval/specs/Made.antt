@@ -1,0 +1,73 @@
+-- The patterns that are made of a condition.
+use Rattle.std.specs.Prelude.{◌≡◌, ℕ, List, [], ◌∷◌, ◌++◌, map, ⊤, ◌⊎◌}
+use Rattle.regex_hir.specs.Re.{Re}
+use Rattle.pattern_box.specs.Patterns.{pattern_re, pattern_groups, IsReadFrom, IsRefusal}
+use Rattle.pattern_box.specs.declared.pattern.Pattern as box
+use Rattle.pattern_box.specs.declared.fault.PatternFault.{PatternFault}
+use Rattle.config_grammar.specs.declared.tree.Pattern as written
+use Rattle.config_grammar.specs.declared.tree.Pattern.TheVariants as p
+use Rattle.config_grammar.specs.declared.tree.Condition.{Condition}
+use Rattle.config_grammar.specs.declared.tree.Condition.TheOpen.{Condition-F}
+use Rattle.config_grammar.specs.declared.tree.Condition.TheFolds.{fold-Condition}
+
+-- the text of a pattern: a regexp and a string are the same pattern
+abbrev pub pattern_text : written.Pattern → List ℕ
+pattern_text (p.Regexp s) = s
+pattern_text (p.Text s) = s
+
+abbrev pub texts_step : Condition-F (List (List ℕ)) → List (List ℕ)
+texts_step (Condition-F.Operand x) = []
+texts_step (Condition-F.Not part) = part
+texts_step (Condition-F.And left right) = left ++ right
+texts_step (Condition-F.Nand left right) = left ++ right
+texts_step (Condition-F.Or left right) = left ++ right
+texts_step (Condition-F.Xor left right) = left ++ right
+texts_step (Condition-F.Equal x y) = []
+texts_step (Condition-F.Unequal x y) = []
+texts_step (Condition-F.Less x y) = []
+texts_step (Condition-F.Greater x y) = []
+texts_step (Condition-F.AtMost x y) = []
+texts_step (Condition-F.AtLeast x y) = []
+texts_step (Condition-F.Matches x p) = pattern_text p ∷ []
+texts_step (Condition-F.MatchesNot x p) = pattern_text p ∷ []
+texts_step (Condition-F.In x y) = []
+texts_step (Condition-F.NotIn x y) = []
+
+-- the texts of the patterns of a condition, in its order
+unfoldable pub texts : Condition → List (List ℕ)
+texts = fold-Condition (List (List ℕ)) texts_step
+
+-- each pattern is read from its text
+abbrev pub AreReadFrom : List (List ℕ) → List box.Pattern → Type 0
+AreReadFrom [] [] = ⊤
+AreReadFrom [] (p ∷ ps) = ⊥
+AreReadFrom (s ∷ ss) [] = ⊥
+AreReadFrom (s ∷ ss) (p ∷ ps) = IsReadFrom s p × AreReadFrom ss ps
+
+-- the patterns were made of the condition
+abbrev pub AreMadeOf : Condition → List box.Pattern → Type 0
+AreMadeOf condition ps = AreReadFrom (texts condition) ps
+
+-- one of the texts is refused with this fault
+abbrev pub OneIsRefused : PatternFault → List (List ℕ) → Type 0
+OneIsRefused fault [] = ⊥
+OneIsRefused fault (s ∷ ss) = IsRefusal s fault ⊎ OneIsRefused fault ss
+
+-- behind the old patterns stand new ones that are read from these texts
+pub record Added (ss : List (List ℕ)) (old new : List box.Pattern) : Type 0 where
+  pub more : List box.Pattern
+  pub whole : new ≡ old ++ more
+  pub read : AreReadFrom ss more
+
+-- the first patterns are read from these texts
+abbrev pub BeginWith : List (List ℕ) → List box.Pattern → Type 0
+BeginWith [] ps = ⊤
+BeginWith (s ∷ ss) [] = ⊥
+BeginWith (s ∷ ss) (p ∷ ps) = IsReadFrom s p × BeginWith ss ps
+
+-- what a pattern searches for, with how many groups
+abbrev pub meaning_of : box.Pattern → Re × ℕ
+meaning_of p = (pattern_re p, pattern_groups p)
+
+abbrev pub meanings : List box.Pattern → List (Re × ℕ)
+meanings ps = map meaning_of ps

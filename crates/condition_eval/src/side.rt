@@ -1,0 +1,77 @@
+ghost use Rattle.std.specs.Prelude.{◌≡◌};
+ghost use Rattle.condition_eval.specs.Values as spec;
+ghost use Rattle.condition_eval.specs.Sides as sides;
+
+use crate::truth::Kind;
+use config_grammar::{Literal, Operand};
+use event_tree::{Event, Fields, Instant, Number, Value};
+use plain_lists::Text;
+
+/// What stands on one side of a comparison, where the event or the condition holds it.
+#[derive(Clone, Copy)]
+pub(crate) enum Side<'a> {
+    Null,
+    Bool(bool),
+    Number(&'a Number),
+    Text(&'a Text),
+    Time(&'a Instant),
+    /// A list of the event.
+    Values(&'a [Value]),
+    /// A list that the condition writes.
+    Literals(&'a [Literal]),
+    Object(&'a Fields<Value>),
+}
+
+/// What an operand is in an event: null where the field is missing.
+pub(crate) fn side_of<'a>(operand: &'a Operand, event: &'a Event) -> Side<'a>
+    ensures { sides.value_of result ≡ spec.operand_value event.now operand.now }
+{
+    match operand {
+        Operand::Field(path) => match event.get(path) {
+            Some(value) => side_of_value(value),
+            None => Side::Null,
+        },
+        Operand::Text(text) => Side::Text(text),
+        Operand::Number(number) => Side::Number(number),
+        Operand::List(list) => Side::Literals(list.as_slice()),
+    }
+}
+
+pub(crate) fn side_of_value(value: &Value) -> Side<'_>
+    ensures { sides.value_of result ≡ value.now }
+{
+    match value {
+        Value::Null => Side::Null,
+        Value::Bool(truth) => Side::Bool(*truth),
+        Value::Num(number) => Side::Number(number),
+        Value::Text(text) => Side::Text(text),
+        Value::Time(moment) => Side::Time(moment),
+        Value::List(items) => Side::Values(items.as_slice()),
+        Value::Object(fields) => Side::Object(fields),
+    }
+}
+
+pub(crate) fn side_of_literal(literal: &Literal) -> Side<'_>
+    ensures { sides.value_of result ≡ spec.literal_value literal.now }
+{
+    match literal {
+        Literal::Text(text) => Side::Text(text),
+        Literal::Number(number) => Side::Number(number),
+    }
+}
+
+/// The kind of a side.
+#[tactic(auto, using(crate::proofs::Outs::outs))]
+pub(crate) fn kind(side: Side<'_>) -> Kind
+    ensures { result ≡ spec.kind_of (sides.value_of side.entry) }
+{
+    match side {
+        Side::Null => Kind::Null,
+        Side::Bool(_) => Kind::Boolean,
+        Side::Number(_) => Kind::Number,
+        Side::Text(_) => Kind::Text,
+        Side::Time(_) => Kind::Time,
+        Side::Values(_) | Side::Literals(_) => Kind::List,
+        Side::Object(_) => Kind::Object,
+    }
+}

@@ -1,0 +1,252 @@
+ghost use Rattle.std.specs.Prelude.{◌≡◌, ◌+◌, ◌<◌, ◌^◌, ◌++◌, ◌∷◌, [], length, drop, IfOk};
+ghost use Rattle.pattern_box.specs.Patterns.{IsReadFrom, IsSamePattern};
+ghost use Rattle.condition_eval.specs.Truths as spec;
+ghost use Rattle.condition_eval.specs.Made.{AreMadeOf, BeginWith, texts, pattern_text, meanings};
+ghost use Rattle.condition_eval.specs.Sides.{value_of};
+ghost use Rattle.condition_eval.specs.Values.{operand_value};
+
+use crate::operators::{alone, at_least, at_most, equal, greater, less, within};
+use crate::side::{Side, kind, side_of};
+use crate::truth::{Reason, Truth};
+use config_grammar::{Condition, Operand, Pattern as Written};
+use event_tree::Event;
+use pattern_box::{Pattern, Patterns};
+use std::alloc::AllocError;
+
+/// What a condition says of an event. The patterns are those that `patterns_of` made of it, and
+/// stay so.
+///
+/// A missing field counts as null. `and` and `nand` evaluate their right side after Yes, `or` after
+/// No, and `xor` after both. The first Wrong that is met is the result.
+pub fn eval(
+    condition: &Condition,
+    patterns: &mut Patterns,
+    event: &Event,
+) -> Result<Truth, AllocError>
+    requires { AreMadeOf condition.now patterns.old }
+    ensures truth { IfOk result (λ found. found ≡ spec.truth condition.now event.now) }
+    ensures same { meanings patterns.new ≡ meanings patterns.old }
+    ensures made { AreMadeOf condition.now patterns.new }
+{
+    Ok(walk(condition, patterns.as_mut_slice(), 0, event)?.truth)
+}
+
+/// What a part of a condition says, and the place of the first pattern behind its own.
+#[derive(Drop)]
+pub(crate) struct Passed {
+    truth: Truth,
+    next: usize,
+}
+
+impl Passed {
+    fn negated(self) -> Passed
+        ensures truth { result.truth ≡ spec.negated self.truth }
+        ensures next { result.next ≡ self.next }
+    {
+        Passed {
+            truth: self.truth.negated(),
+            next: self.next,
+        }
+    }
+}
+
+// The patterns of the condition begin at the place `at`.
+#[tactic(auto, using(crate::proofs::TruthsOf::truths, crate::proofs::TextsOf::texts_of))]
+#[cycle(walk)]
+fn walk(
+    condition: &Condition,
+    patterns: &mut [Pattern],
+    at: usize,
+    event: &Event,
+) -> Result<Passed, AllocError>
+    requires { BeginWith (texts condition.now) (drop at patterns.old) }
+    ensures truth { IfOk result (λ passed. passed.truth ≡ spec.truth condition.now event.now) }
+    ensures next { IfOk result (λ passed. passed.next ≡ at + length (texts condition.now)) }
+    ensures same { meanings patterns.new ≡ meanings patterns.old }
+{
+    match condition {
+        Condition::Not(part) => Ok(walk(part.get(), patterns, at, event)?.negated()),
+        Condition::And(left, right) => and(left.get(), right.get(), patterns, at, event),
+        Condition::Nand(left, right) => {
+            Ok(and(left.get(), right.get(), patterns, at, event)?.negated())
+        }
+        Condition::Or(left, right) => or(left.get(), right.get(), patterns, at, event),
+        Condition::Xor(left, right) => xor(left.get(), right.get(), patterns, at, event),
+        Condition::Matches(operand, written) => search(operand, written, patterns, at, event),
+        Condition::MatchesNot(operand, written) => {
+            Ok(search(operand, written, patterns, at, event)?.negated())
+        }
+        Condition::Operand(operand) => Ok(here(alone(side_of(operand, event)), at)),
+        Condition::Equal(left, right) => {
+            Ok(here(equal(side_of(left, event), side_of(right, event)), at))
+        }
+        Condition::Unequal(left, right) => {
+            Ok(here(equal(side_of(left, event), side_of(right, event)), at).negated())
+        }
+        Condition::Less(left, right) => Ok(here(
+            less(side_of(left, event), side_of(right, event)),
+            at,
+        )),
+        Condition::Greater(left, right) => {
+            Ok(here(greater(side_of(left, event), side_of(right, event)), at))
+        }
+        Condition::AtMost(left, right) => {
+            Ok(here(at_most(side_of(left, event), side_of(right, event)), at))
+        }
+        Condition::AtLeast(left, right) => {
+            Ok(here(at_least(side_of(left, event), side_of(right, event)), at))
+        }
+        Condition::In(left, right) => Ok(here(
+            within(side_of(left, event), side_of(right, event)),
+            at,
+        )),
+        Condition::NotIn(left, right) => {
+            Ok(here(within(side_of(left, event), side_of(right, event)), at).negated())
+        }
+    }
+}
+
+/// The right side is evaluated after Yes alone.
+#[cycle(walk)]
+fn and(
+    left: &Condition,
+    right: &Condition,
+    patterns: &mut [Pattern],
+    at: usize,
+    event: &Event,
+) -> Result<Passed, AllocError>
+    requires { BeginWith (texts left.now ++ texts right.now) (drop at patterns.old) }
+    ensures truth { IfOk result (λ passed. passed.truth
+        ≡ spec.conjoined (spec.truth left.now event.now) (spec.truth right.now event.now)) }
+    ensures next { IfOk result (λ passed. passed.next
+        ≡ at + length (texts left.now ++ texts right.now)) }
+    ensures same { meanings patterns.new ≡ meanings patterns.old }
+{
+    let Passed { truth, next } = walk(left, patterns, at, event)?;
+    match truth {
+        Truth::Yes => walk(right, patterns, next, event),
+        Truth::No => Ok(here(Truth::No, past(right, next))),
+        Truth::Wrong(reason) => Ok(here(Truth::Wrong(reason), past(right, next))),
+    }
+}
+
+/// The right side is evaluated after No alone.
+#[cycle(walk)]
+fn or(
+    left: &Condition,
+    right: &Condition,
+    patterns: &mut [Pattern],
+    at: usize,
+    event: &Event,
+) -> Result<Passed, AllocError>
+    requires { BeginWith (texts left.now ++ texts right.now) (drop at patterns.old) }
+    ensures truth { IfOk result (λ passed. passed.truth
+        ≡ spec.disjoined (spec.truth left.now event.now) (spec.truth right.now event.now)) }
+    ensures next { IfOk result (λ passed. passed.next
+        ≡ at + length (texts left.now ++ texts right.now)) }
+    ensures same { meanings patterns.new ≡ meanings patterns.old }
+{
+    let Passed { truth, next } = walk(left, patterns, at, event)?;
+    match truth {
+        Truth::Yes => Ok(here(Truth::Yes, past(right, next))),
+        Truth::No => walk(right, patterns, next, event),
+        Truth::Wrong(reason) => Ok(here(Truth::Wrong(reason), past(right, next))),
+    }
+}
+
+/// The right side is evaluated after Yes and No.
+#[cycle(walk)]
+fn xor(
+    left: &Condition,
+    right: &Condition,
+    patterns: &mut [Pattern],
+    at: usize,
+    event: &Event,
+) -> Result<Passed, AllocError>
+    requires { BeginWith (texts left.now ++ texts right.now) (drop at patterns.old) }
+    ensures truth { IfOk result (λ passed. passed.truth
+        ≡ spec.different (spec.truth left.now event.now) (spec.truth right.now event.now)) }
+    ensures next { IfOk result (λ passed. passed.next
+        ≡ at + length (texts left.now ++ texts right.now)) }
+    ensures same { meanings patterns.new ≡ meanings patterns.old }
+{
+    let Passed { truth, next } = walk(left, patterns, at, event)?;
+    match truth {
+        Truth::Yes => Ok(walk(right, patterns, next, event)?.negated()),
+        Truth::No => walk(right, patterns, next, event),
+        Truth::Wrong(reason) => Ok(here(Truth::Wrong(reason), past(right, next))),
+    }
+}
+
+/// `=~` with the pattern at the place `at`.
+fn search(
+    operand: &Operand,
+    written: &Written,
+    patterns: &mut [Pattern],
+    at: usize,
+    event: &Event,
+) -> Result<Passed, AllocError>
+    requires { BeginWith (pattern_text written.now ∷ []) (drop at patterns.old) }
+    ensures truth { IfOk result (λ passed. passed.truth
+        ≡ spec.matching (spec.found_in (pattern_text written.now)) (operand_value event.now operand.now)) }
+    ensures next { IfOk result (λ passed. passed.next ≡ at + 1) }
+    ensures same { meanings patterns.new ≡ meanings patterns.old }
+{
+    let truth = matching(side_of(operand, event), written, &mut patterns[at])?;
+    Ok(here(truth, at + 1))
+}
+
+/// Whether the pattern is found in a text. Null holds none, and other kinds are wrong.
+#[tactic(auto, using(crate::proofs::Outs::outs))]
+fn matching(side: Side<'_>, written: &Written, pattern: &mut Pattern) -> Result<Truth, AllocError>
+    requires { IsReadFrom (pattern_text written.now) pattern.old }
+    ensures truth { IfOk result (λ truth. truth
+        ≡ spec.matching (spec.found_in (pattern_text written.now)) (value_of side.entry)) }
+    ensures same { IsSamePattern pattern.old pattern.new }
+{
+    match side {
+        Side::Null => Ok(Truth::No),
+        Side::Text(text) => Ok(Truth::of(is_found(written, pattern, text.as_str())?)),
+        other => Ok(Truth::Wrong(Reason::Match(kind(other)))),
+    }
+}
+
+fn is_found(written: &Written, pattern: &mut Pattern, text: &str) -> Result<bool, AllocError>
+    requires { IsReadFrom (pattern_text written.now) pattern.old }
+    ensures found { IfOk result (λ found. found ≡ spec.found_in (pattern_text written.now) text.now) }
+    ensures same { IsSamePattern pattern.old pattern.new }
+{
+    Ok(pattern.spans(text)?.is_some())
+}
+
+// The place behind the patterns of the condition, which begin at the place `at`.
+#[tactic(auto, using(crate::proofs::TextsOf::counts, crate::proofs::TextsOf::weights))]
+fn past(condition: &Condition, at: usize) -> usize
+    requires { at + length (texts condition.now) < 2 ^ 64 }
+    ensures { result ≡ at + length (texts condition.now) }
+{
+    match condition {
+        Condition::Not(part) => past(part.get(), at),
+        Condition::And(left, right)
+        | Condition::Nand(left, right)
+        | Condition::Or(left, right)
+        | Condition::Xor(left, right) => past(right.get(), past(left.get(), at)),
+        Condition::Matches(_, _) | Condition::MatchesNot(_, _) => at + 1,
+        Condition::Operand(_)
+        | Condition::Equal(_, _)
+        | Condition::Unequal(_, _)
+        | Condition::Less(_, _)
+        | Condition::Greater(_, _)
+        | Condition::AtMost(_, _)
+        | Condition::AtLeast(_, _)
+        | Condition::In(_, _)
+        | Condition::NotIn(_, _) => at,
+    }
+}
+
+fn here(truth: Truth, next: usize) -> Passed
+    ensures truth { result.truth ≡ truth }
+    ensures next { result.next ≡ next }
+{
+    Passed { truth, next }
+}

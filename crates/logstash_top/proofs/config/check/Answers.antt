@@ -1,0 +1,19 @@
+use Rattle.std.proofs.lemmas.Result.{err_from_is_err_and}
+use Rattle.logstash_top.proofs.Answering.{checked_run, checked_thin, checked_fault}
+use Rattle.logstash_top.proofs.config.check.Goals as goal
+
+pub returns-in_err-config : goal.returns-in_err-config
+returns-in_err-config c =
+    let e = c.in_err-config.ensures in
+    let p = err_from_is_err_and c.from_residual.result c.from_residual.ensures.1 in
+    rw (p.1, p.2) (checked_fault c.args.text.now c.in_err-config.field-0.0 (record { found = e.found; only = e.only; long = e.long; syntax = e.syntax; only_syntax = e.only_syntax; deep = e.deep; only_deep = e.only_deep }))
+
+pub returns-then-is_built : goal.returns-then-is_built
+returns-then-is_built c =
+    let e = c.in_ok-config.ensures in
+    checked_run c.args.text.now c.in_ok-config.config tt (record { found = e.found; only = e.only; long = e.long; syntax = e.syntax; only_syntax = e.only_syntax; deep = e.deep; only_deep = e.only_deep }) (c.is_built.ensures.0 c.if-is_built.true)
+
+pub returns : goal.returns
+returns c =
+    let e = c.in_ok-config.ensures in
+    checked_thin c.args.text.now c.in_ok-config.config (record { found = e.found; only = e.only; long = e.long; syntax = e.syntax; only_syntax = e.only_syntax; deep = e.deep; only_deep = e.only_deep }) (λ built. let t = c.is_built.ensures.1 built in cc)

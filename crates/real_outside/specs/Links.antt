@@ -1,0 +1,68 @@
+-- The counts of connections on the real machine.
+use Rattle.std.specs.Prelude.{◌<◌, ◌≤◌, ◌-◌, ◌^◌, ℕ, Bool, Option, Some, None, is_some, List, [], ◌∷◌, ◌++◌, ◌+◌, Result, Ok, Err, nat_eq, nat_lt, not, filter, if◌then◌else◌}
+use Rattle.outside.specs.Counts.{one_more}
+use Rattle.outside.specs.declared.faults.Failed.{Failed}
+use Rattle.outside.specs.declared.links.Come.{Come}
+use Rattle.outside.specs.declared.links.Come.TheVariants.{Conn, NotYet, Ended}
+use Rattle.outside.specs.declared.sources.Step.{Step}
+use Rattle.real_outside.specs.Adapters.{ReadCounts, counts_after}
+use Rattle.real_outside.specs.declared.connections.Connection.{Connection}
+
+-- a connection that is open: its number, and its counts
+abbrev pub Open : Type 0
+Open = ℕ × ReadCounts
+
+abbrev pub open_of : {S : Type 0} → Connection S → Open
+open_of c = (c.number, c.source)
+
+-- how many connections came, those that are open, and how often a look failed and found none yet
+pub record LinkCounts : Type 0 where
+  pub came : ℕ
+  pub connections : List Open
+  pub accepts : ReadCounts
+
+abbrev pub no_counts : ReadCounts
+no_counts = record { faults = 0; waits = 0 }
+
+-- the counts of a connection that isn't kept any more
+abbrev pub last_counts : ReadCounts
+last_counts = record { faults = 2 ^ 64 - 1; waits = 2 ^ 64 - 1 }
+
+-- the counts of the first of these connections with this number, or else these
+abbrev pub counts_among : ReadCounts → ℕ → List Open → ReadCounts
+counts_among missing conn [] = missing
+counts_among missing conn (o ∷ rest) = if nat_eq o.0 conn then o.1 else counts_among missing conn rest
+
+-- the counts of a connection: none before it came, the last numbers once it is closed
+abbrev pub counts_of : LinkCounts → ℕ → ReadCounts
+counts_of l conn = counts_among (if nat_lt conn l.came then last_counts else no_counts) conn l.connections
+
+-- the connections with other numbers
+abbrev pub others : ℕ → List Open → List Open
+others conn all = filter (λ o. not (nat_eq o.0 conn)) all
+
+-- the place of the first connection with this number, counted from here on
+abbrev pub place_from : ℕ → ℕ → List Open → Option ℕ
+place_from at conn [] = None
+place_from at conn (o ∷ rest) = if nat_eq o.0 conn then Some at else place_from (at + 1) conn rest
+
+-- a connection with this number is open
+abbrev pub is_open : ℕ → List Open → Bool
+is_open conn connections = is_some (place_from 0 conn connections)
+
+-- the counts after a read of the first connection with this number
+abbrev pub counted : ℕ → Result Step Failed → List Open → List Open
+counted conn result [] = []
+counted conn result (o ∷ rest) = if nat_eq o.0 conn then (o.0, counts_after o.1 result) ∷ rest else o ∷ counted conn result rest
+
+-- each of these connections came, and its counts are numbers of 64 bits
+abbrev pub AllCame : ℕ → List Open → Type 0
+AllCame came [] = Unit {0}
+AllCame came (o ∷ rest) = (o.0 < came) × (o.1.faults ≤ 2 ^ 64 - 1) × (o.1.waits ≤ 2 ^ 64 - 1) × AllCame came rest
+
+-- the counts after a look, by its answer
+abbrev pub after_accept : LinkCounts → Result Come Failed → LinkCounts
+after_accept l (Ok (Conn n)) = record l { came = l.came + 1; connections = l.connections ++ (n, no_counts) ∷ [] }
+after_accept l (Ok NotYet) = record l { accepts = record l.accepts { waits = one_more l.accepts.waits } }
+after_accept l (Ok Ended) = l
+after_accept l (Err e) = record l { accepts = record l.accepts { faults = one_more l.accepts.faults } }

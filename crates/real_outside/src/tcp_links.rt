@@ -1,0 +1,178 @@
+ghost use Rattle.std.specs.Prelude.{◌≡◌, ◌≤◌, ◌<◌, ◌+◌, ◌^◌, ℕ, None, Ok, true, false, IsErr, OnOk, OnErr, [], ◌∷◌, ◌++◌, length};
+ghost use Rattle.outside.specs.Connections.{OnCome, SameBut};
+ghost use Rattle.outside.specs.Counts.{HasCause};
+ghost use Rattle.outside.specs.Pieces.{IfBytes};
+
+use crate::connections::Connections;
+use crate::listeners::Listeners;
+use outside::{Come, Failed, Links, Step};
+use std::alloc::Global;
+use std::io::{self, ErrorKind};
+use std::marker::Model;
+use std::net::Net;
+
+/// TCP connections that other programs make to this machine. A contract sees how many came, and the
+/// counts of faults and waits: those of the looks, and those of each connection that is open.
+///
+/// No call waits for another program, but that the first look on a host may wait for its address.
+#[derive(Drop)]
+pub struct TcpLinks<R: Net> {
+    listeners: Listeners<R>,
+    connections: Connections<R::Stream>,
+    came: u64,
+    faults: u64,
+    waits: u64,
+}
+
+impl<R: Net> Model for TcpLinks<R> {
+    ghost use Rattle.real_outside.specs.Links.{LinkCounts, AllCame};
+
+    ghost Value = { LinkCounts };
+
+    ghost view = { λ s. record { came = s.came; connections = s.connections; accepts = record { faults = s.faults; waits = s.waits } } };
+
+    ghost invariant = { λ s. AllCame s.came s.connections };
+}
+
+impl<R: Net> TcpLinks<R> {
+    ghost use Rattle.real_outside.specs.Links.{no_counts};
+
+    /// Connections over a runtime, or a reference to one. It listens nowhere so far.
+    pub fn new(alloc: Global, rt: R) -> TcpLinks<R>
+        ensures { result ≡ record { came = 0; connections = []; accepts = no_counts } }
+    {
+        TcpLinks {
+            listeners: Listeners::new(alloc, rt),
+            connections: Connections::new(alloc),
+            came: 0,
+            faults: 0,
+            waits: 0,
+        }
+    }
+
+    /// How many connections came.
+    pub fn came(&self) -> u64
+        ensures { result ≡ self.now.came }
+    {
+        self.came
+    }
+
+    /// How often a look failed.
+    pub fn accept_faults(&self) -> u64
+        ensures { result ≡ self.now.accepts.faults }
+    {
+        self.faults
+    }
+
+    /// How often a look found none yet.
+    pub fn accept_waits(&self) -> u64
+        ensures { result ≡ self.now.accepts.waits }
+    {
+        self.waits
+    }
+
+    // Takes the next connection to a host and port, which gets this number.
+    fn take(&mut self, number: u32, host: &str, port: u16) -> io::Result<()>
+        requires { number ≡ self.old.came }
+        ensures ok { OnOk result (self.new ≡ record self.old { came = self.old.came + 1; connections = self.old.connections ++ (number, no_counts) ∷ [] }) }
+        ensures err { OnErr result (self.new ≡ self.old) }
+    {
+        self.connections.reserve()?;
+        let stream = self.listeners.accept(host, port)?;
+        self.connections.push(number, stream)?;
+        self.came += 1;
+        Ok(())
+    }
+}
+
+impl<R: Net> Links for TcpLinks<R> {
+    ghost use Rattle.real_outside.specs.Links.{after_accept, counted, counts_of, is_open, others};
+
+    ghost came = { λ s. s.came };
+
+    ghost given = { λ _. None };
+
+    ghost left = { λ _ _. None };
+
+    ghost accept_faults = { λ s. s.accepts.faults };
+
+    ghost accept_waits = { λ s. s.accepts.waits };
+
+    ghost faults = { λ s conn. (counts_of s conn).faults };
+
+    ghost waits = { λ s conn. (counts_of s conn).waits };
+
+    /// The next connection to a host and a port, on which it listens from the first look there on. A
+    /// look found none yet where none waits, where a signal cut it short, and where a connection broke
+    /// before it was taken; with any other error, and without memory for the connection, it failed.
+    /// After 2^32 connections no more come.
+    fn accept(&mut self, host: &str, port: u16) -> Result<Come, Failed>
+        ensures state { self.new ≡ after_accept self.old result }
+        ensures ended { result ≡ Ok Come.Ended → 2 ^ 32 ≤ self.old.came }
+
+        // What all connections promise.
+        ensures came { OnCome result (λ n. (n ≡ self.old.came) × (self.new.came ≡ self.old.came + 1)) (self.new.came ≡ self.old.came) }
+        ensures cause { HasCause self.old.accepts.faults self.new.accepts.faults (IsErr result) }
+        ensures waits { HasCause self.old.accepts.waits self.new.accepts.waits (result ≡ Ok Come.NotYet) }
+        ensures others { (conn : ℕ) → ((counts_of self.new conn).faults ≡ (counts_of self.old conn).faults) × ((counts_of self.new conn).waits ≡ (counts_of self.old conn).waits) }
+    {
+        let Ok(number) = u32::try_from(self.came) else {
+            return Ok(Come::Ended);
+        };
+        match self.take(number, host, port) {
+            Ok(()) => Ok(Come::Conn(number)),
+            Err(error) if found_none(error.kind()) => {
+                self.waits = self.waits.saturating_add(1);
+                Ok(Come::NotYet)
+            }
+            Err(_) => {
+                self.faults = self.faults.saturating_add(1);
+                Err(Failed)
+            }
+        }
+    }
+
+    /// Reads as a `StdinSource` does, but waits for nothing. A connection that was closed is at its
+    /// end.
+    fn read(&mut self, conn: u32, into: &mut [u8]) -> Result<Step, Failed>
+        requires { conn < self.old.came }
+        ensures state { self.new ≡ record self.old { connections = counted conn result self.old.connections } }
+        ensures closed { is_open conn self.old.connections ≡ false → result ≡ Ok Step.End }
+        ensures room { is_open conn self.old.connections ≡ true → result ≡ Ok Step.End → 0 < length into.old }
+
+        // What all connections promise.
+        ensures within { IfBytes result (λ n. n ≤ length into.old) }
+        ensures some { IfBytes result (λ n. 0 < length into.old → 0 < n) }
+        ensures cause { HasCause (counts_of self.old conn).faults (counts_of self.new conn).faults (IsErr result) }
+        ensures waits { HasCause (counts_of self.old conn).waits (counts_of self.new conn).waits (result ≡ Ok Step.NotYet) }
+        ensures others { SameBut conn (λ other. counts_of self.old other) (λ other. counts_of self.new other) }
+        ensures accepts { (self.new.came ≡ self.old.came) × (self.new.accepts ≡ self.old.accepts) }
+    {
+        self.connections.read(conn, into)
+    }
+
+    /// Closes a connection, and forgets its counts.
+    fn close(&mut self, conn: u32)
+        ensures state { self.new ≡ record self.old { connections = others conn self.old.connections } }
+
+        // What all connections promise.
+        ensures counts { SameBut conn (λ other. counts_of self.old other) (λ other. counts_of self.new other) }
+        ensures later { ((counts_of self.old conn).faults ≤ (counts_of self.new conn).faults) × ((counts_of self.old conn).waits ≤ (counts_of self.new conn).waits) }
+    {
+        self.connections.close(conn)
+    }
+}
+
+// Whether a look that ended with such an error found no connection yet, and a later one may. Linux
+// hands on here what broke a connection before it was taken (accept(2), "Error handling").
+fn found_none(kind: ErrorKind) -> bool {
+    matches!(
+        kind,
+        ErrorKind::WouldBlock
+            | ErrorKind::Interrupted
+            | ErrorKind::ConnectionAborted
+            | ErrorKind::NetworkDown
+            | ErrorKind::NetworkUnreachable
+            | ErrorKind::HostUnreachable
+    )
+}
