@@ -17,8 +17,9 @@ use Rattle.config_grammar.specs.Joining.{Entries, plugin_of, empty}
 use Rattle.config_again.specs.Tokens.{name_token, value_tokens, items_tokens, more_tokens, pairs_tokens, settings_tokens, entries_tokens, plugin_tokens, condition_tokens, statement_tokens, statements_tokens, block_tokens, else_tokens, section_tokens, config_tokens}
 use Rattle.config_again.proofs.Equations.{text_is, number_is, nested_is, array_is, hash_is, arm, plugin_is, branch_is}
 use Rattle.config_again.proofs.Conditions.{append_nil}
-use Rattle.config_again.proofs.Fresh.{Fresh, set_end}
-use Rattle.config_again.proofs.Good.{AllOf, all_of_both, GoodStatement, Lawful, GoodValue, good_text, good_number, good_nested, good_array, good_hash, GoodItems, no_items, item, GoodEntries, no_entries, entry, GoodPlugin, good_plugin, GoodPlugins, no_plugins, one_plugin, plugin_there, branch_there, GoodStatements, no_statements, one_statement, GoodArm, arm_there, GoodElse, no_more_arms, else_if_there, else_there, GoodConfig}
+use Rattle.config_again.specs.Once.{Fresh, StandOnce}
+use Rattle.config_again.proofs.Fresh.{set_end}
+use Rattle.config_again.proofs.Good.{AllOf, good_settings, good_pairs, all_of_both, GoodStatement, Lawful, GoodValue, good_text, good_number, good_nested, good_array, good_hash, GoodItems, no_items, item, GoodEntries, no_entries, entry, GoodPlugin, good_plugin, GoodPlugins, no_plugins, one_plugin, plugin_there, branch_there, GoodStatements, no_statements, one_statement, GoodArm, arm_there, GoodElse, no_more_arms, else_if_there, else_there, GoodConfig}
 use Rattle.config_again.proofs.GoodStatements.{config_good}
 use Rattle.config_again.proofs.Names.{word_spelled, name_reads, plugin_reads}
 
@@ -125,11 +126,20 @@ all_pass : (ts : List Token) → AllOf (λ y. Unit {0}) ts
 all_pass [] = tt
 all_pass (y ∷ ts) = (tt, all_pass ts)
 
+unit_lawful : Lawful (λ y. Unit {0})
+unit_lawful = record { sign = λ y h. tt; text = λ a h. tt; word = λ a h. tt; number = λ n s h. tt; number_key = λ n s h. tt; name = λ y k e h. tt; plugin = λ y k e h. tt }
+
+-- the settings that were read have names that stand once, and so have the keys of a hash
+pub settings_once : (d : ℕ) (ts : List Token) (es : Entries) → g.ReadsSettings d [] ts es → StandOnce es
+settings_once d ts es p = (good_settings (λ y. Unit {0}) unit_lawful p (all_pass ts) no_entries tt).1
+
+pub keys_once : (d : ℕ) (ts : List Token) (es : Entries) → g.ReadsPairs d [] ts es → StandOnce es
+keys_once d ts es p = (good_pairs (λ y. Unit {0}) unit_lawful p (all_pass ts) no_entries tt).1
+
 -- what was read and is printed is read again as the same, with no more levels than before
 pub reads_again : (d : ℕ) (ts : List Token) (config : Config) → g.ReadsConfig d ts config → g.ReadsConfig d (config_tokens config) config
 reads_again d ts config p =
-    let law : Lawful (λ y. Unit {0}) = record { sign = λ y h. tt; text = λ a h. tt; word = λ a h. tt; number = λ n s h. tt; number_key = λ n s h. tt; name = λ y k e h. tt; plugin = λ y k e h. tt } in
-    again_config (λ y. Unit {0}) d config (config_good (λ y. Unit {0}) law d ts config p (all_pass ts))
+    again_config (λ y. Unit {0}) d config (config_good (λ y. Unit {0}) unit_lawful d ts config p (all_pass ts))
 
 -- and its tokens pass the test
 module _ (Ok : Token → Type 0) (law : Lawful Ok) where

@@ -1,5 +1,6 @@
 -- A condition that was read and is printed is read again as the same, with no more levels than before.
 use Rattle.std.proofs.Common.{◌≡◌, ℕ, suc, List, [], ◌∷◌, ◌++◌, map, Some, Bool, true, false, if◌then◌else◌, refl, ap, sym, subst, append_assoc, bytes_eq, codes}
+use Rattle.std.proofs.lemmas.List.{append-nil}
 use Rattle.std.proofs.lemmas.Slice.Eq.{bytes_eq-Decides}
 use Rattle.event_tree.specs.PathTexts.{way_of}
 use Rattle.event_json.specs.Json.{number_text}
@@ -22,8 +23,7 @@ use Rattle.config_again.specs.Tokens.{Ranked, comparison_tokens, matching_tokens
 use Rattle.config_again.proofs.Equations.{alone_is, denied_is, conjoined_is, disjoined_is, compared_is, matched_is, in_is, notin_is}
 
 pub append_nil : {A : Type 0} (xs : List A) → xs ≡ xs ++ []
-append_nil [] = refl
-append_nil (x ∷ xs) = ap (λ l. x ∷ l) (append_nil xs)
+append_nil xs = sym (append-nil xs)
 
 -- the parts of a way are those of the selector that led to it
 pub parts_are : (a : List ℕ) (parts : List (List ℕ)) → parts_of (way_of (a ∷ parts)) ≡ a ∷ parts

@@ -3,12 +3,8 @@ use Rattle.std.proofs.Common.{◌≡◌, ℕ, List, [], ◌∷◌, ◌++◌, map
 use Rattle.std.proofs.lemmas.Slice.Eq.{bytes_eq-Decides}
 use Rattle.std.specs.List.{list_any}
 use Rattle.config_grammar.specs.declared.tree.SettingValue.{SettingValue}
+use Rattle.config_again.specs.Once.{Fresh}
 use Rattle.config_grammar.specs.Joining.{Entries, has, with_entry, with_entries, with_setting, joined_value}
-
--- each name stands neither in front nor before its place
-abbrev pub Fresh : Entries → Entries → Type 0
-Fresh front [] = Unit {0}
-Fresh front (e ∷ es) = (has e.0 front ≡ false) × Fresh (front ++ e ∷ []) es
 
 abbrev names : Entries → List (List ℕ)
 names es = map (λ e. e.0) es

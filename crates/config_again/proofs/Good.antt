@@ -23,7 +23,8 @@ use Rattle.config_grammar.specs.Words.{spelling, bareword, setting_name, plugin_
 use Rattle.config_grammar.specs.Lexemes.{word_of}
 use Rattle.config_grammar.specs.Joining.{Entries, with_setting, with_entry, with_entries, joined_value, plugin_of, empty}
 use Rattle.config_again.specs.Tokens.{name_token, plugin_token, condition_tokens}
-use Rattle.config_again.proofs.Fresh.{Fresh, fresh_setting, fresh_entries, fresh_end}
+use Rattle.config_again.specs.Once.{Fresh}
+use Rattle.config_again.proofs.Fresh.{fresh_setting, fresh_entries, fresh_end}
 
 -- a test of the tokens of a list
 abbrev pub AllOf : (Token → Type 0) → List Token → Type 0
@@ -250,13 +251,13 @@ module _ (Ok : Token → Type 0) where
       good_more g.no_more o h = h
       good_more (g.more {a} {b} p q) o h = good_more q (last_of_all Ok a b o.1) (items_end h (item (good_value p (first_of_all Ok a b o.1)) no_items))
 
-      good_pairs : {d : ℕ} {front : Entries} {ts : List Token} {xs : Entries} → g.ReadsPairs d front ts xs → AllOf Ok ts → GoodEntries Ok false d front → Fresh [] front
+      pub good_pairs : {d : ℕ} {front : Entries} {ts : List Token} {xs : Entries} → g.ReadsPairs d front ts xs → AllOf Ok ts → GoodEntries Ok false d front → Fresh [] front
           → GoodEntries Ok false d xs × Fresh [] xs
       good_pairs g.no_pair o h f = (h, f)
       good_pairs (g.pair {k} {front} {y} {a} {b} {x} e u p q) o h f =
           good_pairs q (last_of_all Ok a b o.1.1) (entries_end k x h (key_good y k e o.0) (good_value p (first_of_all Ok a b o.1.1))) (fresh_end front k x u f)
 
-      good_settings : {d : ℕ} {front : Entries} {ts : List Token} {xs : Entries} → g.ReadsSettings d front ts xs → AllOf Ok ts → GoodEntries Ok true d front → Fresh [] front
+      pub good_settings : {d : ℕ} {front : Entries} {ts : List Token} {xs : Entries} → g.ReadsSettings d front ts xs → AllOf Ok ts → GoodEntries Ok true d front → Fresh [] front
           → GoodEntries Ok true d xs × Fresh [] xs
       good_settings g.no_setting o h f = (h, f)
       good_settings (g.setting {k} {front} {y} {a} {b} {x} e p q) o h f =

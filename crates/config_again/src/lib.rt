@@ -3,4 +3,4 @@
 
 mod laws;
 
-pub use laws::{condition_reads_again, configuration_reads_again};
+pub use laws::{condition_reads_again, configuration_reads_again, names_stand_once};

@@ -1,5 +1,6 @@
 -- What the lexer takes for a token can be written again.
 use Rattle.std.proofs.Common.{◌≡◌, ℕ, suc, ◌+◌, ◌==◌, ◌&&◌, ◌||◌, not, List, [], ◌∷◌, ◌++◌, length, take, drop, Option, Some, None, option_map, Bool, true, false, if◌then◌else◌, refl, ap, sym, subst, ◌∙◌, arith, nat_eq}
+use Rattle.std.proofs.lemmas.Bool.{not-true}
 use Rattle.std.specs.List.{list_all, list_any}
 use Rattle.std.proofs.lemmas.Bool.Decides.{nat_tests}
 use Rattle.std.proofs.Math.Seq.{take-append_seam}
@@ -23,7 +24,8 @@ use Rattle.config_again.proofs.Good.{is_sign, Lawful}
 use Rattle.config_again.proofs.Names.{word_spelled}
 use Rattle.config_text.specs.Tokens.{is_word}
 use Rattle.config_round_trip.proofs.Strings.{is_plain, ArePlain, Between, plain_between, quoted_between, ends_escaped, none_before, ends_like}
-use Rattle.config_round_trip.proofs.Words.{and_l, and_r, both_true, run_passes, in_word_bare, in_word_more, letter_in_word, SelectorFits, selector_from}
+use Rattle.config_round_trip.proofs.Tests.{and_l, and_r, both_true}
+use Rattle.config_round_trip.proofs.Words.{run_passes, in_word_bare, in_word_more, letter_in_word, SelectorFits, selector_from}
 use Rattle.config_round_trip.proofs.Numbers.{IsHeld, read_held, number_plain, number_lexes}
 
 -- a token that can be written, so that the lexer takes it for itself
@@ -195,15 +197,11 @@ selector_found s (p ∷ ps) e h = selector_from (length s) s p ps e h
 bracket_found : (operand : Bool) (b : ℕ) (s : List ℕ) → Found_fits (bracket_at operand (b ∷ s))
 bracket_found operand b s = either Found_fits (operand && not (begins_literals (drop (1 + skip false s) (b ∷ s)))) (selector_of (parts_at (length (b ∷ s)) [] (b ∷ s))) (Some (t.OpenBracket, 1)) selector (λ e. tt)
   where
-    not_true : (z : Bool) → not z ≡ true → z ≡ false
-    not_true true h = absurd (cc)
-    not_true false h = refl
-
     selector : (operand && not (begins_literals (drop (1 + skip false s) (b ∷ s)))) ≡ true → Found_fits (selector_of (parts_at (length (b ∷ s)) [] (b ∷ s)))
     selector e =
         let one : suc (skip false s) ≡ 1 + skip false s = omega arith in
         selector_found (b ∷ s) (parts_at (length (b ∷ s)) [] (b ∷ s)) refl
-        (ap (λ k. begins_literals (drop k (b ∷ s))) one ∙ not_true (begins_literals (drop (1 + skip false s) (b ∷ s))) (and_r operand (not (begins_literals (drop (1 + skip false s) (b ∷ s)))) e))
+        (ap (λ k. begins_literals (drop k (b ∷ s))) one ∙ not-true (begins_literals (drop (1 + skip false s) (b ∷ s))) (and_r operand (not (begins_literals (drop (1 + skip false s) (b ∷ s)))) e))
 
 abbrev Sign : Option Token → Type 0
 Sign None = Unit {0}

@@ -2,6 +2,7 @@
 use Rattle.std.proofs.Common.{◌≡◌, ℕ, zero, suc, ◌+◌, ◌≤◌, ◌==◌, ◌&&◌, ◌||◌, ◌⊎◌, inl, inr, not, List, [], ◌∷◌, ◌++◌, length, take, drop, Some, None, option_map, Bool, true, false, if◌then◌else◌, refl, ap, sym, subst, ◌∙◌, arith, append_assoc, length-append, nat_eq, codes}
 use Rattle.std.specs.List.{list_all, list_any}
 use Rattle.std.proofs.lemmas.Bool.Decides.{nat_tests}
+use Rattle.std.proofs.lemmas.Bool.{and_right}
 use Rattle.std.proofs.Math.Seq.{take-append_seam, drop-append_seam}
 use Rattle.event_tree.specs.Number.{Num}
 use Rattle.event_tree.specs.NumberTexts.{is_digit}
@@ -21,8 +22,9 @@ use Rattle.config_grammar.specs.Lexemes.{start, after_token, word_of, word_token
 use Rattle.config_again.proofs.Good.{AllOf}
 use Rattle.config_text.specs.Tokens.{is_word, has_quote, quote_of, string, escaped, regexp}
 use Rattle.config_round_trip.proofs.Placed.{Suits, Placed, first_literal}
-use Rattle.config_round_trip.proofs.Strings.{printed_closes, regexp_closes, unescaped_again, and_none}
-use Rattle.config_round_trip.proofs.Words.{and_l, and_r, both_true, letter_in_word, Apart, blank_case, word_run, parts_again, opens_list}
+use Rattle.config_round_trip.proofs.Strings.{printed_closes, regexp_closes, unescaped_again}
+use Rattle.config_round_trip.proofs.Tests.{and_l, and_r, both_true}
+use Rattle.config_round_trip.proofs.Words.{letter_in_word, Apart, blank_case, word_run, parts_again, opens_list}
 use Rattle.config_round_trip.proofs.Numbers.{IsHeld, number_lexes}
 use Rattle.config_round_trip.proofs.Fit.{Fit, word_more, behind_letters, behind_numbers}
 use Rattle.config_round_trip.proofs.Scan.{scan, scan_next, scanned, drop_nil, tokens_scanned}
@@ -184,7 +186,7 @@ list_reads x v (inr e) =
     let one : 1 + skip false v ≡ suc (skip false v) = omega arith in
     let opens : begins_literals (drop (1 + skip false v) (91 ∷ v)) ≡ true = ap (λ k. begins_literals (drop k (91 ∷ v))) one ∙ e in
     bracket_there x v ∙ ap (λ z. if x.at_operand && not z then selector_of (parts_at (length (91 ∷ v)) [] (91 ∷ v)) else Some (t.OpenBracket, 1)) opens
-    ∙ ap (λ z. if z then selector_of (parts_at (length (91 ∷ v)) [] (91 ∷ v)) else Some (t.OpenBracket, 1)) (and_none x.at_operand)
+    ∙ ap (λ z. if z then selector_of (parts_at (length (91 ∷ v)) [] (91 ∷ v)) else Some (t.OpenBracket, 1)) (and_right x.at_operand false refl)
 
 -- signs of one byte, before a blank or nothing
 single_reads : (x : Context) (y : Token) (b : ℕ) (rest : List ℕ) → ((v : List ℕ) → token_at x (b ∷ v) ≡ sign_at (b ∷ v)) → single b ≡ Some y → (double b 32 ≡ None) × (double b 9 ≡ None) × (double b 13 ≡ None) × (double b 10 ≡ None)

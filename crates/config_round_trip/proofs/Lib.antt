@@ -1,3 +1,4 @@
+pub mod Tests
 pub mod Placed
 pub mod Strings
 pub mod Words

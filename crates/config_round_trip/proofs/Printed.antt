@@ -1,5 +1,6 @@
 -- The printed text has the tokens of the configuration, one behind the other with blanks between.
 use Rattle.std.proofs.Common.{◌≡◌, ℕ, zero, suc, ◌&&◌, ◌||◌, not, List, [], ◌∷◌, ◌++◌, map, flat_map, Some, None, Bool, true, false, if◌then◌else◌, refl, ap, sym, subst, ◌∙◌, append_assoc, bytes_eq, codes, nat_eq}
+use Rattle.std.proofs.lemmas.List.{append-nil}
 use Rattle.std.specs.List.{list_any}
 use Rattle.event_tree.specs.PathTexts.{bracketed}
 use Rattle.event_json.specs.Json.{number_text}
@@ -48,10 +49,6 @@ use Rattle.config_round_trip.proofs.Words.{Apart}
 use Rattle.config_round_trip.proofs.Fit.{Fit, spelled}
 use Rattle.config_round_trip.proofs.Lays.{written, IsWritten, Lays, done, blank, token}
 
-nil : {A : Type 0} (xs : List A) → xs ++ [] ≡ xs
-nil [] = refl
-nil (x ∷ xs) = ap (λ l. x ∷ l) (nil xs)
-
 -- ---- texts behind one another
 
 apart_both : (a b : List ℕ) → Apart a → Apart b → Apart (a ++ b)
@@ -64,7 +61,7 @@ lays_both (blank e l) u h = blank e (lays_both l u h)
 lays_both {us} {b} (token {y} {ts} {s} w q l) u h = subst (λ k. Lays (y ∷ (ts ++ us)) k) (sym (append_assoc (written y) s b)) (token w (apart_both s b q h) (lays_both l u h))
 
 one : (y : Token) → IsWritten y → Lays (y ∷ []) (written y)
-one y w = subst (λ k. Lays (y ∷ []) k) (nil (written y)) (token w tt done)
+one y w = subst (λ k. Lays (y ∷ []) k) (append-nil (written y)) (token w tt done)
 
 -- and one that begins with a blank
 abbrev Behind : List Token → List ℕ → Type 0
@@ -260,7 +257,7 @@ lays_grouped l = token {y = t.OpenParen} tt refl (blank refl (lays_both l (blank
 
 -- or without
 lays_bare : {ts : List Token} {a : List ℕ} → Lays ts a → Lays ts (a ++ [])
-lays_bare {ts} {a} l = subst (Lays ts) (sym (nil a)) l
+lays_bare {ts} {a} l = subst (Lays ts) (sym (append-nil a)) l
 
 lays_conjoined : (j : Conjunction) (x y : Condition) → LaysCondition x → LaysCondition y → LaysCondition (conjoined j x y)
 lays_conjoined and.And x y h u at.Whole = same_lays (ap (λ (f : tokens.Ranked). f 0) (sym (there.conjoined_is and.And x y))) (sym (here.condition-And x y at.Whole)) (lays_bare (lays_sign (t.Word (w.Conjunction and.And)) tt (h at.Joined) (u at.Unary)))
@@ -378,7 +375,7 @@ lays_section k name same [] h ts b l = l
 lays_section k name same (x ∷ xs) h ts b l = named k name (statements_tokens (map statement_tokens (x ∷ xs))) ts _ b same (lays_lines h (deeper no_indentation) no_indentation inner margin) l
 
 lays_outputs : {d : ℕ} (xs : List Statement) → GoodStatements Fit d xs → Lays (section_tokens kind.Output (map statement_tokens xs)) (section (codes "output") (map statement xs))
-lays_outputs xs h = same_lays (nil (section_tokens kind.Output (map statement_tokens xs))) (nil (section (codes "output") (map statement xs))) (lays_section kind.Output (codes "output") refl xs h [] [] done)
+lays_outputs xs h = same_lays (append-nil (section_tokens kind.Output (map statement_tokens xs))) (append-nil (section (codes "output") (map statement xs))) (lays_section kind.Output (codes "output") refl xs h [] [] done)
 
 -- the printed text has the tokens of the configuration
 pub lays_config : (d : ℕ) (config : Config) → GoodConfig Fit d config → Lays (config_tokens config) (printed config)

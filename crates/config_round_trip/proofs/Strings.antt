@@ -1,9 +1,10 @@
 -- Strings and regexps: what was between two quotes stands between the quotes that are printed, too.
 use Rattle.std.proofs.Common.{◌≡◌, ℕ, suc, ◌==◌, ◌&&◌, ◌||◌, ◌⊎◌, inl, inr, not, List, [], ◌∷◌, ◌++◌, length, take, Option, Some, None, option_map, Bool, true, false, if◌then◌else◌, refl, ap, sym, subst, ◌∙◌, arith}
 use Rattle.std.proofs.lemmas.Bool.Decides.{nat_tests}
-use Rattle.std.proofs.lemmas.Bool.{eqb-true, not-true}
+use Rattle.std.proofs.lemmas.Bool.{eqb-true, not-true, and_right}
 use Rattle.config_grammar.specs.Bytes.{closing, unescaped, begins}
 use Rattle.config_text.specs.Tokens.{has_quote, quote_of, escaped}
+use Rattle.config_round_trip.proofs.Tests.{and_r, or_l, or_r}
 
 -- a closing byte stands there that no backslash precedes
 abbrev pub has : ℕ → Bool → List ℕ → Bool
@@ -19,14 +20,6 @@ same_quote : (e : Bool) (s : List ℕ) → has_quote e s ≡ has 34 e s
 same_quote e [] = refl
 same_quote e (b ∷ s) = ap (λ x. (b == 34 && not e) || x) (same_quote (b == 92) s)
 
-or_left : (a b : Bool) → (a || b) ≡ false → a ≡ false
-or_left true b h = absurd (cc)
-or_left false b h = refl
-
-or_right : (a b : Bool) → (a || b) ≡ false → b ≡ false
-or_right true b h = absurd (cc)
-or_right false b h = h
-
 self : (c : ℕ) → (c == c) ≡ true
 self c = grind (arith, nat_tests)
 
@@ -35,12 +28,8 @@ pub closes : (c : ℕ) (e : Bool) (s rest : List ℕ) → has c e s ≡ false �
 unfolding closing
 closes c e [] rest h u = ap (λ b. if b && not e then Some 0 else option_map suc (closing c (c == 92) rest)) (self c) ∙ ap (λ b. if not b then Some 0 else option_map suc (closing c (c == 92) rest)) u
 closes c e (b ∷ s) rest h u =
-    ap (λ x. if x then Some 0 else option_map suc (closing c (b == 92) (s ++ c ∷ rest))) (or_left (b == c && not e) (has c (b == 92) s) h)
-    ∙ ap (option_map suc) (closes c (b == 92) s rest (or_right (b == c && not e) (has c (b == 92) s) h) u)
-
-and_right : (a b : Bool) → (a && b) ≡ true → b ≡ true
-and_right true b h = h
-and_right false b h = absurd (cc)
+    ap (λ x. if x then Some 0 else option_map suc (closing c (b == 92) (s ++ c ∷ rest))) (or_l (b == c && not e) (has c (b == 92) s) h)
+    ∙ ap (option_map suc) (closes c (b == 92) s rest (or_r (b == c && not e) (has c (b == 92) s) h) u)
 
 -- neither of both
 abbrev pub Stands : ℕ → Bool → List ℕ → Type 0
@@ -60,7 +49,7 @@ none_before c e (b ∷ s) n h = at (b == c && not e) refl h (λ m r. none_before
         → ((m : ℕ) → closing c (b == 92) s ≡ Some m → Stands c (b == 92) (take m s)) → Stands c e (take n (b ∷ s))
     at true is h again =
         let zero_is : 0 ≡ n = cc in
-        subst (λ (k : ℕ). Stands c e (take k (b ∷ s))) zero_is (refl, not-true e (and_right (b == c) (not e) is))
+        subst (λ (k : ℕ). Stands c e (take k (b ∷ s))) zero_is (refl, not-true e (and_r (b == c) (not e) is))
     at false is h again =
         let r = more_than n (closing c (b == 92) s) h in
         let k = again r.0 r.2 in
@@ -115,10 +104,6 @@ pub plain_between : (s : List ℕ) → ArePlain s → Between s
 plain_between s h = (plain_ends false s refl h, inl (plain_has false s h))
 
 -- a backslash before each `/` is put there and taken away
-pub and_none : (a : Bool) → (a && false) ≡ false
-and_none true = refl
-and_none false = refl
-
 pub regexp_closes : (e : Bool) (s rest : List ℕ) → ends_escaped e s ≡ false → closing 47 e (escaped s ++ 47 ∷ rest) ≡ Some (length (escaped s))
 unfolding closing
 regexp_closes e [] rest h = ap (λ b. if not b then Some 0 else option_map suc (closing 47 false rest)) h
@@ -147,7 +132,7 @@ unescaped_again (b ∷ s) = at (b == 47) refl (unescaped_again s)
     at : (z : Bool) → (b == 47) ≡ z → unescaped (escaped s) ≡ s → unescaped ((if z then 92 ∷ 47 ∷ [] else b ∷ []) ++ escaped s) ≡ b ∷ s
     at true is again = ap (λ l. 47 ∷ l) again ∙ ap (λ k. k ∷ s) (sym (eqb-true b 47 is))
     at false is again =
-        ap (λ z. if z then unescaped (escaped s) else b ∷ unescaped (escaped s)) (ap (λ z. b == 92 && z) (not_slash s) ∙ and_none (b == 92)) ∙ ap (λ l. b ∷ l) again
+        ap (λ z. if z then unescaped (escaped s) else b ∷ unescaped (escaped s)) (and_right (b == 92) (begins 47 (escaped s)) (not_slash s)) ∙ ap (λ l. b ∷ l) again
 
 -- without the backslashes before a `/` the end stays
 first_only : (b : ℕ) (s : List ℕ) → begins b s ≡ true → (e f : Bool) → ends_escaped e s ≡ ends_escaped f s
@@ -160,5 +145,5 @@ ends_like e [] h = h
 ends_like e (b ∷ s) h = at (b == 92 && begins 47 s) refl (λ f k. ends_like f s k)
   where
     at : (z : Bool) → (b == 92 && begins 47 s) ≡ z → ((f : Bool) → ends_escaped f s ≡ false → ends_escaped f (unescaped s) ≡ false) → ends_escaped e (if z then unescaped s else b ∷ unescaped s) ≡ false
-    at true is again = again e (first_only 47 s (and_right (b == 92) (begins 47 s) is) e (b == 92) ∙ h)
+    at true is again = again e (first_only 47 s (and_r (b == 92) (begins 47 s) is) e (b == 92) ∙ h)
     at false is again = again (b == 92) h

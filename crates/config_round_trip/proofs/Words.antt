@@ -2,25 +2,15 @@
 use Rattle.std.proofs.Common.{◌≡◌, ℕ, zero, suc, ◌+◌, ◌≤◌, ◌==◌, ◌&&◌, ◌||◌, not, List, [], ◌∷◌, ◌++◌, length, take, drop, Option, Some, None, Bool, true, false, if◌then◌else◌, refl, ap, sym, subst, ◌∙◌, arith, nat_eq, append_assoc}
 use Rattle.std.specs.List.{list_all, list_any}
 use Rattle.std.proofs.lemmas.Bool.Decides.{nat_tests}
-use Rattle.std.proofs.lemmas.Bool.{eqb-true}
+use Rattle.std.proofs.lemmas.Bool.{eqb-true, not-true}
 use Rattle.std.proofs.Math.Seq.{take-append_seam, drop-append_seam}
-use Rattle.std.proofs.lemmas.List.{take-append-drop}
+use Rattle.std.proofs.lemmas.List.{append-nil, take-append-drop}
 use Rattle.event_tree.specs.NumberTexts.{is_digit}
 use Rattle.event_tree.specs.PathTexts.{bracketed}
 use Rattle.config_grammar.specs.Bytes.{run, skip, is_blank, is_letter, is_in_word, is_in_part, part_length, begins}
 use Rattle.config_grammar.specs.Lexemes.{parts_at, parts_more, begins_literals}
 use Rattle.config_grammar.proofs.Lexing.{parts_on, parts_stop}
-
-pub and_l : (a b : Bool) → (a && b) ≡ true → a ≡ true
-and_l true b h = refl
-and_l false b h = absurd (cc)
-
-pub and_r : (a b : Bool) → (a && b) ≡ true → b ≡ true
-and_r true b h = h
-and_r false b h = absurd (cc)
-
-pub both_true : (a b : Bool) → a ≡ true → b ≡ true → (a && b) ≡ true
-both_true a b h u = ap (λ z. z && b) h ∙ u
+use Rattle.config_round_trip.proofs.Tests.{and_l, and_r, both_true}
 
 -- what stands behind a token: nothing, or a blank
 abbrev pub Apart : List ℕ → Type 0
@@ -141,13 +131,9 @@ no_part : (rest : List ℕ) → Apart rest → part_length rest ≡ None
 no_part [] h = refl
 no_part (b ∷ s) h = blank_case (λ k. part_length (k ∷ s) ≡ None) b h refl refl refl refl
 
-front_nil : {A : Type 0} (xs : List A) → xs ≡ xs ++ []
-front_nil [] = refl
-front_nil (x ∷ xs) = ap (λ l. x ∷ l) (front_nil xs)
-
 -- the parts that are written are read
 pub parts_again : (n : ℕ) (front ps : List (List ℕ)) (rest : List ℕ) → length ps ≤ n → PartsFit ps → Apart rest → parts_at n front (bracketed ps ++ rest) ≡ front ++ ps
-parts_again n front [] rest l h u = parts_stop n front rest (no_part rest u) ∙ front_nil front
+parts_again n front [] rest l h u = parts_stop n front rest (no_part rest u) ∙ sym (append-nil front)
 parts_again zero front (p ∷ ps) rest l h u = absurd (omega arith)
 parts_again (suc n) front (p ∷ ps) rest l h u =
     let r = bracketed ps ++ rest in
@@ -199,10 +185,6 @@ begins_is : (c : ℕ) (s : List ℕ) → begins c s ≡ true → s ≡ c ∷ dro
 begins_is c [] h = absurd (cc)
 begins_is c (b ∷ s) h = ap (λ k. k ∷ s) (eqb-true b c h)
 
-not_true : (z : Bool) → not z ≡ true → z ≡ false
-not_true true h = absurd (cc)
-not_true false h = refl
-
 part_from : (s : List ℕ) (k : ℕ) → part_length s ≡ Some k → PartRead s k
 part_from [] k h = absurd (cc)
 part_from (b ∷ s) k h = at (b == 91 && not (run is_in_part s == 0) && begins 93 (drop (run is_in_part s) s)) refl h
@@ -212,7 +194,7 @@ part_from (b ∷ s) k h = at (b == 91 && not (run is_in_part s == 0) && begins 9
     at true is e =
         let m = run is_in_part s in
         let same : m ≡ k = cc in
-        let some = not_true (m == 0) (and_r (b == 91) (not (m == 0)) (and_l (b == 91 && not (m == 0)) (begins 93 (drop m s)) is)) in
+        let some = not-true (m == 0) (and_r (b == 91) (not (m == 0)) (and_l (b == 91 && not (m == 0)) (begins 93 (drop m s)) is)) in
         let closed = begins_is 93 (drop m s) (and_r (b == 91 && not (m == 0)) (begins 93 (drop m s)) is) in
         let whole : b ∷ s ≡ 91 ∷ (take m s ++ 93 ∷ drop 1 (drop m s)) =
         ap (λ c. c ∷ s) (eqb-true b 91 (and_l (b == 91) (not (m == 0)) (and_l (b == 91 && not (m == 0)) (begins 93 (drop m s)) is))) ∙ ap (λ r. 91 ∷ r) (sym (take-append-drop m s) ∙ ap (λ r. take m s ++ r) closed) in
