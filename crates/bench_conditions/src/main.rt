@@ -2,6 +2,8 @@
 //! (bench/conditions.sh).
 #![tactic(auto)]
 
+ghost use Rattle.condition_eval.specs.Made.{AreMadeOf};
+
 use anyhow::{Context, Result, bail};
 use condition_eval::{Truth, eval, patterns_of};
 use config_grammar::{Condition, Config, Statement};
@@ -22,13 +24,18 @@ fn main(rt: HostRuntime) -> Result<()> {
         return Ok(());
     };
     let rounds = rounds.as_str().parse::<u32>().context("rounds")?;
-    let config = config(alloc, text.as_str())?;
+    let found = evaluated(alloc, text.as_str(), rounds)?;
+    println!(rt; "{found}")?;
+    Ok(())
+}
+
+/// In how many rounds the condition of this text is Yes.
+fn evaluated(alloc: Global, text: &str, rounds: u32) -> Result<u64> {
+    let config = config(alloc, text)?;
     let condition = condition(&config)?;
     let mut patterns = patterns_of(alloc, condition)?;
     let event = event(alloc)?;
-    let found = rounds_that_hold(condition, &mut patterns, &event, rounds)?;
-    println!(rt; "{found}")?;
-    Ok(())
+    rounds_that_hold(condition, &mut patterns, &event, rounds)
 }
 
 fn config(alloc: Global, text: &str) -> Result<Config> {
@@ -63,13 +70,15 @@ fn event(alloc: Global) -> Result<Event> {
     Ok(event)
 }
 
-/// In how many rounds the condition is Yes.
+/// The same, with the patterns that were made of the condition.
 fn rounds_that_hold(
     condition: &Condition,
     patterns: &mut Patterns,
     event: &Event,
     rounds: u32,
-) -> Result<u64> {
+) -> Result<u64>
+    requires { AreMadeOf condition.now patterns.old }
+{
     let mut found = 0u64;
     for _ in 0..rounds {
         if eval(condition, patterns, event)? == Truth::Yes {

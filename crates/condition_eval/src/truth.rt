@@ -2,6 +2,7 @@ ghost use Rattle.std.specs.Prelude.{◌≡◌};
 ghost use Rattle.condition_eval.specs.Truths as spec;
 
 use plain_lists::Text;
+use thiserror::Error;
 
 /// What a condition says of an event.
 #[derive(Debug, PartialEq, Eq, Drop)]
@@ -12,26 +13,37 @@ pub enum Truth {
     Wrong(Reason),
 }
 
-/// Why a condition has no truth of an event, or an event was rejected.
-#[derive(Debug, PartialEq, Eq, Drop)]
+/// Why a condition has no truth of an event, or an event was rejected. Its text is that of a dead
+/// letter.
+#[derive(Debug, PartialEq, Eq, Drop, Error)]
 pub enum Reason {
     /// Values of these kinds, left and right, have no order.
+    #[error("order of {0} and {1}")]
     Order(Kind, Kind),
     /// A value of this kind was to match a pattern.
+    #[error("match of {0}")]
     Match(Kind),
     /// An output rejected the event with this status, and said this.
+    #[error("status {0}: {1}")]
     Status(u16, Text),
 }
 
 /// The kinds of values.
-#[derive(Clone, Copy, Debug, PartialEq, Eq)]
+#[derive(Clone, Copy, Debug, PartialEq, Eq, Error)]
 pub enum Kind {
+    #[error("null")]
     Null,
+    #[error("boolean")]
     Boolean,
+    #[error("number")]
     Number,
+    #[error("text")]
     Text,
+    #[error("time")]
     Time,
+    #[error("list")]
     List,
+    #[error("object")]
     Object,
 }
 

@@ -10,14 +10,12 @@ use Rattle.config_grammar.specs.declared.tree.Condition.TheVariants as c
 use Rattle.config_grammar.specs.declared.tree.Operand.{Operand}
 use Rattle.config_grammar.specs.declared.tree.Pattern.{Pattern}
 use Rattle.config_grammar.specs.declared.tree.SettingValue.{SettingValue}
-use Rattle.config_grammar.specs.declared.tree.SettingValue.TheOpen.{SettingValue-F, Plugin-F, Settings-F}
-use Rattle.config_grammar.specs.declared.tree.SettingValue.TheFolds.{fold-SettingValue, fold-Plugin, fold-Settings, fold-roll-SettingValue, fold_out-Plugin, fold_out-Settings}
+use Rattle.config_grammar.specs.declared.tree.SettingValue.TheOpen.{SettingValue-F}
+use Rattle.config_grammar.specs.declared.tree.SettingValue.TheFolds.{fold-SettingValue, fold-roll-SettingValue, fold_out-Plugin, fold_out-Settings}
 use Rattle.config_grammar.specs.declared.tree.SettingValue.TheVariants as v
 use Rattle.config_grammar.specs.declared.tree.Plugin.{Plugin}
-use Rattle.config_grammar.specs.declared.tree.Settings.{Settings}
-use Rattle.config_grammar.specs.declared.tree.Statement.{Statement}
-use Rattle.config_grammar.specs.declared.tree.Statement.TheOpen.{Statement-F, Arm-F}
-use Rattle.config_grammar.specs.declared.tree.Statement.TheFolds.{fold-Statement, fold-Arm, fold-roll-Statement, fold_out-Arm}
+use Rattle.config_grammar.specs.declared.tree.Statement.TheOpen.{Statement-F}
+use Rattle.config_grammar.specs.declared.tree.Statement.TheFolds.{fold-Statement, fold-roll-Statement, fold_out-Arm}
 use Rattle.config_grammar.specs.declared.tree.Statement.TheVariants as s
 use Rattle.config_grammar.specs.declared.tree.Arm.{Arm}
 use Rattle.config_text.specs.declared.conditions.Place.{Place}

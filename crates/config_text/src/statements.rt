@@ -1,6 +1,6 @@
 //! Plugins and branches, and the sections that have them.
 
-ghost use Rattle.std.specs.Prelude.{◌≡◌, ◌++◌, ◌∷◌, [], map, false, string_bytes, OnOk};
+ghost use Rattle.std.specs.Prelude.{◌≡◌, ◌++◌, map, false, string_bytes, OnOk};
 ghost use Rattle.config_text.specs.Printed as spec;
 
 use crate::conditions::{Place, add_condition};

@@ -1,10 +1,9 @@
 //! What one token is written as.
 
-ghost use Rattle.std.specs.Prelude.{◌≡◌, ◌++◌, ◌||◌, true, false, string_bytes, OnOk};
+ghost use Rattle.std.specs.Prelude.{◌≡◌, ◌++◌, false, string_bytes, OnOk};
 ghost use Rattle.std.specs.List.{list_all};
 ghost use Rattle.config_grammar.specs.Bytes as bytes;
 ghost use Rattle.event_json.specs.Json.{number_text};
-ghost use Rattle.event_tree.specs.NumberTexts.{is_digit};
 ghost use Rattle.config_text.specs.Tokens as spec;
 
 use event_json::write_json;

@@ -192,11 +192,26 @@ fn other_words_and_other_texts_are_refused(rt: HostRuntime) -> Result<(), Fail> 
     let texts: [(&str, &[u8]); 14] = [
         ("", b"not built"),
         ("input { stdin {} }", b"not built"),
-        ("input { stdin {} stdin {} } output { stdout {} }", b"not built"),
-        ("input { stdin { id => a } } output { stdout {} }", b"not built"),
-        ("input { stdin {} } filter { drop {} } output { stdout {} }", b"not built"),
-        ("input { stdin {} } output { if [a] { stdout {} } }", b"not built"),
-        ("input { stdin {} } output { stdout { codec => line } }", b"not built"),
+        (
+            "input { stdin {} stdin {} } output { stdout {} }",
+            b"not built",
+        ),
+        (
+            "input { stdin { id => a } } output { stdout {} }",
+            b"not built",
+        ),
+        (
+            "input { stdin {} } filter { drop {} } output { stdout {} }",
+            b"not built",
+        ),
+        (
+            "input { stdin {} } output { if [a] { stdout {} } }",
+            b"not built",
+        ),
+        (
+            "input { stdin {} } output { stdout { codec => line } }",
+            b"not built",
+        ),
         (
             "input { stdin {} } output { stdout { codec => json_lines {} } }",
             b"not built",

@@ -1,5 +1,5 @@
-use Rattle.std.proofs.Common.{◌++◌, ◌∷◌, [], map, sym, ap, ◌∙◌, ◌≡◌, string_bytes}
-use Rattle.config_text.specs.Printed.{test, arm, statement, deeper, lines_of}
+use Rattle.std.proofs.Common.{◌++◌, ◌∷◌, [], map, ap, ◌∙◌, ◌≡◌, string_bytes}
+use Rattle.config_text.specs.Printed.{test, statement, deeper, lines_of}
 use Rattle.config_text.proofs.Equations.{arm-is}
 use Rattle.config_text.proofs.Adding.{adds_four}
 use Rattle.config_text.proofs.statements.+statements.Goals as goal

@@ -1,4 +1,4 @@
-use Rattle.std.proofs.Common.{◌++◌, ◌∷◌, [], map, flat_map, false, sym, ap, subst, ◌∙◌, OnOk, ◌≡◌, string_bytes}
+use Rattle.std.proofs.Common.{◌++◌, ◌∷◌, [], map, flat_map, false, ap, subst, ◌∙◌, OnOk, ◌≡◌, string_bytes}
 use Rattle.std.specs.Prelude.{codes}
 use Rattle.event_json.proofs.Written.{adds_two}
 use Rattle.config_text.specs.Conditions.{members}
