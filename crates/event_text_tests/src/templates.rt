@@ -2,6 +2,7 @@ use crate::is_filled;
 use event_text::value_text;
 use event_tree::{Event, Fields, Items, Number, Path, Text, Value};
 use std::alloc::{AllocError, Global};
+use std::process::Abort;
 use std::test::Fail;
 use time_instant::Instant;
 
@@ -61,83 +62,89 @@ fn event_at(alloc: Global, moment: Value) -> Result<Event, AllocError> {
     Ok(event)
 }
 
-#[test]
-fn fields_are_filled_and_the_rest_stays_as_written(rt: HostRuntime) -> Result<(), Fail> {
-    let event = event_at(rt.alloc(), time(1_709_596_800_000_000_000))?;
-    for (template, want) in [
-        ("%{nope}-%{[a][0]}-%{+yyyy.MM}", "%{nope}-x-2024.03"),
-        ("", ""),
-        ("plain é", "plain é"),
-        ("%{", "%{"),
-        ("%{}", "%{}"),
-        ("%{[a}", "%{[a}"),
-        ("%{a]}", "%{a]}"),
-        ("%{[a]b}", "%{[a]b}"),
-        ("%{[]}", "%{[]}"),
-        ("%{b", "%{b"),
-        ("%%{b}", "%B"),
-        ("b%", "b%"),
-        ("%", "%"),
-        ("}{%}", "}{%}"),
-        ("%{b}%{[b]}", "BB"),
-        ("é%{b}é", "éBé"),
-        ("%{[x%{b}", "%{[xB"),
-        ("%{%{b}", "%{%{b}"),
-        ("%{[b][c]}", "%{[b][c]}"),
-        ("%{[a][3]}|%{[a][-2]}", "%{[a][3]}|y"),
-        ("%{a}", "x,y,"),
-        ("%{[a][2]}", ""),
-        ("%{o}", "{\"p\":\"é\\\"\"}"),
-        ("%{[o][p]}", "é\""),
-        ("%{[@metadata][m]}", "M"),
-        ("%{@metadata}", "{\"m\":\"M\"}"),
-        ("%{[@metadata][n]}", "%{[@metadata][n]}"),
-        ("%{@timestamp}", "2024-03-05T00:00:00.000Z"),
-    ] {
-        assert!(rt;
-            is_filled(rt.alloc(), template, &event, want)?,
-            "{template}"
-        );
+fn templates_are_filled(
+    rt: &impl Abort,
+    alloc: Global,
+    event: &Event,
+    templates: &[(&str, &str)],
+) -> Result<(), AllocError> {
+    for (template, want) in templates {
+        assert!(rt; is_filled(alloc, template, event, want)?, "{template}");
     }
     Ok(())
 }
 
+const FIELDS: [(&str, &str); 28] = [
+    ("%{nope}-%{[a][0]}-%{+yyyy.MM}", "%{nope}-x-2024.03"),
+    ("", ""),
+    ("plain é", "plain é"),
+    ("%{", "%{"),
+    ("%{}", "%{}"),
+    ("%{[a}", "%{[a}"),
+    ("%{a]}", "%{a]}"),
+    ("%{[a]b}", "%{[a]b}"),
+    ("%{[]}", "%{[]}"),
+    ("%{b", "%{b"),
+    ("%%{b}", "%B"),
+    ("b%", "b%"),
+    ("%", "%"),
+    ("}{%}", "}{%}"),
+    ("%{b}%{[b]}", "BB"),
+    ("é%{b}é", "éBé"),
+    ("%{[x%{b}", "%{[xB"),
+    ("%{%{b}", "%{%{b}"),
+    ("%{[b][c]}", "%{[b][c]}"),
+    ("%{[a][3]}|%{[a][-2]}", "%{[a][3]}|y"),
+    ("%{a}", "x,y,"),
+    ("%{[a][2]}", ""),
+    ("%{o}", "{\"p\":\"é\\\"\"}"),
+    ("%{[o][p]}", "é\""),
+    ("%{[@metadata][m]}", "M"),
+    ("%{@metadata}", "{\"m\":\"M\"}"),
+    ("%{[@metadata][n]}", "%{[@metadata][n]}"),
+    ("%{@timestamp}", "2024-03-05T00:00:00.000Z"),
+];
+
+#[test]
+fn fields_are_filled_and_the_rest_stays_as_written(rt: HostRuntime) -> Result<(), Fail> {
+    let event = event_at(rt.alloc(), time(1_709_596_800_000_000_000))?;
+    templates_are_filled(&rt, rt.alloc(), &event, &FIELDS)?;
+    Ok(())
+}
+
+const DATES: [(&str, &str); 23] = [
+    ("%{+yyyy}", "2024"),
+    ("%{+YYYY}", "2024"),
+    ("%{+MM}", "03"),
+    ("%{+dd}", "05"),
+    ("%{+HH}", "06"),
+    ("%{+mm}", "07"),
+    ("%{+ss}", "08"),
+    ("%{+SSS}", "090"),
+    ("%{+yyyyMMddHHmmssSSS}", "20240305060708090"),
+    ("%{+YYYYyyyy}", "20242024"),
+    (
+        "%{+ yyyy/MM-dd'HH:mm:ss,SSS é[]}",
+        " 2024/03-05'06:07:08,090 é[]",
+    ),
+    ("%{+-}", "-"),
+    ("%{+}", "%{+}"),
+    ("%{+QQ}", "%{+QQ}"),
+    ("%{+yyyyy}", "%{+yyyyy}"),
+    ("%{+yyy}", "%{+yyy}"),
+    ("%{+MMMM}", "%{+MMMM}"),
+    ("%{+M}", "%{+M}"),
+    ("%{+S}", "%{+S}"),
+    ("%{+SSSSSS}", "%{+SSSSSS}"),
+    ("%{+yyYY}", "%{+yyYY}"),
+    ("%{+yyyy-MM-ddTHH}", "%{+yyyy-MM-ddTHH}"),
+    ("%{+x}", "plus"),
+];
+
 #[test]
 fn dates_are_filled_in_their_formats(rt: HostRuntime) -> Result<(), Fail> {
     let event = event_at(rt.alloc(), time(1_709_618_828_090_000_000))?;
-    for (template, want) in [
-        ("%{+yyyy}", "2024"),
-        ("%{+YYYY}", "2024"),
-        ("%{+MM}", "03"),
-        ("%{+dd}", "05"),
-        ("%{+HH}", "06"),
-        ("%{+mm}", "07"),
-        ("%{+ss}", "08"),
-        ("%{+SSS}", "090"),
-        ("%{+yyyyMMddHHmmssSSS}", "20240305060708090"),
-        ("%{+YYYYyyyy}", "20242024"),
-        (
-            "%{+ yyyy/MM-dd'HH:mm:ss,SSS é[]}",
-            " 2024/03-05'06:07:08,090 é[]",
-        ),
-        ("%{+-}", "-"),
-        ("%{+}", "%{+}"),
-        ("%{+QQ}", "%{+QQ}"),
-        ("%{+yyyyy}", "%{+yyyyy}"),
-        ("%{+yyy}", "%{+yyy}"),
-        ("%{+MMMM}", "%{+MMMM}"),
-        ("%{+M}", "%{+M}"),
-        ("%{+S}", "%{+S}"),
-        ("%{+SSSSSS}", "%{+SSSSSS}"),
-        ("%{+yyYY}", "%{+yyYY}"),
-        ("%{+yyyy-MM-ddTHH}", "%{+yyyy-MM-ddTHH}"),
-        ("%{+x}", "plus"),
-    ] {
-        assert!(rt;
-            is_filled(rt.alloc(), template, &event, want)?,
-            "{template}"
-        );
-    }
+    templates_are_filled(&rt, rt.alloc(), &event, &DATES)?;
     Ok(())
 }
 
@@ -152,28 +159,37 @@ fn a_date_stays_as_written_without_a_moment(rt: HostRuntime) -> Result<(), Fail>
     Ok(())
 }
 
+const DAYS: [(i128, &str); 12] = [
+    (-62_135_596_800_000_000_000, "0001-01-01 00:00:00.000"),
+    (253_402_300_799_999_999_999, "9999-12-31 23:59:59.999"),
+    (0, "1970-01-01 00:00:00.000"),
+    (-1, "1969-12-31 23:59:59.999"),
+    (1, "1970-01-01 00:00:00.000"),
+    (999_999_999, "1970-01-01 00:00:00.999"),
+    (1_000_000_001, "1970-01-01 00:00:01.000"),
+    (-2_203_891_200_000_000_001, "1900-02-28 23:59:59.999"),
+    (-2_203_891_200_000_000_000, "1900-03-01 00:00:00.000"),
+    (951_782_400_000_000_000, "2000-02-29 00:00:00.000"),
+    (1_709_251_199_500_000_000, "2024-02-29 23:59:59.500"),
+    (1_709_251_200_000_000_000, "2024-03-01 00:00:00.000"),
+];
+
+fn days_are_filled(
+    rt: &impl Abort,
+    alloc: Global,
+    days: &[(i128, &str)],
+) -> Result<(), AllocError> {
+    for (nanos, want) in days {
+        let event = event_at(alloc, time(*nanos))?;
+        let format = "%{+yyyy-MM-dd HH:mm:ss.SSS}";
+        assert!(rt; is_filled(alloc, format, &event, want)?, "{want}");
+    }
+    Ok(())
+}
+
 #[test]
 fn dates_name_the_days_of_the_calendar(rt: HostRuntime) -> Result<(), Fail> {
-    for (nanos, want) in [
-        (-62_135_596_800_000_000_000, "0001-01-01 00:00:00.000"),
-        (253_402_300_799_999_999_999, "9999-12-31 23:59:59.999"),
-        (0, "1970-01-01 00:00:00.000"),
-        (-1, "1969-12-31 23:59:59.999"),
-        (1, "1970-01-01 00:00:00.000"),
-        (999_999_999, "1970-01-01 00:00:00.999"),
-        (1_000_000_001, "1970-01-01 00:00:01.000"),
-        (-2_203_891_200_000_000_001, "1900-02-28 23:59:59.999"),
-        (-2_203_891_200_000_000_000, "1900-03-01 00:00:00.000"),
-        (951_782_400_000_000_000, "2000-02-29 00:00:00.000"),
-        (1_709_251_199_500_000_000, "2024-02-29 23:59:59.500"),
-        (1_709_251_200_000_000_000, "2024-03-01 00:00:00.000"),
-    ] {
-        let event = event_at(rt.alloc(), time(nanos))?;
-        assert!(rt;
-            is_filled(rt.alloc(), "%{+yyyy-MM-dd HH:mm:ss.SSS}", &event, want)?,
-            "{want}"
-        );
-    }
+    days_are_filled(&rt, rt.alloc(), &DAYS)?;
     Ok(())
 }
 
@@ -181,32 +197,29 @@ fn is_shown(alloc: Global, value: &Value, want: &str) -> Result<bool, AllocError
     Ok(value_text(alloc, value)?.as_str() == want)
 }
 
+fn shows(rt: &impl Abort, alloc: Global, value: &Value, want: &str) -> Result<(), AllocError> {
+    assert!(rt; is_shown(alloc, value, want)?, "{want}");
+    Ok(())
+}
+
 #[test]
 fn values_are_shown_as_texts(rt: HostRuntime) -> Result<(), Fail> {
     let alloc = rt.alloc();
-    let cases: [(Value, &str); 8] = [
-        (Value::Null, ""),
-        (Value::Bool(true), "true"),
-        (Value::Bool(false), "false"),
-        (number(-5, 2), "-0.05"),
-        (number(i64::MIN, 0), "-9223372036854775808"),
-        (time(1_000), "1970-01-01T00:00:00.000001Z"),
-        (Value::List(Items::new(alloc)), ""),
-        (Value::Object(Fields::new(alloc)), "{}"),
-    ];
-    for (value, want) in &cases {
-        assert!(rt; is_shown(alloc, value, want)?, "{want}");
-    }
+    shows(&rt, alloc, &Value::Null, "")?;
+    shows(&rt, alloc, &Value::Bool(true), "true")?;
+    shows(&rt, alloc, &Value::Bool(false), "false")?;
+    shows(&rt, alloc, &number(-5, 2), "-0.05")?;
+    shows(&rt, alloc, &number(i64::MIN, 0), "-9223372036854775808")?;
+    shows(&rt, alloc, &time(1_000), "1970-01-01T00:00:00.000001Z")?;
+    shows(&rt, alloc, &Value::List(Items::new(alloc)), "")?;
+    shows(&rt, alloc, &Value::Object(Fields::new(alloc)), "{}")?;
     Ok(())
 }
 
 #[test]
 fn a_text_is_shown_as_it_is(rt: HostRuntime) -> Result<(), Fail> {
     for word in ["", "a\"b\\\n", "é,日"] {
-        assert!(rt;
-            is_shown(rt.alloc(), &text(rt.alloc(), word)?, word)?,
-            "{word}"
-        );
+        shows(&rt, rt.alloc(), &text(rt.alloc(), word)?, word)?;
     }
     Ok(())
 }
@@ -221,20 +234,10 @@ fn nested(alloc: Global) -> Result<Value, AllocError> {
 #[test]
 fn lists_and_objects_are_shown_as_texts(rt: HostRuntime) -> Result<(), Fail> {
     let alloc = rt.alloc();
-    assert!(rt; is_shown(alloc, &letters(alloc)?, "x,y,")?);
-    assert!(rt;
-        is_shown(
-            alloc,
-            &nested(alloc)?,
-            "1,true,,-0.05,{\"k\":[\"x\",\"y\",null]}"
-        )?
-    );
-    assert!(rt;
-        is_shown(
-            alloc,
-            &object(alloc, "é", time(0))?,
-            "{\"é\":\"1970-01-01T00:00:00.000Z\"}"
-        )?
-    );
+    shows(&rt, alloc, &letters(alloc)?, "x,y,")?;
+    let shown = "1,true,,-0.05,{\"k\":[\"x\",\"y\",null]}";
+    shows(&rt, alloc, &nested(alloc)?, shown)?;
+    let shown = "{\"é\":\"1970-01-01T00:00:00.000Z\"}";
+    shows(&rt, alloc, &object(alloc, "é", time(0))?, shown)?;
     Ok(())
 }
