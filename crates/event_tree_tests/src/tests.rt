@@ -5,6 +5,7 @@ use event_tree::{
     Value,
 };
 use std::alloc::{AllocError, Global};
+use std::process::Abort;
 use std::test::Fail;
 
 /// A value of a test: an empty object, an empty list, nothing, or a text.
@@ -77,145 +78,182 @@ fn step(
     Ok(shown)
 }
 
+/// Calls on one event, one after another: the call, its path, the value that is put, and what it answers and leaves.
+const CALLS: [(&str, &str, &str, &str); 33] = [
+    ("put", "b", "x", r#"done|{"b":"x"}|{}"#),
+    (
+        "put",
+        "[a][c][d]",
+        "y",
+        r#"done|{"a":{"c":{"d":"y"}},"b":"x"}|{}"#,
+    ),
+    (
+        "put",
+        "[b][k]",
+        "z",
+        r#"through scalar|{"a":{"c":{"d":"y"}},"b":"x"}|{}"#,
+    ),
+    (
+        "get",
+        "[a][c]",
+        "",
+        r#"{"d":"y"}|{"a":{"c":{"d":"y"}},"b":"x"}|{}"#,
+    ),
+    (
+        "get",
+        "[b][k]",
+        "",
+        r#"none|{"a":{"c":{"d":"y"}},"b":"x"}|{}"#,
+    ),
+    ("take", "[a][c]", "", r#"{"d":"y"}|{"a":{},"b":"x"}|{}"#),
+    ("take", "a", "", r#"{}|{"b":"x"}|{}"#),
+    ("put", "b", "[]", r#"done|{"b":[]}|{}"#),
+    ("put", "[b][0]", "p", r#"done|{"b":["p"]}|{}"#),
+    ("put", "[b][1]", "q", r#"done|{"b":["p","q"]}|{}"#),
+    ("put", "[b][-0]", "r", r#"done|{"b":["p","q","r"]}|{}"#),
+    ("put", "[b][-1]", "s", r#"done|{"b":["p","q","s"]}|{}"#),
+    (
+        "put",
+        "[b][4]",
+        "t",
+        r#"through scalar|{"b":["p","q","s"]}|{}"#,
+    ),
+    (
+        "put",
+        "[b][-4]",
+        "t",
+        r#"through scalar|{"b":["p","q","s"]}|{}"#,
+    ),
+    (
+        "put",
+        "[b][x]",
+        "t",
+        r#"through scalar|{"b":["p","q","s"]}|{}"#,
+    ),
+    ("get", "[b][-1]", "", r#""s"|{"b":["p","q","s"]}|{}"#),
+    ("get", "[b][-3]", "", r#""p"|{"b":["p","q","s"]}|{}"#),
+    ("get", "[b][-4]", "", r#"none|{"b":["p","q","s"]}|{}"#),
+    ("get", "[b][-0]", "", r#"none|{"b":["p","q","s"]}|{}"#),
+    ("get", "[b][3]", "", r#"none|{"b":["p","q","s"]}|{}"#),
+    ("get", "[b][0]", "", r#""p"|{"b":["p","q","s"]}|{}"#),
+    ("take", "[b][-0]", "", r#"none|{"b":["p","q","s"]}|{}"#),
+    ("take", "[b][1]", "", r#""q"|{"b":["p","s"]}|{}"#),
+    (
+        "put",
+        "[b][1][m]",
+        "n",
+        r#"through scalar|{"b":["p","s"]}|{}"#,
+    ),
+    (
+        "put",
+        "[b][2][m]",
+        "n",
+        r#"done|{"b":["p","s",{"m":"n"}]}|{}"#,
+    ),
+    ("take", "[b][2][m]", "", r#""n"|{"b":["p","s",{}]}|{}"#),
+    ("put", "b", "null", r#"done|{"b":null}|{}"#),
+    ("put", "[@metadata][m]", "v", r#"done|{"b":null}|{"m":"v"}"#),
+    (
+        "put",
+        "@metadata",
+        "v",
+        r#"through scalar|{"b":null}|{"m":"v"}"#,
+    ),
+    ("get", "@metadata", "", r#"{"m":"v"}|{"b":null}|{"m":"v"}"#),
+    ("take", "[@metadata]", "", r#"{"m":"v"}|{"b":null}|{}"#),
+    ("put", "[@metadata][m]", "w", r#"done|{"b":null}|{"m":"w"}"#),
+    ("put", "@metadata", "{}", r#"done|{"b":null}|{}"#),
+];
+
+fn calls_answer(
+    rt: &impl Abort,
+    alloc: Global,
+    event: &mut Event,
+    calls: &[(&str, &str, &str, &str)],
+) -> Result<(), AllocError> {
+    for (name, text, value, want) in calls {
+        let shown = step(alloc, event, name, text, value)?;
+        assert!(rt; shown.as_str() == *want, "{name} {text}");
+    }
+    Ok(())
+}
+
+/// Whether a copy of the event is equal to it.
+fn copy_is_same(event: &Event) -> Result<bool, AllocError> {
+    Ok(event.copy()?.same(event))
+}
+
 #[test]
 fn events_are_read_and_changed_at_paths(rt: HostRuntime) -> Result<(), Fail> {
-    let alloc = rt.alloc();
-    let rows = [
-        ("put", "b", "x", r#"done|{"b":"x"}|{}"#),
-        (
-            "put",
-            "[a][c][d]",
-            "y",
-            r#"done|{"a":{"c":{"d":"y"}},"b":"x"}|{}"#,
-        ),
-        (
-            "put",
-            "[b][k]",
-            "z",
-            r#"through scalar|{"a":{"c":{"d":"y"}},"b":"x"}|{}"#,
-        ),
-        (
-            "get",
-            "[a][c]",
-            "",
-            r#"{"d":"y"}|{"a":{"c":{"d":"y"}},"b":"x"}|{}"#,
-        ),
-        (
-            "get",
-            "[b][k]",
-            "",
-            r#"none|{"a":{"c":{"d":"y"}},"b":"x"}|{}"#,
-        ),
-        ("take", "[a][c]", "", r#"{"d":"y"}|{"a":{},"b":"x"}|{}"#),
-        ("take", "a", "", r#"{}|{"b":"x"}|{}"#),
-        ("put", "b", "[]", r#"done|{"b":[]}|{}"#),
-        ("put", "[b][0]", "p", r#"done|{"b":["p"]}|{}"#),
-        ("put", "[b][1]", "q", r#"done|{"b":["p","q"]}|{}"#),
-        ("put", "[b][-0]", "r", r#"done|{"b":["p","q","r"]}|{}"#),
-        ("put", "[b][-1]", "s", r#"done|{"b":["p","q","s"]}|{}"#),
-        (
-            "put",
-            "[b][4]",
-            "t",
-            r#"through scalar|{"b":["p","q","s"]}|{}"#,
-        ),
-        (
-            "put",
-            "[b][-4]",
-            "t",
-            r#"through scalar|{"b":["p","q","s"]}|{}"#,
-        ),
-        (
-            "put",
-            "[b][x]",
-            "t",
-            r#"through scalar|{"b":["p","q","s"]}|{}"#,
-        ),
-        ("get", "[b][-1]", "", r#""s"|{"b":["p","q","s"]}|{}"#),
-        ("get", "[b][-3]", "", r#""p"|{"b":["p","q","s"]}|{}"#),
-        ("get", "[b][-4]", "", r#"none|{"b":["p","q","s"]}|{}"#),
-        ("get", "[b][-0]", "", r#"none|{"b":["p","q","s"]}|{}"#),
-        ("get", "[b][3]", "", r#"none|{"b":["p","q","s"]}|{}"#),
-        ("get", "[b][0]", "", r#""p"|{"b":["p","q","s"]}|{}"#),
-        ("take", "[b][-0]", "", r#"none|{"b":["p","q","s"]}|{}"#),
-        ("take", "[b][1]", "", r#""q"|{"b":["p","s"]}|{}"#),
-        (
-            "put",
-            "[b][1][m]",
-            "n",
-            r#"through scalar|{"b":["p","s"]}|{}"#,
-        ),
-        (
-            "put",
-            "[b][2][m]",
-            "n",
-            r#"done|{"b":["p","s",{"m":"n"}]}|{}"#,
-        ),
-        ("take", "[b][2][m]", "", r#""n"|{"b":["p","s",{}]}|{}"#),
-        ("put", "b", "null", r#"done|{"b":null}|{}"#),
-        ("put", "[@metadata][m]", "v", r#"done|{"b":null}|{"m":"v"}"#),
-        (
-            "put",
-            "@metadata",
-            "v",
-            r#"through scalar|{"b":null}|{"m":"v"}"#,
-        ),
-        ("get", "@metadata", "", r#"{"m":"v"}|{"b":null}|{"m":"v"}"#),
-        ("take", "[@metadata]", "", r#"{"m":"v"}|{"b":null}|{}"#),
-        ("put", "[@metadata][m]", "w", r#"done|{"b":null}|{"m":"w"}"#),
-        ("put", "@metadata", "{}", r#"done|{"b":null}|{}"#),
-    ];
-    let mut event = Event::new(alloc);
-    for (name, text, value, shown) in rows {
-        assert_eq!(rt;
-            step(alloc, &mut event, name, text, value)?.as_str(),
-            shown,
-            "{name} {text}"
-        );
-    }
-    assert!(rt; event.copy()?.same(&event));
+    let mut event = Event::new(rt.alloc());
+    calls_answer(&rt, rt.alloc(), &mut event, &CALLS)?;
+    assert!(rt; copy_is_same(&event)?);
     Ok(())
+}
+
+const PATHS: [(&str, bool, &str); 6] = [
+    ("a", false, "|a"),
+    ("[a]", false, "|a"),
+    ("[a][b c][-1]", false, "|a|b c|-1"),
+    ("@metadata", true, ""),
+    ("[@metadata][x]", true, "|x"),
+    ("[a][@metadata]", false, "|a|@metadata"),
+];
+
+const FAULTS: [(&str, PathFault); 13] = [
+    ("", PathFault::Empty),
+    ("[]", PathFault::Empty),
+    ("[a][]", PathFault::Empty),
+    ("[][", PathFault::Empty),
+    ("[", PathFault::Unclosed(0)),
+    ("[a", PathFault::Unclosed(0)),
+    ("[a[b]", PathFault::Unclosed(0)),
+    ("[a][b", PathFault::Unclosed(3)),
+    ("[a]b[", PathFault::Stray(3)),
+    ("[a]]", PathFault::Stray(3)),
+    ("a[b]", PathFault::Stray(1)),
+    ("a]", PathFault::Stray(1)),
+    ("]", PathFault::Stray(0)),
+];
+
+/// The parts of a path, each behind `|`.
+fn shown_parts(alloc: Global, path: &Path) -> Result<String, AllocError> {
+    let mut shown = String::new(alloc);
+    for part in path.parts() {
+        shown.push('|')?;
+        shown.push_str(part.as_str())?;
+    }
+    Ok(shown)
+}
+
+fn is_path(alloc: Global, text: &str, meta: bool, parts: &str) -> Result<bool, AllocError> {
+    let Ok(path) = Path::read(alloc, text) else {
+        return Ok(false);
+    };
+    Ok(path.is_meta() == meta && shown_parts(alloc, &path)?.as_str() == parts)
+}
+
+fn paths_are_read(
+    rt: &impl Abort,
+    alloc: Global,
+    paths: &[(&str, bool, &str)],
+) -> Result<(), AllocError> {
+    for (text, meta, parts) in paths {
+        assert!(rt; is_path(alloc, text, *meta, parts)?, "{text}");
+    }
+    Ok(())
+}
+
+fn faults_are_found(rt: &impl Abort, alloc: Global, faults: &[(&str, PathFault)]) {
+    for (text, fault) in faults {
+        assert!(rt; Path::read(alloc, text).err() == Some(*fault), "{text}");
+    }
 }
 
 #[test]
 fn paths_are_read_or_refused_at_the_first_fault(rt: HostRuntime) -> Result<(), Fail> {
-    let alloc = rt.alloc();
-    let paths = [
-        ("a", false, "|a"),
-        ("[a]", false, "|a"),
-        ("[a][b c][-1]", false, "|a|b c|-1"),
-        ("@metadata", true, ""),
-        ("[@metadata][x]", true, "|x"),
-        ("[a][@metadata]", false, "|a|@metadata"),
-    ];
-    for (text, meta, parts) in paths {
-        let path = Path::read(alloc, text)?;
-        let mut shown = String::new(alloc);
-        for part in path.parts() {
-            shown.push('|')?;
-            shown.push_str(part.as_str())?;
-        }
-        assert_eq!(rt; path.is_meta(), meta, "{text}");
-        assert_eq!(rt; shown.as_str(), parts, "{text}");
-    }
-    let faults = [
-        ("", PathFault::Empty),
-        ("[]", PathFault::Empty),
-        ("[a][]", PathFault::Empty),
-        ("[][", PathFault::Empty),
-        ("[", PathFault::Unclosed(0)),
-        ("[a", PathFault::Unclosed(0)),
-        ("[a[b]", PathFault::Unclosed(0)),
-        ("[a][b", PathFault::Unclosed(3)),
-        ("[a]b[", PathFault::Stray(3)),
-        ("[a]]", PathFault::Stray(3)),
-        ("a[b]", PathFault::Stray(1)),
-        ("a]", PathFault::Stray(1)),
-        ("]", PathFault::Stray(0)),
-    ];
-    for (text, fault) in faults {
-        assert!(rt; Path::read(alloc, text).err() == Some(fault), "{text}");
-    }
+    paths_are_read(&rt, rt.alloc(), &PATHS)?;
+    faults_are_found(&rt, rt.alloc(), &FAULTS);
     Ok(())
 }
 
@@ -232,57 +270,116 @@ fn put_at(
     }
 }
 
+/// Puts a value at a path, which answers this.
+fn puts(
+    rt: &impl Abort,
+    alloc: Global,
+    event: &mut Event,
+    text: &str,
+    value: Value,
+    answer: &str,
+) -> Result<(), AllocError> {
+    assert!(rt; put_at(alloc, event, text, value)? == answer, "{text}");
+    Ok(())
+}
+
+/// A path of so many parts.
+fn parts_of(alloc: Global, count: usize) -> Result<String, AllocError> {
+    "[k]".repeat(alloc, count)
+}
+
+fn puts_null(
+    rt: &impl Abort,
+    alloc: Global,
+    event: &mut Event,
+    count: usize,
+    answer: &str,
+) -> Result<(), AllocError> {
+    puts(
+        rt,
+        alloc,
+        event,
+        parts_of(alloc, count)?.as_str(),
+        Value::Null,
+        answer,
+    )
+}
+
+fn puts_object(
+    rt: &impl Abort,
+    alloc: Global,
+    event: &mut Event,
+    count: usize,
+    answer: &str,
+) -> Result<(), AllocError> {
+    let object = value_of(alloc, "{}")?;
+    puts(
+        rt,
+        alloc,
+        event,
+        parts_of(alloc, count)?.as_str(),
+        object,
+        answer,
+    )
+}
+
 #[test]
 fn depth_is_limited(rt: HostRuntime) -> Result<(), Fail> {
     let alloc = rt.alloc();
     let mut event = Event::new(alloc);
-    let last = "[k]".repeat(alloc, 127)?;
-    let beyond = "[k]".repeat(alloc, 128)?;
-    let far = "[k]".repeat(alloc, 129)?;
-    let object = value_of(alloc, "{}")?;
-    assert_eq!(rt;
-        put_at(alloc, &mut event, far.as_str(), Value::Null)?,
-        "deep"
-    );
-    assert_eq!(rt;
-        put_at(alloc, &mut event, beyond.as_str(), object.copy()?)?,
-        "deep"
-    );
+    puts_null(&rt, alloc, &mut event, 129, "deep")?;
+    puts_object(&rt, alloc, &mut event, 128, "deep")?;
     assert!(rt; event.same(&Event::new(alloc)));
-    assert_eq!(rt; put_at(alloc, &mut event, last.as_str(), object)?, "done");
-    assert_eq!(rt;
-        put_at(alloc, &mut event, beyond.as_str(), Value::Null)?,
-        "done"
-    );
-    assert_eq!(rt;
-        put_at(alloc, &mut event, far.as_str(), Value::Null)?,
-        "through scalar"
-    );
-    assert!(rt; event.copy()?.same(&event));
+    puts_object(&rt, alloc, &mut event, 127, "done")?;
+    puts_null(&rt, alloc, &mut event, 128, "done")?;
+    puts_null(&rt, alloc, &mut event, 129, "through scalar")?;
+    assert!(rt; copy_is_same(&event)?);
     Ok(())
+}
+
+/// A text of so many bytes.
+fn long_text(alloc: Global, length: usize) -> Result<Value, AllocError> {
+    Ok(Value::Text(Text::from_string("x".repeat(alloc, length)?)))
+}
+
+fn puts_text(
+    rt: &impl Abort,
+    alloc: Global,
+    event: &mut Event,
+    text: &str,
+    length: usize,
+    answer: &str,
+) -> Result<(), AllocError> {
+    puts(rt, alloc, event, text, long_text(alloc, length)?, answer)
 }
 
 #[test]
 fn size_is_limited(rt: HostRuntime) -> Result<(), Fail> {
     let alloc = rt.alloc();
     // A text of n bytes at a key of one byte makes an event of 18 + n bytes.
-    let most = Value::Text(Text::from_string("x".repeat(alloc, 16_777_198)?));
-    let more = Value::Text(Text::from_string("x".repeat(alloc, 16_777_199)?));
-    let far = "[k]".repeat(alloc, 129)?;
+    let most = 16_777_198;
     let mut event = Event::new(alloc);
-    assert_eq!(rt;
-        put_at(alloc, &mut event, far.as_str(), more.copy()?)?,
-        "deep"
-    );
-    assert_eq!(rt; put_at(alloc, &mut event, "k", more)?, "large");
+    puts_text(
+        &rt,
+        alloc,
+        &mut event,
+        parts_of(alloc, 129)?.as_str(),
+        most + 1,
+        "deep",
+    )?;
+    puts_text(&rt, alloc, &mut event, "k", most + 1, "large")?;
     assert!(rt; event.same(&Event::new(alloc)));
-    assert_eq!(rt; put_at(alloc, &mut event, "k", most)?, "done");
-    assert_eq!(rt; put_at(alloc, &mut event, "l", Value::Null)?, "large");
-    assert_eq!(rt;
-        put_at(alloc, &mut event, "[k][l]", Value::Null)?,
-        "through scalar"
-    );
-    assert_eq!(rt; taken_length(alloc, &mut event, "k")?, 16_777_198);
+    puts_text(&rt, alloc, &mut event, "k", most, "done")?;
+    puts(&rt, alloc, &mut event, "l", Value::Null, "large")?;
+    puts(
+        &rt,
+        alloc,
+        &mut event,
+        "[k][l]",
+        Value::Null,
+        "through scalar",
+    )?;
+    assert_eq!(rt; taken_length(alloc, &mut event, "k")?, most);
     assert!(rt; event.same(&Event::new(alloc)));
     Ok(())
 }
@@ -299,56 +396,66 @@ fn taken_length(alloc: Global, event: &mut Event, text: &str) -> Result<usize, A
     }
 }
 
-#[test]
-fn numbers_have_one_least_form(rt: HostRuntime) {
-    let numbers = [
-        (10, 19, Some((1, 18))),
-        (1, 19, None),
-        (i64::MIN, 0, Some((i64::MIN, 0))),
-        (0, 255, Some((0, 0))),
-        (-1500, 2, Some((-15, 0))),
-        (1050, 2, Some((105, 1))),
-    ];
+const NUMBERS: [(i64, u8, Option<(i64, u8)>); 6] = [
+    (10, 19, Some((1, 18))),
+    (1, 19, None),
+    (i64::MIN, 0, Some((i64::MIN, 0))),
+    (0, 255, Some((0, 0))),
+    (-1500, 2, Some((-15, 0))),
+    (1050, 2, Some((105, 1))),
+];
+
+const NUMBER_TEXTS: [(&str, Option<(i64, u8)>); 26] = [
+    ("-0", Some((0, 0))),
+    ("1.50", Some((15, 1))),
+    ("1e2", Some((100, 0))),
+    ("1E+2", Some((100, 0))),
+    ("1e-18", Some((1, 18))),
+    ("1e-19", None),
+    ("10e-19", Some((1, 18))),
+    ("9223372036854775807", Some((i64::MAX, 0))),
+    ("9223372036854775808", None),
+    ("-9223372036854775808", Some((i64::MIN, 0))),
+    ("-9223372036854775809", None),
+    (
+        "100000000000000000000000e-5",
+        Some((1_000_000_000_000_000_000, 0)),
+    ),
+    ("0.10e1", Some((1, 0))),
+    ("-12.500", Some((-125, 1))),
+    ("0e99999999999999999999999999999999", Some((0, 0))),
+    ("1e99999999999999999999999999999999", None),
+    ("1e-99999999999999999999999999999999", None),
+    ("01", None),
+    ("+1", None),
+    (".5", None),
+    ("1.", None),
+    ("1e", None),
+    ("1e+", None),
+    ("-", None),
+    ("1 ", None),
+    ("", None),
+];
+
+fn numbers_are_least(rt: &impl Abort, numbers: &[(i64, u8, Option<(i64, u8)>)]) {
     for (mantissa, scale, least) in numbers {
         assert!(rt;
-            parts(Number::new(mantissa, scale)) == least,
+            parts(Number::new(*mantissa, *scale)) == *least,
             "{mantissa} {scale}"
         );
     }
-    let texts = [
-        ("-0", Some((0, 0))),
-        ("1.50", Some((15, 1))),
-        ("1e2", Some((100, 0))),
-        ("1E+2", Some((100, 0))),
-        ("1e-18", Some((1, 18))),
-        ("1e-19", None),
-        ("10e-19", Some((1, 18))),
-        ("9223372036854775807", Some((i64::MAX, 0))),
-        ("9223372036854775808", None),
-        ("-9223372036854775808", Some((i64::MIN, 0))),
-        ("-9223372036854775809", None),
-        (
-            "100000000000000000000000e-5",
-            Some((1_000_000_000_000_000_000, 0)),
-        ),
-        ("0.10e1", Some((1, 0))),
-        ("-12.500", Some((-125, 1))),
-        ("0e99999999999999999999999999999999", Some((0, 0))),
-        ("1e99999999999999999999999999999999", None),
-        ("1e-99999999999999999999999999999999", None),
-        ("01", None),
-        ("+1", None),
-        (".5", None),
-        ("1.", None),
-        ("1e", None),
-        ("1e+", None),
-        ("-", None),
-        ("1 ", None),
-        ("", None),
-    ];
+}
+
+fn numbers_are_read(rt: &impl Abort, texts: &[(&str, Option<(i64, u8)>)]) {
     for (text, least) in texts {
-        assert!(rt; parts(Number::read(text)) == least, "{text}");
+        assert!(rt; parts(Number::read(text)) == *least, "{text}");
     }
+}
+
+#[test]
+fn numbers_have_one_least_form(rt: HostRuntime) {
+    numbers_are_least(&rt, &NUMBERS);
+    numbers_are_read(&rt, &NUMBER_TEXTS);
 }
 
 /// Whether a copy of one path is the same as another path.
