@@ -24,7 +24,7 @@ use Rattle.config_again.proofs.Good.{is_sign, Lawful}
 use Rattle.config_again.proofs.Names.{word_spelled}
 use Rattle.config_text.specs.Tokens.{is_word}
 use Rattle.config_round_trip.proofs.Strings.{is_plain, ArePlain, Between, plain_between, quoted_between, ends_escaped, none_before, ends_like}
-use Rattle.config_round_trip.proofs.Tests.{and_l, and_r, both_true}
+use Rattle.config_round_trip.proofs.Bools.{and_l, and_r, both_true}
 use Rattle.config_round_trip.proofs.Words.{run_passes, in_word_bare, in_word_more, letter_in_word, SelectorFits, selector_from}
 use Rattle.config_round_trip.proofs.Numbers.{IsHeld, read_held, number_plain, number_lexes}
 

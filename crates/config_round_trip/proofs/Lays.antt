@@ -23,7 +23,7 @@ use Rattle.config_again.proofs.Good.{AllOf}
 use Rattle.config_text.specs.Tokens.{is_word, has_quote, quote_of, string, escaped, regexp}
 use Rattle.config_round_trip.proofs.Placed.{Suits, Placed, first_literal}
 use Rattle.config_round_trip.proofs.Strings.{printed_closes, regexp_closes, unescaped_again}
-use Rattle.config_round_trip.proofs.Tests.{and_l, and_r, both_true}
+use Rattle.config_round_trip.proofs.Bools.{and_l, and_r, both_true}
 use Rattle.config_round_trip.proofs.Words.{letter_in_word, Apart, blank_case, word_run, parts_again, opens_list}
 use Rattle.config_round_trip.proofs.Numbers.{IsHeld, number_lexes}
 use Rattle.config_round_trip.proofs.Fit.{Fit, word_more, behind_letters, behind_numbers}

@@ -1,4 +1,4 @@
-pub mod Tests
+pub mod Bools
 pub mod Placed
 pub mod Strings
 pub mod Words

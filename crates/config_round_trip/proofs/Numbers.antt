@@ -17,7 +17,7 @@ use Rattle.event_tree.proofs.Least.{least_few}
 use Rattle.event_json.specs.Json.{zeros, padded, pointed, sign_of, number_text}
 use Rattle.config_grammar.specs.Bytes.{run, is_blank, is_letter, begins, begins_digit, sign_length, point_length, whole_length, number_length, begins_number, zeros_behind, without_zeros, numeral, number_of}
 use Rattle.config_round_trip.proofs.Strings.{is_plain, ArePlain}
-use Rattle.config_round_trip.proofs.Tests.{and_l, and_r, both_true}
+use Rattle.config_round_trip.proofs.Bools.{and_l, and_r, both_true}
 use Rattle.config_round_trip.proofs.Words.{Apart, blank_case, run_all, run_passes}
 
 -- ---- numbers that are read are in least form

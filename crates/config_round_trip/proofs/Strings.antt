@@ -4,7 +4,7 @@ use Rattle.std.proofs.lemmas.Bool.Decides.{nat_tests}
 use Rattle.std.proofs.lemmas.Bool.{eqb-true, not-true, and_right}
 use Rattle.config_grammar.specs.Bytes.{closing, unescaped, begins}
 use Rattle.config_text.specs.Tokens.{has_quote, quote_of, escaped}
-use Rattle.config_round_trip.proofs.Tests.{and_r, or_l, or_r}
+use Rattle.config_round_trip.proofs.Bools.{and_r, or_l, or_r}
 
 -- a closing byte stands there that no backslash precedes
 abbrev pub has : ℕ → Bool → List ℕ → Bool

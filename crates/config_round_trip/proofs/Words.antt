@@ -10,7 +10,7 @@ use Rattle.event_tree.specs.PathTexts.{bracketed}
 use Rattle.config_grammar.specs.Bytes.{run, skip, is_blank, is_letter, is_in_word, is_in_part, part_length, begins}
 use Rattle.config_grammar.specs.Lexemes.{parts_at, parts_more, begins_literals}
 use Rattle.config_grammar.proofs.Lexing.{parts_on, parts_stop}
-use Rattle.config_round_trip.proofs.Tests.{and_l, and_r, both_true}
+use Rattle.config_round_trip.proofs.Bools.{and_l, and_r, both_true}
 
 -- what stands behind a token: nothing, or a blank
 abbrev pub Apart : List ℕ → Type 0

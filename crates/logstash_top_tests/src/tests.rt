@@ -240,7 +240,7 @@ fn other_words_and_other_texts_are_refused(rt: HostRuntime) -> Result<(), Fail> 
 #[test]
 fn a_text_of_more_than_a_megabyte_is_refused(rt: HostRuntime) -> Result<(), Fail> {
     let mut text = String::from_str(rt.alloc(), BUILT)?;
-    while text.len() < 1_048_576 {
+    for _ in text.len()..1_048_576 {
         text.push(' ')?;
     }
     let (status, _) = run(&rt, rt.alloc(), &["-e", text.as_str()], &Case::of(b""))?;
