@@ -219,7 +219,7 @@ fn other_words_and_other_texts_are_refused(rt: HostRuntime) -> Result<(), Fail> 
         ("input { stdin {} } output { stdout {} } }", b"syntax at 40"),
         ("input { stdin {} ", b"syntax at 17"),
         ("inputs { stdin {} }", b"syntax at 0"),
-        ("input { if [a] { stdin {} } }", b"syntax at 11"),
+        ("input { if [a] { stdin {} } }", b"syntax at 8"),
         ("filter { if [#] == 1 {} }", b"syntax at 12"),
         (
             "filter { if ((((((((((((((((((((((((((((((((((((((((((((((((((((((((((((((((",
