@@ -74,7 +74,8 @@ fn parse_text(alloc: Global, text: &str) -> Result<Config, ConfigFault>
 /// each `{`, `[`, `(` and `!` being one. Sections of one kind that repeat, and settings that stand twice in a
 /// plugin, are joined.
 ///
-/// It takes time in the length of the text, and memory for the tokens and the tree.
+/// It takes time in proportion to the length of the text and, for each hash and each plugin, to the square of the
+/// number of its keys or settings; and memory for the tokens and the tree.
 pub fn parse(alloc: Global, text: &str) -> Result<Config, ConfigFault>
     // What is given, the text reads as, within the limits.
     ensures found { IfOk result (λ config. (length text.now ≤ LENGTH) × Reads LEVELS text.now config) }
