@@ -29,6 +29,16 @@ least_time() {
     echo "$least"
 }
 
+# The time of one round of a command, in nanoseconds. The command takes a number of rounds as its last word; the
+# time of few is taken from that of many, so that the start doesn't count.
+round_time() {
+    rounds=$1
+    shift
+    few=$(least_time "$@" "$rounds")
+    many=$(least_time "$@" $((rounds * 201)))
+    echo $(((many - few) / (rounds * 200)))
+}
+
 # Runs a command three times with a file as its input. The row of the fastest run (seconds, seconds of
 # the processor in user and in system mode, KiB that it held at most) stands in $work/best, its output in
 # $work/output. Needs GNU time.

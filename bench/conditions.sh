@@ -8,9 +8,7 @@
 build bench_conditions
 
 measure() {
-    few=$(least_time "$program" "$2" 1000)
-    many=$(least_time "$program" "$2" 201000)
-    echo "$1: $(((many - few) / 200000)) ns an evaluation"
+    echo "$1: $(round_time 1000 "$program" "$2") ns an evaluation"
 }
 
 text='"a value of some bytes"'

@@ -8,8 +8,6 @@ build bench_elements
 size=$("$program" size 0)
 
 for call in encode decode; do
-    few=$(least_time "$program" "$call" 1000)
-    many=$(least_time "$program" "$call" 201000)
-    awk -v call="$call" -v size="$size" -v time=$((many - few)) \
-        'BEGIN { printf "%s %d ns an event of %d bytes, %d MB/s\n", call, time / 200000, size, size * 200000 * 1000 / time }'
+    time=$(round_time 1000 "$program" "$call")
+    echo "$call $time ns an event of $size bytes, $((size * 1000 / time)) MB/s"
 done

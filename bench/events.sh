@@ -8,9 +8,7 @@
 build bench_events
 
 measure() {
-    few=$(least_time "$program" "$1" 100)
-    many=$(least_time "$program" "$1" 20100)
-    echo "$1 $(((many - few) / 20000 / $2)) ns $3"
+    echo "$1 $(($(round_time 100 "$program" "$1") / $2)) ns $3"
 }
 
 measure get 30 "a call"
