@@ -5,7 +5,7 @@ use Rattle.logstash_top.specs.declared.config.Refusal.TheVariants.{Config, Memor
 use Rattle.logstash_top.specs.declared.status.Status.{Status}
 use Rattle.logstash_top.specs.declared.status.Status.TheVariants.{Done, BadConfig, InputFault, NoMemory}
 use Rattle.logstash_top.specs.declared.status.ConfigFault.{ConfigFault}
-use Rattle.logstash_top.specs.declared.status.ConfigFault.TheVariants.{Syntax, Deep, Thin}
+use Rattle.logstash_top.specs.declared.status.ConfigFault.TheVariants.{Deep, Thin}
 use Rattle.logstash_top.specs.Status.{config_fault, placed_line, config_line, line_of, status_of_refusal}
 
 apart : (s : Status) (fault : ConfigFault) → s ≡ config_fault fault → s ≡ Done → ⊥
@@ -29,9 +29,6 @@ input_line s pipeline input one two is same other =
     ap (λ t. codes "logstash: pipeline " ++ (t ++ (codes ": input fault " ++ (two ++ codes "\n")))) same ∙ ap (λ t. codes "logstash: pipeline " ++ (pipeline ++ (codes ": input fault " ++ (t ++ codes "\n")))) other ∙ sym (ap line_of is)
 
 -- the lines of refused configurations, by their parts
-pub syntax_line : (pipeline place : List ℕ) (fault : ConfigFault) (at : ℕ) → fault ≡ Syntax at → place ≡ decimal at → placed_line pipeline (codes ": syntax at ") place ≡ config_line pipeline fault
-syntax_line pipeline place fault at is same = ap (placed_line pipeline (codes ": syntax at ")) same ∙ sym (ap (config_line pipeline) is)
-
 pub deep_line : (pipeline place : List ℕ) (fault : ConfigFault) (at : ℕ) → fault ≡ Deep at → place ≡ decimal at → placed_line pipeline (codes ": deep at ") place ≡ config_line pipeline fault
 deep_line pipeline place fault at is same = ap (placed_line pipeline (codes ": deep at ")) same ∙ sym (ap (config_line pipeline) is)
 
