@@ -1,13 +1,13 @@
 -- The patterns that are made of a condition, part by part.
-use Rattle.std.proofs.Common.{◌≡◌, ℕ, suc, zero, ◌+◌, ◌-◌, ◌<◌, ◌≤◌, get_or, List, [], ◌∷◌, ◌++◌, length, drop, inl, inr, refl, sym, ap, subst, ◌∙◌, append_assoc, length-append, slice_set, take, arith}
+use Rattle.std.proofs.Common.{◌≡◌, ℕ, suc, zero, ◌+◌, ◌-◌, ◌<◌, ◌≤◌, get_or, List, [], ◌∷◌, ◌++◌, length, drop, refl, sym, ap, subst, ◌∙◌, append_assoc, length-append, slice_set, take, arith}
 use Rattle.std.specs.Prelude.{Result, Ok, Err, OnOk, IfErr}
 use Rattle.std.proofs.lemmas.List.{append-nil, drop-drop, length-drop, length-map}
 use Rattle.std.proofs.Math.Seq.{take-append_seam}
 use Rattle.regex_hir.specs.Re.{Re}
-use Rattle.pattern_box.specs.Patterns.{IsReadFrom}
+use Rattle.pattern_box.specs.Patterns.{IsReadFrom, IsRefusal}
 use Rattle.pattern_box.specs.declared.pattern.Pattern as box
 use Rattle.pattern_box.specs.declared.fault.PatternFault.{PatternFault}
-use Rattle.condition_eval.specs.Made.{AreReadFrom, Added, OneIsRefused, BeginWith, meaning_of, meanings}
+use Rattle.condition_eval.specs.Made.{AreReadFrom, Added, FirstIsRefused, BeginWith, meaning_of, meanings}
 
 pub added_none : (ps : List box.Pattern) → Added [] ps ps
 added_none ps = record { more = []; whole = sym (append-nil ps); read = tt }
@@ -27,25 +27,52 @@ read_append (s ∷ a) b (x ∷ xs) ys h k = (h.0, read_append a b xs ys h.1 k)
 pub added_both : (a b : List (List ℕ)) (ps qs rs : List box.Pattern) → Added a ps qs → Added b qs rs → Added (a ++ b) ps rs
 added_both a b ps qs rs h k = record { more = h.more ++ k.more; whole = k.whole ∙ ap (λ x. x ++ k.more) h.whole ∙ append_assoc ps h.more k.more; read = read_append a b h.more k.more h.read k.read }
 
-pub refused_left : (fault : PatternFault) (a b : List (List ℕ)) → OneIsRefused fault a → OneIsRefused fault (a ++ b)
-refused_left fault [] b h = absurd h
-refused_left fault (s ∷ a) b (inl h) = inl h
-refused_left fault (s ∷ a) b (inr h) = inr (refused_left fault a b h)
+refused_left : (fault : PatternFault) (a b : List (List ℕ)) → FirstIsRefused fault a → FirstIsRefused fault (a ++ b)
+refused_left fault a b h = record {
+  before = h.before;
+  text = h.text;
+  behind = h.behind ++ b;
+  whole = ap (λ x. x ++ b) h.whole ∙ append_assoc h.before (h.text ∷ h.behind) b;
+  made = h.made;
+  read = h.read;
+  refused = h.refused;
+}
 
-pub refused_right : (fault : PatternFault) (a b : List (List ℕ)) → OneIsRefused fault b → OneIsRefused fault (a ++ b)
-refused_right fault [] b h = h
-refused_right fault (s ∷ a) b h = inr (refused_right fault a b h)
+refused_right : (fault : PatternFault) (a b : List (List ℕ)) (xs : List box.Pattern) → AreReadFrom a xs → FirstIsRefused fault b → FirstIsRefused fault (a ++ b)
+refused_right fault a b xs r h = record {
+  before = a ++ h.before;
+  text = h.text;
+  behind = h.behind;
+  whole = ap (λ x. a ++ x) h.whole ∙ sym (append_assoc a h.before (h.text ∷ h.behind));
+  made = xs ++ h.made;
+  read = read_append a h.before xs h.made r h.read;
+  refused = h.refused;
+}
+
+-- the one text is the first that is refused
+pub refused_alone : (r : Result (Unit {0}) PatternFault) (s : List ℕ) (x : List (List ℕ)) → x ≡ s ∷ [] → IfErr r (IsRefusal s) → IfErr r (λ fault. FirstIsRefused fault x)
+refused_alone (Ok u) s x e h = tt
+refused_alone (Err f) s x e h = record { before = []; text = s; behind = []; whole = e; made = []; read = tt; refused = h }
 
 pub added_then : (r : Result (Unit {0}) PatternFault) (a b x : List (List ℕ)) (ps qs rs : List box.Pattern) → x ≡ a ++ b → Added a ps qs → OnOk r (Added b qs rs) → OnOk r (Added x ps rs)
 added_then (Ok u) a b x ps qs rs e h k = subst (λ s. Added s ps rs) (sym e) (added_both a b ps qs rs h k)
 added_then (Err f) a b x ps qs rs e h k = tt
 
-pub refused_then : (r : Result (Unit {0}) PatternFault) (a b x : List (List ℕ)) → x ≡ a ++ b → IfErr r (λ fault. OneIsRefused fault b) → IfErr r (λ fault. OneIsRefused fault x)
-refused_then (Ok u) a b x e h = tt
-refused_then (Err f) a b x e h = subst (OneIsRefused f) (sym e) (refused_right f a b h)
+pub refused_then : (r : Result (Unit {0}) PatternFault) (a b x : List (List ℕ)) (ps qs : List box.Pattern) → x ≡ a ++ b → Added a ps qs → IfErr r (λ fault. FirstIsRefused fault b) → IfErr r (λ fault. FirstIsRefused fault x)
+refused_then (Ok u) a b x ps qs e k h = tt
+refused_then (Err f) a b x ps qs e k h = subst (FirstIsRefused f) (sym e) (refused_right f a b k.more k.read h)
 
-pub joint_refused : (fault : PatternFault) (a b x : List (List ℕ)) → x ≡ a ++ b → OneIsRefused fault a → OneIsRefused fault x
-joint_refused fault a b x e h = subst (OneIsRefused fault) (sym e) (refused_left fault a b h)
+pub joint_refused : (fault : PatternFault) (a b x : List (List ℕ)) → x ≡ a ++ b → FirstIsRefused fault a → FirstIsRefused fault x
+joint_refused fault a b x e h = subst (FirstIsRefused fault) (sym e) (refused_left fault a b h)
+
+-- where two lists joined are empty, so is each
+pub none_left : (a b : List (List ℕ)) → a ++ b ≡ [] → a ≡ []
+none_left [] b e = refl
+none_left (s ∷ a) b e = absurd (cc)
+
+pub none_right : (a b : List (List ℕ)) → a ++ b ≡ [] → b ≡ []
+none_right [] b e = e
+none_right (s ∷ a) b e = absurd (cc)
 
 pub begins_left : (a b : List (List ℕ)) (ps : List box.Pattern) → BeginWith (a ++ b) ps → BeginWith a ps
 begins_left [] b ps h = tt

@@ -1,5 +1,6 @@
 pub mod Equality
 pub mod Made
 pub mod Sides
+pub mod Texts
 pub mod Truths
 pub mod Values

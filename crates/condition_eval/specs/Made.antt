@@ -1,5 +1,5 @@
 -- The patterns that are made of a condition.
-use Rattle.std.specs.Prelude.{◌≡◌, ℕ, List, [], ◌∷◌, ◌++◌, map, ⊤, ◌⊎◌}
+use Rattle.std.specs.Prelude.{◌≡◌, ℕ, List, [], ◌∷◌, ◌++◌, map, ⊤}
 use Rattle.regex_hir.specs.Re.{Re}
 use Rattle.pattern_box.specs.Patterns.{pattern_re, pattern_groups, IsReadFrom, IsRefusal}
 use Rattle.pattern_box.specs.declared.pattern.Pattern as box
@@ -48,10 +48,15 @@ AreReadFrom (s ∷ ss) (p ∷ ps) = IsReadFrom s p × AreReadFrom ss ps
 abbrev pub AreMadeOf : Condition → List box.Pattern → Type 0
 AreMadeOf condition ps = AreReadFrom (texts condition) ps
 
--- one of the texts is refused with this fault
-abbrev pub OneIsRefused : PatternFault → List (List ℕ) → Type 0
-OneIsRefused fault [] = ⊥
-OneIsRefused fault (s ∷ ss) = IsRefusal s fault ⊎ OneIsRefused fault ss
+-- One of the texts is refused with this fault, and from each text before it a pattern was read.
+pub record FirstIsRefused (fault : PatternFault) (ss : List (List ℕ)) : Type 0 where
+  pub before : List (List ℕ)
+  pub text : List ℕ
+  pub behind : List (List ℕ)
+  pub whole : ss ≡ before ++ text ∷ behind
+  pub made : List box.Pattern
+  pub read : AreReadFrom before made
+  pub refused : IsRefusal text fault
 
 -- behind the old patterns stand new ones that are read from these texts
 pub record Added (ss : List (List ℕ)) (old new : List box.Pattern) : Type 0 where

@@ -1,6 +1,6 @@
 ghost use Rattle.std.specs.Prelude.{◌≡◌, [], ◌∷◌, IfOk, IfErr, OnOk};
 ghost use Rattle.pattern_box.specs.Patterns.{IsRefusal};
-ghost use Rattle.condition_eval.specs.Made.{AreMadeOf, Added, OneIsRefused, texts, pattern_text};
+ghost use Rattle.condition_eval.specs.Made.{AreMadeOf, Added, FirstIsRefused, texts, pattern_text};
 
 use config_grammar::{Condition, Pattern as Written};
 use pattern_box::{Pattern, PatternFault, Patterns};
@@ -9,10 +9,11 @@ use std::alloc::Global;
 
 /// One pattern for each `=~` and `!~` of a condition, in the order of the text.
 ///
-/// A fault is that of one of its texts. The patterns are what `eval` wants for this condition.
+/// A fault is that of the first text that is refused: the texts before it were made. The patterns are
+/// what `eval` wants for this condition.
 pub fn patterns_of(alloc: Global, condition: &Condition) -> Result<Patterns, PatternFault>
     ensures made { IfOk result (AreMadeOf condition.now) }
-    ensures refused { IfErr result (λ fault. OneIsRefused fault (texts condition.now)) }
+    ensures refused { IfErr result (λ fault. FirstIsRefused fault (texts condition.now)) }
 {
     let mut patterns = Patterns::new(alloc);
     add(alloc, condition, &mut patterns)?;
@@ -23,7 +24,7 @@ pub fn patterns_of(alloc: Global, condition: &Condition) -> Result<Patterns, Pat
 #[tactic(auto, using(crate::proofs::TextsOf::texts_of, crate::proofs::TextsOf::weights))]
 fn add(alloc: Global, condition: &Condition, patterns: &mut Patterns) -> Result<(), PatternFault>
     ensures made { OnOk result (Added (texts condition.now) patterns.old patterns.new) }
-    ensures refused { IfErr result (λ fault. OneIsRefused fault (texts condition.now)) }
+    ensures refused { IfErr result (λ fault. FirstIsRefused fault (texts condition.now)) }
 {
     match condition {
         Condition::Not(part) => add(alloc, part.get(), patterns),

@@ -1,8 +1,10 @@
-ghost use Rattle.std.specs.Prelude.{◌≡◌};
+ghost use Rattle.std.specs.Prelude.{◌≡◌, Some};
 ghost use Rattle.condition_eval.specs.Truths as spec;
+ghost use Rattle.condition_eval.specs.Texts.{kind_text, reason_text};
 
 use plain_lists::Text;
-use thiserror::Error;
+use std::error::Error;
+use std::fmt;
 
 /// What a condition says of an event.
 #[derive(Debug, PartialEq, Eq, Drop)]
@@ -15,36 +17,56 @@ pub enum Truth {
 
 /// Why a condition has no truth of an event, or an event was rejected. Its text is that of a dead
 /// letter.
-#[derive(Debug, PartialEq, Eq, Drop, Error)]
+#[derive(Debug, PartialEq, Eq, Drop)]
 pub enum Reason {
     /// Values of these kinds, left and right, have no order.
-    #[error("order of {0} and {1}")]
     Order(Kind, Kind),
     /// A value of this kind was to match a pattern.
-    #[error("match of {0}")]
     Match(Kind),
     /// An output rejected the event with this status, and said this.
-    #[error("status {0}: {1}")]
     Status(u16, Text),
 }
 
 /// The kinds of values.
-#[derive(Clone, Copy, Debug, PartialEq, Eq, Error)]
+#[derive(Clone, Copy, Debug, PartialEq, Eq)]
 pub enum Kind {
-    #[error("null")]
     Null,
-    #[error("boolean")]
     Boolean,
-    #[error("number")]
     Number,
-    #[error("text")]
     Text,
-    #[error("time")]
     Time,
-    #[error("list")]
     List,
-    #[error("object")]
     Object,
+}
+
+impl Error for Reason {}
+
+impl fmt::Display for Reason {
+    ghost output = { λ reason. Some (reason_text reason) };
+
+    fn fmt<W: fmt::Write>(&self, f: &mut fmt::Formatter<W>) -> fmt::Result {
+        match self {
+            Reason::Order(left, right) => write!(f, "order of {left} and {right}"),
+            Reason::Match(kind) => write!(f, "match of {kind}"),
+            Reason::Status(status, text) => write!(f, "status {status}: {text}"),
+        }
+    }
+}
+
+impl fmt::Display for Kind {
+    ghost output = { λ kind. Some (kind_text kind) };
+
+    fn fmt<W: fmt::Write>(&self, f: &mut fmt::Formatter<W>) -> fmt::Result {
+        f.write_str(match self {
+            Kind::Null => "null",
+            Kind::Boolean => "boolean",
+            Kind::Number => "number",
+            Kind::Text => "text",
+            Kind::Time => "time",
+            Kind::List => "list",
+            Kind::Object => "object",
+        })
+    }
 }
 
 impl Truth {

@@ -1,4 +1,4 @@
-ghost use Rattle.std.specs.Prelude.{◌≡◌, ◌+◌, ◌<◌, ◌^◌, ◌++◌, ◌∷◌, [], length, drop, IfOk};
+ghost use Rattle.std.specs.Prelude.{◌≡◌, ◌+◌, ◌<◌, ◌^◌, ◌++◌, ◌∷◌, [], length, drop, IfOk, IsOk};
 ghost use Rattle.pattern_box.specs.Patterns.{IsReadFrom, IsSamePattern};
 ghost use Rattle.condition_eval.specs.Truths as spec;
 ghost use Rattle.condition_eval.specs.Made.{AreMadeOf, BeginWith, texts, pattern_text, meanings};
@@ -17,7 +17,8 @@ use std::alloc::AllocError;
 /// stay so.
 ///
 /// A missing field counts as null. `and` and `nand` evaluate their right side after Yes, `or` after
-/// No, and `xor` after both. The first Wrong that is met is the result.
+/// No, and `xor` after both. The first Wrong that is met is the result. An error is want of memory,
+/// and comes of no condition without patterns.
 pub fn eval(
     condition: &Condition,
     patterns: &mut Patterns,
@@ -25,6 +26,7 @@ pub fn eval(
 ) -> Result<Truth, AllocError>
     requires { AreMadeOf condition.now patterns.old }
     ensures truth { IfOk result (λ found. found ≡ spec.truth condition.now event.now) }
+    ensures without_patterns { texts condition.now ≡ [] → IsOk result }
     ensures same { meanings patterns.new ≡ meanings patterns.old }
     ensures made { AreMadeOf condition.now patterns.new }
 {
@@ -62,6 +64,7 @@ fn walk(
     requires { BeginWith (texts condition.now) (drop at patterns.old) }
     ensures truth { IfOk result (λ passed. passed.truth ≡ spec.truth condition.now event.now) }
     ensures next { IfOk result (λ passed. passed.next ≡ at + length (texts condition.now)) }
+    ensures without_patterns { texts condition.now ≡ [] → IsOk result }
     ensures same { meanings patterns.new ≡ meanings patterns.old }
 {
     match condition {
@@ -76,33 +79,15 @@ fn walk(
         Condition::MatchesNot(operand, written) => {
             Ok(search(operand, written, patterns, at, event)?.negated())
         }
-        Condition::Operand(operand) => Ok(here(alone(side_of(operand, event)), at)),
-        Condition::Equal(left, right) => {
-            Ok(here(equal(side_of(left, event), side_of(right, event)), at))
-        }
-        Condition::Unequal(left, right) => {
-            Ok(here(equal(side_of(left, event), side_of(right, event)), at).negated())
-        }
-        Condition::Less(left, right) => Ok(here(
-            less(side_of(left, event), side_of(right, event)),
-            at,
-        )),
-        Condition::Greater(left, right) => {
-            Ok(here(greater(side_of(left, event), side_of(right, event)), at))
-        }
-        Condition::AtMost(left, right) => {
-            Ok(here(at_most(side_of(left, event), side_of(right, event)), at))
-        }
-        Condition::AtLeast(left, right) => {
-            Ok(here(at_least(side_of(left, event), side_of(right, event)), at))
-        }
-        Condition::In(left, right) => Ok(here(
-            within(side_of(left, event), side_of(right, event)),
-            at,
-        )),
-        Condition::NotIn(left, right) => {
-            Ok(here(within(side_of(left, event), side_of(right, event)), at).negated())
-        }
+        Condition::Operand(operand) => Ok(here(alone(operand, event), at)),
+        Condition::Equal(left, right) => Ok(here(equal(left, right, event), at)),
+        Condition::Unequal(left, right) => Ok(here(equal(left, right, event), at).negated()),
+        Condition::Less(left, right) => Ok(here(less(left, right, event), at)),
+        Condition::Greater(left, right) => Ok(here(greater(left, right, event), at)),
+        Condition::AtMost(left, right) => Ok(here(at_most(left, right, event), at)),
+        Condition::AtLeast(left, right) => Ok(here(at_least(left, right, event), at)),
+        Condition::In(left, right) => Ok(here(within(left, right, event), at)),
+        Condition::NotIn(left, right) => Ok(here(within(left, right, event), at).negated()),
     }
 }
 
@@ -120,6 +105,7 @@ fn and(
         ≡ spec.conjoined (spec.truth left.now event.now) (spec.truth right.now event.now)) }
     ensures next { IfOk result (λ passed. passed.next
         ≡ at + length (texts left.now ++ texts right.now)) }
+    ensures without_patterns { texts left.now ++ texts right.now ≡ [] → IsOk result }
     ensures same { meanings patterns.new ≡ meanings patterns.old }
 {
     let Passed { truth, next } = walk(left, patterns, at, event)?;
@@ -144,6 +130,7 @@ fn or(
         ≡ spec.disjoined (spec.truth left.now event.now) (spec.truth right.now event.now)) }
     ensures next { IfOk result (λ passed. passed.next
         ≡ at + length (texts left.now ++ texts right.now)) }
+    ensures without_patterns { texts left.now ++ texts right.now ≡ [] → IsOk result }
     ensures same { meanings patterns.new ≡ meanings patterns.old }
 {
     let Passed { truth, next } = walk(left, patterns, at, event)?;
@@ -168,6 +155,7 @@ fn xor(
         ≡ spec.different (spec.truth left.now event.now) (spec.truth right.now event.now)) }
     ensures next { IfOk result (λ passed. passed.next
         ≡ at + length (texts left.now ++ texts right.now)) }
+    ensures without_patterns { texts left.now ++ texts right.now ≡ [] → IsOk result }
     ensures same { meanings patterns.new ≡ meanings patterns.old }
 {
     let Passed { truth, next } = walk(left, patterns, at, event)?;

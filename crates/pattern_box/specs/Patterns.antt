@@ -3,6 +3,7 @@ use Rattle.std.specs.Prelude.{◌≡◌, ℕ, ◌<◌, ◌≤◌, ◌⊎◌, Lis
 use Rattle.regex_hir.specs.Re.{Re}
 use Rattle.regex_hir.specs.Meaning.{meaning}
 use Rattle.regex_hir.specs.declared.hir.Hir.{Hir}
+use Rattle.regex_nfa.specs.Sizes.{table_bytes}
 use Rattle.regex_syntax.specs.Grammar.{Names}
 use Rattle.regex_syntax.specs.Verdict.{default_config, Reads}
 use Rattle.regex.specs.Failures.{IsPattern}
@@ -17,6 +18,10 @@ pattern_re p = meaning p.searcher.hir
 -- how many groups it has, the whole match included
 abbrev pub pattern_groups : Pattern → ℕ
 pattern_groups p = p.groups
+
+-- how many bytes the tables of its compiled form take
+abbrev pub compiled_bytes : Pattern → ℕ
+compiled_bytes p = table_bytes p.searcher.dfa.nfa
 
 -- the two search for the same, with as many groups
 abbrev pub IsSamePattern : Pattern → Pattern → Type 0

@@ -1,19 +1,18 @@
-ghost use Rattle.std.specs.Prelude.{◌≡◌, ◌≢◌};
+ghost use Rattle.std.specs.Prelude.{◌≡◌, ◌≢◌, Some};
 ghost use Rattle.regex_syntax.specs.declared.error.ErrorKind.TheVariants.{OutOfMemory};
 
 use regex_syntax::ErrorKind;
 use std::alloc::AllocError;
-use thiserror::Error;
+use std::error::Error;
+use std::fmt;
 
 /// Why a text is refused as a pattern.
-#[derive(Clone, Copy, Debug, PartialEq, Eq, Error)]
+#[derive(Clone, Copy, Debug, PartialEq, Eq)]
 pub enum PatternFault {
     /// The text has more than 65,536 bytes, it is no regular expression, or it nests more than 250
     /// deep.
-    #[error("bad pattern")]
     BadPattern,
     /// Memory ran out, or the compiled pattern would take more than 10 MiB.
-    #[error("out of memory")]
     Memory,
 }
 
@@ -27,6 +26,21 @@ impl PatternFault {
             ErrorKind::OutOfMemory => PatternFault::Memory,
             _ => PatternFault::BadPattern,
         }
+    }
+}
+
+impl Error for PatternFault {}
+
+impl fmt::Display for PatternFault {
+    ghost use Rattle.pattern_box.specs.Texts.{fault_text};
+
+    ghost output = { λ fault. Some (fault_text fault) };
+
+    fn fmt<W: fmt::Write>(&self, f: &mut fmt::Formatter<W>) -> fmt::Result {
+        f.write_str(match self {
+            PatternFault::BadPattern => "bad pattern",
+            PatternFault::Memory => "out of memory",
+        })
     }
 }
 

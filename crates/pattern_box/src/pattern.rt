@@ -1,4 +1,4 @@
-ghost use Rattle.std.specs.Prelude.{◌≡◌, ◌∷◌, ◌+◌, ◌-◌, ◌*◌, ◌≤◌, ◌++◌, true, map, length, vec_len, string_bytes, option_map, IfOk, IfErr, OnOk, IfSome, IsUtf8, Some};
+ghost use Rattle.std.specs.Prelude.{◌≡◌, ◌∷◌, ◌+◌, ◌-◌, ◌*◌, ◌^◌, ◌≤◌, ◌++◌, true, map, length, vec_len, string_bytes, option_map, IfOk, IfErr, OnOk, IsOk, IfSome, IsUtf8, Some, None};
 ghost use Rattle.std.specs.List.{range_with_len};
 ghost use Rattle.regex_hir.specs.Find.{find, find_str, find_all_str};
 ghost use Rattle.regex_hir.specs.Meaning.{meaning};
@@ -37,16 +37,18 @@ pub struct Pattern {
 }
 
 impl Pattern {
-    ghost use Rattle.pattern_box.specs.Patterns.{pattern_re, IsReadFrom, IsRefusal, IsSamePattern, pattern_groups};
+    ghost use Rattle.pattern_box.specs.Patterns.{pattern_re, compiled_bytes, IsReadFrom, IsRefusal, IsSamePattern, pattern_groups};
     ghost use Rattle.pattern_box.specs.Spans.{spans_of, spans_from_cells, AreSpansIn};
 
     /// Reads `text` by the grammar of `regex`, with its default flags, and compiles it.
     /// `BadPattern` comes for a text of more than 65,536 bytes. For another text it comes only where
     /// the grammar reads no pattern, or one that nests more than 250 deep. `Memory` may come for any
-    /// text of at most 65,536 bytes, and does where the compiled form would exceed 10 MiB.
+    /// text of at most 65,536 bytes, and does where the compiled form would exceed 10 MiB, not counting
+    /// the two states with which each one begins.
     pub fn new(alloc: Global, text: &str) -> Result<Pattern, PatternFault>
         ensures read { IfOk result (IsReadFrom text.now) }
         ensures refused { IfErr result (IsRefusal text.now) }
+        ensures limit { IfOk result (λ pattern. compiled_bytes pattern ≤ 10 * 2 ^ 20 + 24) }
     {
         if text.len() > MAX_BYTES {
             return Err(PatternFault::BadPattern);
@@ -70,11 +72,13 @@ impl Pattern {
 
     /// The spans of the leftmost match in `text`, with its groups, or `None` where nothing matches.
     /// The match is that of `find_str` of `regex`, and its groups are those of `group_of`. Each span
-    /// lies in `text` and can cut it. The list is all the memory that the call takes.
+    /// lies in `text` and can cut it. The list is all the memory that the call takes, so where nothing
+    /// matches it takes none.
     pub fn spans(&mut self, text: &str) -> Result<Option<Spans>, AllocError>
         ensures found { IfOk result (λ found. found
             ≡ option_map (spans_of (pattern_groups self.old)) (find_str (pattern_re self.old) text.now 0)) }
         ensures inside { IfOk result (λ found. IfSome found (AreSpansIn text.now)) }
+        ensures without_match { find_str (pattern_re self.old) text.now 0 ≡ None → IsOk result }
         ensures same { IsSamePattern self.old self.new }
     {
         match self.find(text, 0) {

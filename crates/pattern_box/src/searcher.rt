@@ -1,6 +1,7 @@
-ghost use Rattle.std.specs.Prelude.{◌≡◌, ◌-◌, ◌*◌, ◌≤◌, length, vec_len, option_map, IfOk, IfSome};
+ghost use Rattle.std.specs.Prelude.{◌≡◌, ◌+◌, ◌-◌, ◌*◌, ◌^◌, ◌≤◌, length, vec_len, option_map, IfOk, IfSome};
 ghost use Rattle.regex_hir.specs.Find.{find};
 ghost use Rattle.regex_hir.specs.Meaning.{meaning};
+ghost use Rattle.regex_nfa.specs.Sizes.{table_bytes};
 ghost use Rattle.regex_compile.specs.Implements.{Implements};
 ghost use Rattle.regex_tagged.specs.Valid.{IsFor};
 ghost use Rattle.regex_vm.specs.Found.{first_match, span, group_cells};
@@ -34,6 +35,8 @@ impl Searcher {
     pub(crate) fn new(alloc: Global, hir: Hir, groups: u32) -> Result<Searcher, Error>
         ensures hir { IfOk result (λ searcher. searcher.hir ≡ hir) }
         ensures slots { IfOk result (λ searcher. searcher.dfa.nfa.slot_count ≡ 2 * groups) }
+        // The two states with which each table begins are not counted.
+        ensures limit { IfOk result (λ searcher. table_bytes searcher.dfa.nfa ≤ 10 * 2 ^ 20 + 24) }
     {
         let nfa = regex_compile::compile(alloc, &hir, groups, SIZE_LIMIT)?;
         let dfa = Dfa::new(alloc, nfa)?;

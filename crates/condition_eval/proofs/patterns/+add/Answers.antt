@@ -1,6 +1,6 @@
 use Rattle.std.proofs.Common.{rules, ◌≡◌, ◌++◌}
 use Rattle.condition_eval.specs.Made.{texts}
-use Rattle.condition_eval.proofs.Making.{none_added, added_then, refused_then, joint_refused}
+use Rattle.condition_eval.proofs.Making.{none_added, added_then, refused_then, joint_refused, refused_alone}
 use Rattle.condition_eval.proofs.TextsOf as of
 use Rattle.condition_eval.proofs.patterns.+add.Goals as goal
 
@@ -39,9 +39,12 @@ returns-in-Ok-clause-made t c =
 pub returns-in-Ok-clause-refused : goal.returns-in-Ok-clause-refused
 returns-in-Ok-clause-refused t c =
     let e : texts c.args.condition.now ≡ texts c.get-in-And.result.now ++ texts c.get-in-Ok.result.now = search (of.texts_of, rules) in
-    refused_then c.add-in-Ok.result (texts c.get-in-And.result.now) (texts c.get-in-Ok.result.now) (texts c.args.condition.now) e c.add-in-Ok.ensures.refused
+    refused_then c.add-in-Ok.result (texts c.get-in-And.result.now) (texts c.get-in-Ok.result.now) (texts c.args.condition.now) c.args.patterns.now c.add-in-And.new.patterns e c.in-Ok.ensures.made c.add-in-Ok.ensures.refused
 
 pub returns-in-Err-clause-refused : goal.returns-in-Err-clause-refused
 returns-in-Err-clause-refused t c =
     let e : texts c.args.condition.now ≡ texts c.get-in-And.result.now ++ texts c.in-And.right = search (of.texts_of, rules) in
     joint_refused c.in-Err.fault (texts c.get-in-And.result.now) (texts c.in-And.right) (texts c.args.condition.now) e c.in-Err.ensures.refused
+
+pub returns-in-Matches-clause-refused : goal.returns-in-Matches-clause-refused
+returns-in-Matches-clause-refused t c = refused_alone c.add_one.result _ (texts c.args.condition.now) (search (of.texts_of, rules)) c.add_one.ensures.refused

@@ -1,6 +1,6 @@
 use Rattle.std.proofs.Common.{◌≡◌, ◌<◌, length, drop, arith, rules}
 use Rattle.condition_eval.specs.Made.{texts}
-use Rattle.condition_eval.proofs.Making.{begins_left, begins_next, past_next}
+use Rattle.condition_eval.proofs.Making.{none_left, none_right, begins_left, begins_next, past_next}
 use Rattle.condition_eval.proofs.Walking as walking
 use Rattle.config_grammar.specs.declared.tree.Condition.TheVariants as v
 use Rattle.condition_eval.proofs.walk.+walk.Goals as goal
@@ -75,3 +75,24 @@ pub walk-xor-requires : goal.walk-xor-requires
 walk-xor-requires t c =
     let is : c.args.condition.now ≡ v.Xor c.get-in-Xor.result.now c.get-in-Xor-2.result.now = search rules in
     (omega (arith, walking.falls-Xor c.args.condition.now c.get-in-Xor.result.now c.get-in-Xor-2.result.now is), walking.begins-Xor c.args.condition.now c.get-in-Xor.result.now c.get-in-Xor-2.result.now (drop c.args.at c.args.patterns.now) is c.requires)
+
+pub and-returns-in_err-truth-clause-without_patterns : goal.and-returns-in_err-truth-clause-without_patterns
+and-returns-in_err-truth-clause-without_patterns t c = λ none. absurd (search (c.in_err-truth.ensures.without_patterns (none_left (texts c.args.left.now) (texts c.args.right.now) none), rules))
+
+pub and-returns-in-Yes-clause-without_patterns : goal.and-returns-in-Yes-clause-without_patterns
+and-returns-in-Yes-clause-without_patterns t c = λ none. c.walk-in-Yes.ensures.without_patterns (none_right (texts c.args.left.now) (texts c.args.right.now) none)
+
+pub or-returns-in_err-truth-clause-without_patterns : goal.or-returns-in_err-truth-clause-without_patterns
+or-returns-in_err-truth-clause-without_patterns t c = λ none. absurd (search (c.in_err-truth.ensures.without_patterns (none_left (texts c.args.left.now) (texts c.args.right.now) none), rules))
+
+pub or-returns-in-No-clause-without_patterns : goal.or-returns-in-No-clause-without_patterns
+or-returns-in-No-clause-without_patterns t c = λ none. c.walk-in-No.ensures.without_patterns (none_right (texts c.args.left.now) (texts c.args.right.now) none)
+
+pub xor-returns-in_err-truth-clause-without_patterns : goal.xor-returns-in_err-truth-clause-without_patterns
+xor-returns-in_err-truth-clause-without_patterns t c = λ none. absurd (search (c.in_err-truth.ensures.without_patterns (none_left (texts c.args.left.now) (texts c.args.right.now) none), rules))
+
+pub xor-returns-in-No-clause-without_patterns : goal.xor-returns-in-No-clause-without_patterns
+xor-returns-in-No-clause-without_patterns t c = λ none. c.walk-in-No.ensures.without_patterns (none_right (texts c.args.left.now) (texts c.args.right.now) none)
+
+pub xor-returns-in_err-walk-in-Yes-clause-without_patterns : goal.xor-returns-in_err-walk-in-Yes-clause-without_patterns
+xor-returns-in_err-walk-in-Yes-clause-without_patterns t c = λ none. absurd (search (c.in_err-walk-in-Yes.ensures.without_patterns (none_right (texts c.args.left.now) (texts c.args.right.now) none), rules))
