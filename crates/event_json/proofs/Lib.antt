@@ -12,5 +12,7 @@ pub mod Loops
 pub mod Answered
 pub mod Runs
 pub mod WrittenStrings
+pub mod DecimalDigits
 pub mod WrittenNumbers
 pub mod WrittenValues
+pub mod NumberParts

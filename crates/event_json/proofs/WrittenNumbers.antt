@@ -13,53 +13,16 @@ use Rattle.json_grammar.specs.Grammar as g
 use Rattle.json_grammar.proofs.Tests.{bool_cases}
 use Rattle.json_grammar.specs.Numbers.{number_of}
 use Rattle.json_grammar.proofs.NumberLaws.{number_read_some}
+use Rattle.event_json.proofs.DecimalDigits.{Writes, decimal_writes, padded_writes, take_digits, drop_digits, length-padded}
 use Rattle.event_json.specs.Json.{zeros, padded, pointed, sign_of, number_text}
-
--- ---- digits
-
-all_digits : (xs ys : List ℕ) → AreDigits xs → AreDigits ys → AreDigits (xs ++ ys)
-all_digits [] ys h k = k
-all_digits (x ∷ xs) ys h k = (h.0, all_digits xs ys h.1 k)
-
-zeros_digits : (n : ℕ) → AreDigits (zeros n)
-zeros_digits zero = tt
-zeros_digits (suc n) = (refl, zeros_digits n)
-
-digit_byte : (d : ℕ) → d < 10 → is_digit (48 + d) ≡ true
-digit_byte d lt = grind (arith, nat_tests)
-
--- what decimal digits are, and the number that they write
-abbrev Writes : ℕ → List ℕ → Type 0
-Writes n ds = AreDigits ds × (number 0 ds ≡ n)
-
-one_digit : (n : ℕ) → n < 10 → Writes n ((48 + n) ∷ [])
-one_digit n lt = ((digit_byte n lt, tt), omega arith)
-
-next_digit : (n : ℕ) (ds : List ℕ) → 10 ≤ n → Writes (n / 10) ds → Writes n (ds ++ ((48 + n % 10) ∷ []))
-next_digit n ds le h =
-    let lt : n % 10 < 10 = omega arith in
-    (all_digits ds ((48 + n % 10) ∷ []) h.0 (digit_byte (n % 10) lt, tt), number-append 0 ds ((48 + n % 10) ∷ []) ∙ ap (λ x. 10 * x + (48 + n % 10 - 48)) h.1 ∙ omega arith)
-
-decimal_writes : (n : ℕ) → n < 2 ^ 64 → Writes n (decimal n)
-decimal_writes n lt = decimal_by_steps Writes one_digit next_digit n lt
-
-zeros_write : (k : ℕ) (ds : List ℕ) → number 0 (zeros k ++ ds) ≡ number 0 ds
-zeros_write zero ds = refl
-zeros_write (suc k) ds = zeros_write k ds
-
-padded_writes : (least n : ℕ) → n < 2 ^ 64 → Writes n (padded least n)
-padded_writes least n lt =
-    let w = decimal_writes n lt in
-    let k = least - length (decimal n) in
-    (all_digits (zeros k) (decimal n) (zeros_digits k) w.0, zeros_write k (decimal n) ∙ w.1)
 
 -- ---- scanning
 
-front_all : (ds : List ℕ) → AreDigits ds → digits_front ds ≡ ds
+pub front_all : (ds : List ℕ) → AreDigits ds → digits_front ds ≡ ds
 front_all [] h = refl
 front_all (d ∷ ds) h = rw h.0 (ap (λ ys. d ∷ ys) (front_all ds h.1))
 
-behind_all : (ds : List ℕ) → AreDigits ds → digits_behind ds ≡ []
+pub behind_all : (ds : List ℕ) → AreDigits ds → digits_behind ds ≡ []
 behind_all [] h = refl
 behind_all (d ∷ ds) h = rw h.0 (behind_all ds h.1)
 
@@ -72,16 +35,6 @@ behind_point [] more h = refl
 behind_point (d ∷ ds) more h = rw h.0 (behind_point ds more h.1)
 
 -- ---- the whole part and the decimals
-
-take_digits : (n : ℕ) (ds : List ℕ) → AreDigits ds → AreDigits (take n ds)
-take_digits zero ds h = tt
-take_digits (suc n) [] h = tt
-take_digits (suc n) (d ∷ ds) h = (h.0, take_digits n ds h.1)
-
-drop_digits : (n : ℕ) (ds : List ℕ) → AreDigits ds → AreDigits (drop n ds)
-drop_digits zero ds h = h
-drop_digits (suc n) [] h = tt
-drop_digits (suc n) (d ∷ ds) h = drop_digits n ds h.1
 
 -- no zero stands before another digit
 abbrev IsLed : List ℕ → Type 0
@@ -118,13 +71,6 @@ with_point neg w f a l b some = rw (front_point w f a, behind_point w f a, whole
 -- the whole part of padded digits
 led_few : (w : List ℕ) → length w ≡ 1 → IsLed w
 led_few w e = (omega arith, λ z. e)
-
-length-zeros : (n : ℕ) → length (zeros n) ≡ n
-length-zeros zero = refl
-length-zeros (suc n) = ap suc (length-zeros n)
-
-length-padded : (least n : ℕ) → length (padded least n) ≡ least - length (decimal n) + length (decimal n)
-length-padded least n = length-append (zeros (least - length (decimal n))) (decimal n) ∙ ap (λ k. k + length (decimal n)) (length-zeros (least - length (decimal n)))
 
 front_index : (n : ℕ) (ds : List ℕ) → 0 < n → slice_index (take n ds) 0 ≡ slice_index ds 0
 front_index zero ds h = absurd (omega arith)
@@ -239,7 +185,7 @@ number_text_of n least fits = number_read_some (number_text n) n least fits (num
 
 -- ---- in the grammar
 
-same_digits : (ds : List ℕ) → AreDigits ds → g.AreDigits ds
+pub same_digits : (ds : List ℕ) → AreDigits ds → g.AreDigits ds
 same_digits [] h = tt
 same_digits (d ∷ ds) h = (h.0, same_digits ds h.1)
 

@@ -4,3 +4,4 @@ pub mod Adds
 pub mod Stops
 pub mod Faults
 pub mod Timeless
+pub mod NumberGrammar

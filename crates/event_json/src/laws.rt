@@ -1,12 +1,22 @@
 //! What holds of JSON texts, as contracts of functions that do nothing.
-ghost use Rattle.std.specs.Prelude.{ℕ};
+ghost use Rattle.std.specs.Prelude.{◌↔◌, ℕ, List, Option};
+ghost use Rattle.event_tree.specs.Number.{Num};
+ghost use Rattle.event_tree.specs.NumberTexts.{NumberReads};
 ghost use Rattle.event_tree.specs.declared.value.Value.{Value};
 ghost use Rattle.json_grammar.specs.Json.{JsonWithin};
 ghost use Rattle.event_json.specs.Json.{json};
+ghost use Rattle.event_json.specs.NumberGrammar.{IsNumberText};
 ghost use Rattle.event_json.specs.Timeless.{IsTimeless};
 
 /// What `write_json` writes of a value without times is a JSON text of that value, of as many levels as
 /// the value has. With at most 100 of them `read_json` therefore reads it as the same value.
 pub fn what_is_written_reads_back()
     ensures { (levels : ℕ) (value : Value) → IsTimeless levels value → JsonWithin levels (json value) value }
+{}
+
+/// What `Number::read` answers is what the grammar of JSON says (RFC 8259, section 6): the number of 64
+/// bits in least form that has the value of the text, if the text is one of the grammar and there is such
+/// a number, and none otherwise.
+pub fn numbers_are_those_of_the_grammar()
+    ensures { (read : Option Num) (text : List ℕ) → NumberReads read text ↔ IsNumberText read text }
 {}

@@ -8,3 +8,8 @@ pub mod Scans
 pub mod LawLemmas
 pub mod PathFaults
 pub mod Wholes
+pub mod Levels
+pub mod ItemPlaces
+pub mod PutGets
+pub mod TakeGets
+pub mod EventGets

@@ -2,3 +2,4 @@ pub mod PathReading
 pub mod DateFormats
 pub mod Shown
 pub mod Template
+pub mod PathLaws

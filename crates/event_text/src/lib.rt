@@ -4,6 +4,7 @@
 
 mod date_format;
 pub mod laws;
+pub mod path_laws;
 mod shown;
 mod template;
 
