@@ -97,21 +97,6 @@ place_on end ls i left d l h =
     ap (λ z. place_in end z left) (drop_more ls i d l) ∙ ap (λ b. if b then (get_or ls i d).place else place_in end (drop (i + 1) ls) left) (unequal_is (length (get_or ls i d ∷ drop (i + 1) ls)) left (λ e. h (sym n ∙ e)))
 
 -- levels
-pub settled_stops : (l : Open) → is_denial l ≡ false → l ≡ settled l
-settled_stops [] h = refl
-settled_stops (Bracket ∷ l) h = refl
-settled_stops (Denial ∷ l) h = absurd (cc)
-
-pub settled_goes : (l : Open) → is_denial l ≡ true → settled (remove l 0) ≡ settled l
-settled_goes [] h = absurd (cc)
-settled_goes (Bracket ∷ l) h = absurd (cc)
-settled_goes (Denial ∷ l) h = refl
-
-pub denial_some : (l : Open) → is_denial l ≡ true → 0 < length l
-denial_some [] h = absurd (cc)
-denial_some (Bracket ∷ l) h = absurd (cc)
-denial_some (Denial ∷ l) h = omega arith
-
 pub closed_is : (l : Open) → closed l ≡ closed (settled l)
 closed_is [] = refl
 closed_is (Bracket ∷ l) = refl

@@ -23,15 +23,6 @@ pub run_ends : (t : ℕ → Bool) (s : List ℕ) (i : ℕ) → length s ≤ i �
 unfolding run
 run_ends t s i l = ap (run t) (drop_all s i l)
 
-run_within_step : (b : Bool) (n m : ℕ) → n ≤ m → (if b then suc n else 0) ≤ suc m
-run_within_step true n m h = omega arith
-run_within_step false n m h = omega arith
-
-pub run_within : (t : ℕ → Bool) (s : List ℕ) → run t s ≤ length s
-unfolding run
-run_within t [] = omega arith
-run_within t (b ∷ s) = run_within_step (t b) (run t s) (length s) (run_within t s)
-
 -- blanks and comments
 pub skip_ends : (inside : Bool) (s : List ℕ) (i : ℕ) → length s ≤ i → skip inside (drop i s) ≡ 0
 unfolding skip
@@ -124,9 +115,6 @@ part_more s from at h l r =
 pub begins_at : (c : ℕ) (s : List ℕ) (i : ℕ) → i < length s → begins c (drop i s) ≡ (get_or s i 0 == c)
 begins_at c s i l = ap (begins c) (drop_more s i 0 l)
 
-pub begins_digit_at : (s : List ℕ) (i : ℕ) → i < length s → begins_digit (drop i s) ≡ is_digit (get_or s i 0)
-begins_digit_at s i l = ap begins_digit (drop_more s i 0 l)
-
 pub digit_ascii : (b : ℕ) → is_digit b ≡ true → b < 128
 digit_ascii b h = grind (arith, nat_tests)
 
@@ -188,6 +176,3 @@ unsigned s h = ap (λ x. begins_digit (drop (if x then 1 else 0) s)) h
 
 pub with_sign : (s : List ℕ) → begins 45 s ≡ true → begins_number s ≡ begins_digit (drop 1 s)
 with_sign s h = ap (λ x. begins_digit (drop (if x then 1 else 0) s)) h
-
-pub drop_past : (s : List ℕ) (i j : ℕ) → length s ≤ i → length s ≤ j → drop i s ≡ drop j s
-drop_past s i j a b = drop_all s i a ∙ sym (drop_all s j b)

@@ -13,7 +13,8 @@ pub(crate) fn is_blank(byte: u8) -> bool
     byte == 32 || byte == 9 || byte == 13 || byte == 10
 }
 
-pub(crate) fn is_letter(byte: u8) -> bool
+/// Whether a byte is a letter of ASCII or `_`, with which words begin.
+pub fn is_letter(byte: u8) -> bool
     ensures { result ≡ spec.is_letter byte }
 {
     (97 <= byte && byte <= 122) || (65 <= byte && byte <= 90) || byte == 95
@@ -25,7 +26,8 @@ pub(crate) fn is_digit(byte: u8) -> bool
     48 <= byte && byte <= 57
 }
 
-fn is_in_word(dashes: bool, byte: u8) -> bool
+/// Whether a word goes on with a byte: a letter, a digit, or a `-` where dashes may stand.
+pub fn is_in_word(dashes: bool, byte: u8) -> bool
     ensures { result ≡ spec.is_in_word dashes byte }
 {
     is_letter(byte) || is_digit(byte) || (dashes && byte == 45)

@@ -12,6 +12,7 @@ mod readers;
 mod token;
 mod tree;
 
+pub use bytes::{is_in_word, is_letter};
 pub use fault::{FromFault, SettingFault};
 pub use level::Opener;
 pub use lexer::lexemes;

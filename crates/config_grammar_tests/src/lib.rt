@@ -11,4 +11,6 @@ pub use texts::{derivations, examples};
 #[cfg(test)]
 mod reader_tests;
 #[cfg(test)]
+mod tables;
+#[cfg(test)]
 mod tests;

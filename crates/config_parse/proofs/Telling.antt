@@ -18,15 +18,6 @@ use Rattle.config_parse.specs.Told.{ToldLeft, Told, placed}
 use Rattle.config_parse.specs.declared.fault.ConfigFault.{ConfigFault}
 use Rattle.config_parse.specs.declared.fault.ConfigFault.TheVariants as fault
 
-pub told_ok : (levels : ℕ) (ts rest : List Token) (c : Config) → made levels ts ≡ whole (config levels ts) → (made levels ts ≡ Ok c → ReadsConfig levels ts c) → config levels ts ≡ Ok (c, rest) → ReadsConfig levels ts c
-told_ok levels ts rest c law right h = right (law ∙ ap whole h)
-
-pub told_err : (levels : ℕ) (ts : List Token) (e : ReadError) → made levels ts ≡ whole (config levels ts) → ((left : ℕ) → made levels ts ≡ Err (is.Syntax left) → IsSyntax levels ts left)
-    → ((left : ℕ) → made levels ts ≡ Err (is.Deep left) → IsDeep levels ts left) → Fails e (config levels ts) → ToldLeft levels ts (Err e)
-told_err levels ts errors.Memory law syntax deep h = tt
-told_err levels ts (errors.Syntax left) law syntax deep h = syntax left (law ∙ ap whole h)
-told_err levels ts (errors.Deep left) law syntax deep h = deep left (law ∙ ap whole h)
-
 -- what the tokens of a text tell of the text
 seen_is : (text : List ℕ) → seen (lexemes text) ≡ tokens text
 unfolding seen

@@ -77,6 +77,8 @@ fn parse_text(alloc: Global, text: &str) -> Result<Config, ConfigFault>
 /// It takes time in proportion to the length of the text and, for each hash and each plugin, to the square of the
 /// number of its keys or settings; and memory for the tokens and the tree.
 pub fn parse(alloc: Global, text: &str) -> Result<Config, ConfigFault>
+    // The limits are these numbers.
+    ensures limits { (LENGTH ≡ 1048576) × (LEVELS ≡ 64) }
     // What is given, the text reads as, within the limits.
     ensures found { IfOk result (λ config. (length text.now ≤ LENGTH) × Reads LEVELS text.now config) }
     // A text that reads is given as what it reads as, unless memory runs out.

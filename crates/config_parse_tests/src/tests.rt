@@ -4,7 +4,8 @@ use crate::tables::{
     BRANCH_FAULTS, BRANCHES, LEVELS, NAMES, Row, SECTION_FAULTS, SECTIONS, SETTING_FAULTS, TWICE,
     VALUES,
 };
-use std::alloc::Global;
+use config_parse::ConfigFault;
+use std::alloc::{AllocError, Global};
 use std::process::Abort;
 use std::test::Fail;
 
@@ -53,5 +54,25 @@ fn a_text_has_at_most_a_megabyte(rt: HostRuntime) -> Result<(), Fail> {
 fn a_configuration_as_operators_write_them(rt: HostRuntime) -> Result<(), Fail> {
     let found = outcome(rt.alloc(), TEXT)?;
     assert_eq!(rt; found.as_str(), TREE);
+    Ok(())
+}
+
+fn is_told(alloc: Global, fault: ConfigFault, want: &str) -> Result<bool, AllocError> {
+    Ok(format!(in alloc; "{fault}")?.as_str() == want)
+}
+
+/// Whether each fault has its text.
+fn are_told(alloc: Global) -> Result<bool, AllocError> {
+    Ok(
+        is_told(alloc, ConfigFault::Long, "longer than 1048576 bytes")?
+            && is_told(alloc, ConfigFault::Syntax(7), "a syntax fault at 7")?
+            && is_told(alloc, ConfigFault::Deep(80), "nested too deeply at 80")?
+            && is_told(alloc, ConfigFault::Memory, "out of memory")?,
+    )
+}
+
+#[test]
+fn faults_have_their_texts(rt: HostRuntime) -> Result<(), Fail> {
+    assert!(rt; are_told(rt.alloc())?);
     Ok(())
 }

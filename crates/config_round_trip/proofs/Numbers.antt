@@ -28,18 +28,15 @@ IsHeld n = IsLeast n.mantissa n.scale × IsI64 n.mantissa
 tenth_held : (z : ℤ) → IsI64 z → IsI64 (int_div z (pos 10))
 tenth_held z h = (omega (arith, ints, h.0, h.1), omega (arith, ints, h.0, h.1))
 
+some_same : (a b : Num) → Some a ≡ Some b → a ≡ b
+some_same a b e = cc
+
 pub least_held : (z : ℤ) (s : ℕ) (n : Num) → IsI64 z → least z s ≡ Some n → IsHeld n
 least_held z zero n h e =
     let same : record { mantissa = z; scale = 0 } ≡ n = some_same (record { mantissa = z; scale = 0 }) n e in
     subst IsHeld same (record { few = omega arith; trimmed = inl refl }, h)
-  where
-    some_same : (a b : Num) → Some a ≡ Some b → a ≡ b
-    some_same a b e = cc
 least_held z (suc s) n h e = at (int_eq (int_rem z (pos 10)) (pos 0)) refl e (λ u. least_held (int_div z (pos 10)) s n (tenth_held z h) u)
   where
-    some_same : (a b : Num) → Some a ≡ Some b → a ≡ b
-    some_same a b e = cc
-
     few : (y : Bool) → nat_le (suc s) 18 ≡ y → int_eq (int_rem z (pos 10)) (pos 0) ≡ false → (if y then Some (record { mantissa = z; scale = suc s }) else None) ≡ Some n → IsHeld n
     few true l u k =
         let le : suc s ≤ 18 = grind (arith, nat_tests) in

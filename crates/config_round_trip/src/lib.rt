@@ -6,6 +6,3 @@ mod laws;
 
 pub use again::print_and_parse;
 pub use laws::printed_text_reads;
-
-#[cfg(test)]
-mod tests;

@@ -6,23 +6,12 @@ ghost use Rattle.config_grammar.specs.Bytes as bytes;
 ghost use Rattle.event_json.specs.Json.{number_text};
 ghost use Rattle.config_text.specs.Tokens as spec;
 
+use config_grammar::{is_in_word, is_letter};
 use event_json::write_json;
 use event_tree::{Number, Path, Value};
 use plain_lists::Text;
 use std::alloc::AllocError;
 use std::mem;
-
-fn is_letter(byte: u8) -> bool
-    ensures { result ≡ bytes.is_letter byte }
-{
-    (97 <= byte && byte <= 122) || (65 <= byte && byte <= 90) || byte == 95
-}
-
-fn is_in_word(dashes: bool, byte: u8) -> bool
-    ensures { result ≡ bytes.is_in_word dashes byte }
-{
-    is_letter(byte) || (48 <= byte && byte <= 57) || (dashes && byte == 45)
-}
 
 fn are_in_word(dashes: bool, text: &[u8]) -> bool
     ensures { result ≡ list_all (bytes.is_in_word dashes) text.now }
