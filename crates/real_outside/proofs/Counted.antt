@@ -1,5 +1,5 @@
 -- The counts of connections after a call.
-use Rattle.std.proofs.Common.{◌≡◌, suc, ◌≢◌, ◌⊎◌, ◌≤◌, ◌<◌, ◌+◌, ◌-◌, ◌^◌, ℕ, List, [], ◌∷◌, ◌++◌, Bool, true, false, Some, None, Result, Ok, Err, inl, inr, map, set, get_or, refl, sym, ap, subst, ◌∙◌, arith}
+use Rattle.std.proofs.Common.{◌≡◌, suc, ◌≢◌, ◌⊎◌, ◌≤◌, ◌<◌, ◌+◌, ◌-◌, ◌^◌, ℕ, List, [], ◌∷◌, ◌++◌, Bool, true, false, Some, None, Result, Ok, Err, inl, inr, map, set, get_or, refl, sym, ap, subst, ◌∙◌, rules, arith}
 use Rattle.std.specs.Prelude.{IsErr, is_some, filter, not, nat_eq, nat_lt, if◌then◌else◌}
 use Rattle.std.proofs.lemmas.Bool.{cases_lt, ltb-false}
 use Rattle.std.proofs.lemmas.Option.{none-some}
@@ -94,16 +94,16 @@ rises n fits = by_order (cases_lt n (2 ^ 64 - 1))
     by_order (inr most) = inr (omega arith)
 
 pub faults_cause : (c : ReadCounts) (result : Result Step Failed) → c.faults ≤ 2 ^ 64 - 1 → HasCause c.faults (counts_after c result).faults (IsErr result)
-faults_cause c (Ok (Bytes n)) fits = record { later = omega arith; rose = λ e. cc }
-faults_cause c (Ok NotYet) fits = record { later = omega arith; rose = λ e. cc }
-faults_cause c (Ok AtEnd) fits = record { later = omega arith; rose = λ e. cc }
-faults_cause c (Err e) fits = record { later = omega arith; rose = λ e. rises _ fits }
+faults_cause c (Ok (Bytes n)) fits = record { later = omega arith; rose = λ e. cc; same = λ none. refl }
+faults_cause c (Ok NotYet) fits = record { later = omega arith; rose = λ e. cc; same = λ none. refl }
+faults_cause c (Ok AtEnd) fits = record { later = omega arith; rose = λ e. cc; same = λ none. refl }
+faults_cause c (Err e) fits = record { later = omega arith; rose = λ e. rises _ fits; same = λ none. absurd (none (search rules)) }
 
 pub waits_cause : (c : ReadCounts) (result : Result Step Failed) → c.waits ≤ 2 ^ 64 - 1 → HasCause c.waits (counts_after c result).waits (result ≡ Ok NotYet)
-waits_cause c (Ok (Bytes n)) fits = record { later = omega arith; rose = λ e. cc }
-waits_cause c (Ok NotYet) fits = record { later = omega arith; rose = λ e. rises _ fits }
-waits_cause c (Ok AtEnd) fits = record { later = omega arith; rose = λ e. cc }
-waits_cause c (Err e) fits = record { later = omega arith; rose = λ e. cc }
+waits_cause c (Ok (Bytes n)) fits = record { later = omega arith; rose = λ e. cc; same = λ none. refl }
+waits_cause c (Ok NotYet) fits = record { later = omega arith; rose = λ e. rises _ fits; same = λ none. absurd (none refl) }
+waits_cause c (Ok AtEnd) fits = record { later = omega arith; rose = λ e. cc; same = λ none. refl }
+waits_cause c (Err e) fits = record { later = omega arith; rose = λ e. cc; same = λ none. refl }
 
 -- a test of the members is one of what stands for them
 pub filter_through : {X Y : Type 0} (f : X → Y) (p : X → Bool) (q : Y → Bool) → ((x : X) → p x ≡ q (f x)) → (xs : List X) → map f (filter p xs) ≡ filter q (map f xs)
