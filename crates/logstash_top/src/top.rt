@@ -22,8 +22,8 @@ use std::sync::Wait;
 ///
 /// Each event's row is written before the next one is made. The rows of what one read brought are
 /// flushed before the next read, and all rows are flushed before the call returns, unless a fault of
-/// stdout was counted in it. The line of the status goes to stderr, and a fault there changes
-/// nothing. Where stdin has nothing yet, the clock is paused before the next read. No clause says what
+/// stdout was counted in it. The line of the status goes to stderr and is flushed there, unless a fault
+/// of stderr was counted; such a fault changes nothing else. Where stdin has nothing yet, the clock is paused before the next read. No clause says what
 /// happens between two reads: the flush and the pause there, and that each row is written before the next.
 ///
 /// - `Status::BadWords` comes exactly where the words are not `-e` and one text.
@@ -60,6 +60,8 @@ pub fn logstash<R: Wait, I: Source, O: Sink, K: Clock>(
     ensures line { GrowsInPart (O.taken world.old.stderr) (O.taken world.new.stderr) (line_of result) }
     ensures told { Rose (O.faults world.old.stderr) (O.faults world.new.stderr)
         ⊎ Grows (O.taken world.old.stderr) (O.taken world.new.stderr) (line_of result) }
+    ensures told_flushed { Rose (O.faults world.old.stderr) (O.faults world.new.stderr)
+        ⊎ IsFlushed (O.taken world.new.stderr) (O.flushed world.new.stderr) }
 {
     let status = outcome(rt, alloc, words, world);
     let _ = tell(&status, &mut world.stderr);
@@ -133,6 +135,7 @@ fn fault_status(alloc: Global, stop: Stop) -> Result<Status, AllocError>
 fn tell<O: Sink>(status: &Status, stderr: &mut O) -> Result<(), Failed>
     ensures ok { OnOk result (Grows (O.taken stderr.old) (O.taken stderr.new) (line_of status.now)) }
     ensures part { GrowsInPart (O.taken stderr.old) (O.taken stderr.new) (line_of status.now) }
+    ensures flushed { OnOk result (IsFlushed (O.taken stderr.new) (O.flushed stderr.new)) }
     ensures cause { HasCause (O.faults stderr.old) (O.faults stderr.new) (IsErr result) }
 {
     write_line(status, stderr)?;
