@@ -1,14 +1,15 @@
 -- The counts of an object's faults and of its waits, which are numbers of 64 bits.
-use Rattle.std.specs.Prelude.{◌≤◌, ◌<◌, ◌+◌, ◌-◌, ◌^◌, ◌⊎◌, ℕ, min}
+use Rattle.std.specs.Prelude.{◌≡◌, ◌≤◌, ◌<◌, ◌+◌, ◌-◌, ◌^◌, ◌⊎◌, ℕ, min}
 
 -- a count rose, or it stands at the last number of 64 bits
 abbrev pub Rose : ℕ → ℕ → Type 0
 Rose before now = (before < now) ⊎ (2 ^ 64 - 1 ≤ now)
 
--- a count never falls, and it rose where there was a fault
+-- a count never falls; it rose where there was a fault, and stands as it was where there was none
 pub record HasCause (before now : ℕ) (fault : Type 0) : Type 0 where
   pub later : before ≤ now
   pub rose : fault → Rose before now
+  pub same : (fault → ⊥) → now ≡ before
 
 -- one more, up to the last number of 64 bits
 abbrev pub one_more : ℕ → ℕ

@@ -16,5 +16,5 @@ loop-rest-preserved g c =
       whole = i.whole ∙ split_more i.done rest c.in_ok-count.count;
       grows = grows_then i.grows c.in_ok-count.ensures.taken;
       kept = omega (arith, i.kept, c.in_ok-count.ensures.kept);
-      later = omega (arith, i.later, c.in_ok-count.ensures.cause.later);
+      same = c.in_ok-count.ensures.cause.same (λ e. cc) ∙ i.same;
     }

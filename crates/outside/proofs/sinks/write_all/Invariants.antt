@@ -8,7 +8,7 @@ invariant-loop-rest g l = record {
   whole : l.bytes ≡ done ++ l.rest;
   grows : Grows (g.O.Sink.taken l.fn.sink) (g.O.Sink.taken l.sink) done;
   kept : g.O.Sink.flushed l.fn.sink ≤ g.O.Sink.flushed l.sink;
-  later : g.O.Sink.faults l.fn.sink ≤ g.O.Sink.faults l.sink;
+  same : g.O.Sink.faults l.sink ≡ g.O.Sink.faults l.fn.sink;
 }
 
 abbrev pub decreases-loop-rest : goal.decreases-loop-rest
