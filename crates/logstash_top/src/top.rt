@@ -23,8 +23,9 @@ use std::sync::Wait;
 /// Each event's row is written before the next one is made. The rows of what one read brought are
 /// flushed before the next read, and all rows are flushed before the call returns, unless a fault of
 /// stdout was counted in it. The line of the status goes to stderr and is flushed there, unless a fault
-/// of stderr was counted; such a fault changes nothing else. Where stdin has nothing yet, the clock is paused before the next read. No clause says what
-/// happens between two reads: the flush and the pause there, and that each row is written before the next.
+/// of stderr was counted; such a fault changes nothing else. Where stdin has nothing yet, the clock is
+/// paused before the next read. No clause says what happens between two reads: the flush and the pause
+/// there, and that each row is written before the next.
 ///
 /// - `Status::BadWords` comes exactly where the words are not `-e` and one text.
 /// - `Status::BadConfig` comes exactly where that text is refused, with the reason: it is longer than
