@@ -4,6 +4,7 @@ ghost use Rattle.outside.specs.Counts.{HasCause, Rose};
 ghost use Rattle.outside.specs.Telling.{Grows, GrowsInPart, IsFlushed};
 ghost use Rattle.logstash_top.specs.Rows.{rows_at};
 ghost use Rattle.logstash_top.specs.Runs.{Ran};
+ghost use Rattle.logstash_top.specs.Status.{FaultTold};
 
 use crate::rows::write_lines;
 use crate::stop::Stop;
@@ -28,7 +29,7 @@ pub(crate) fn run<R: Wait, I: Source, O: Sink, K: Clock>(
     ensures ran { Ran I.Source O.Sink K.Clock world.old world.new (IsOk result) }
     ensures flushed { Rose (O.faults world.old.stdout) (O.faults world.new.stdout) ⊎ IsFlushed (O.taken world.new.stdout) (O.flushed world.new.stdout) }
     ensures done_flushed { OnOk result (IsFlushed (O.taken world.new.stdout) (O.flushed world.new.stdout)) }
-    ensures read_cause { HasCause (I.faults world.old.stdin) (I.faults world.new.stdin) (result ≡ Err Stop.Input) }
+    ensures read_cause { FaultTold (I.faults world.old.stdin) (I.faults world.new.stdin) (result ≡ Err Stop.Input) (result ≡ Err Stop.Output) }
     ensures write_cause { HasCause (O.faults world.old.stdout) (O.faults world.new.stdout) (result ≡ Err Stop.Output) }
     ensures stderr { world.new.stderr ≡ world.old.stderr }
 {

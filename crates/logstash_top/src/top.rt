@@ -1,7 +1,7 @@
 ghost use Rattle.std.specs.Prelude.{◌≡◌, ◌≤◌, ◌⊎◌, IsErr, IfOk, OnOk, map, string_bytes};
 ghost use Rattle.outside.specs.Counts.{HasCause, Rose};
 ghost use Rattle.outside.specs.Telling.{Grows, GrowsInPart, IsFlushed};
-ghost use Rattle.logstash_top.specs.Status.{Answers, Completes, IsRefused, input_fault, output_fault, status_of, status_of_refusal, config_line, placed_line, line_of};
+ghost use Rattle.logstash_top.specs.Status.{Answers, Completes, FaultTold, IsRefused, input_fault, output_fault, status_of, status_of_refusal, config_line, placed_line, line_of};
 ghost use Rattle.logstash_top.specs.Runs.{Ran, IsUntouched};
 
 use crate::config::{Refusal, check};
@@ -22,9 +22,10 @@ use std::sync::Wait;
 ///
 /// Each event's row is written before the next one is made. The rows of what one read brought are
 /// flushed before the next read, and all rows are flushed before the call returns, unless a fault of
-/// stdout was counted in it. The line of the status goes to stderr, and a fault there changes
-/// nothing. Where stdin has nothing yet, the clock is paused before the next read. No clause says what
-/// happens between two reads: the flush and the pause there, and that each row is written before the next.
+/// stdout was counted in it. The line of the status goes to stderr and is flushed there, unless a fault
+/// of stderr was counted; such a fault changes nothing else. Where stdin has nothing yet, the clock is
+/// paused before the next read. No clause says what happens between two reads: the flush and the pause
+/// there, and that each row is written before the next.
 ///
 /// - `Status::BadWords` comes exactly where the words are not `-e` and one text.
 /// - `Status::BadConfig` comes exactly where that text is refused, with the reason: it is longer than
@@ -32,7 +33,9 @@ use std::sync::Wait;
 ///   the place opens level 65, or it is a configuration that isn't built; unless memory ran out.
 ///   At these two nothing was read and nothing written to stdout.
 /// - `Status::InputFault` and `Status::OutputFault` come only where the count of stdin's, or of
-///   stdout's, faults rose in this call, or stands at the last value of u64.
+///   stdout's, faults rose in this call, or stands at the last value of u64. At another status no fault
+///   was counted: but for a fault of stdin where the last flush of stdout failed too, which ends in
+///   `OutputFault`, and for any fault where memory for its status ran out.
 /// - `Status::NoMemory` may come anywhere. At each status stdout holds what stood there and then
 ///   rows of the events of stdin's lines, from the first on.
 pub fn logstash<R: Wait, I: Source, O: Sink, K: Clock>(
@@ -51,8 +54,8 @@ pub fn logstash<R: Wait, I: Source, O: Sink, K: Clock>(
     ensures done_flushed { result ≡ Status.Done → IsFlushed (O.taken world.new.stdout) (O.flushed world.new.stdout) }
 
     // When a fault comes.
-    ensures input_fault { HasCause (I.faults world.old.stdin) (I.faults world.new.stdin) (result ≡ input_fault) }
-    ensures output_fault { HasCause (O.faults world.old.stdout) (O.faults world.new.stdout) (result ≡ output_fault) }
+    ensures input_fault { FaultTold (I.faults world.old.stdin) (I.faults world.new.stdin) (result ≡ input_fault) ((result ≡ output_fault) ⊎ (result ≡ Status.NoMemory)) }
+    ensures output_fault { FaultTold (O.faults world.old.stdout) (O.faults world.new.stdout) (result ≡ output_fault) (result ≡ Status.NoMemory) }
     ensures complete { ¬ (Rose (I.faults world.old.stdin) (I.faults world.new.stdin)) → ¬ (Rose (O.faults world.old.stdout) (O.faults world.new.stdout))
         → Completes (map string_bytes words.now) result }
 
@@ -60,6 +63,8 @@ pub fn logstash<R: Wait, I: Source, O: Sink, K: Clock>(
     ensures line { GrowsInPart (O.taken world.old.stderr) (O.taken world.new.stderr) (line_of result) }
     ensures told { Rose (O.faults world.old.stderr) (O.faults world.new.stderr)
         ⊎ Grows (O.taken world.old.stderr) (O.taken world.new.stderr) (line_of result) }
+    ensures told_flushed { Rose (O.faults world.old.stderr) (O.faults world.new.stderr)
+        ⊎ IsFlushed (O.taken world.new.stderr) (O.flushed world.new.stderr) }
 {
     let status = outcome(rt, alloc, words, world);
     let _ = tell(&status, &mut world.stderr);
@@ -79,8 +84,8 @@ fn outcome<R: Wait, I: Source, O: Sink, K: Clock>(
     ensures flushed { Rose (O.faults world.old.stdout) (O.faults world.new.stdout)
         ⊎ IsFlushed (O.taken world.new.stdout) (O.flushed world.new.stdout) ⊎ (world.new.stdout ≡ world.old.stdout) }
     ensures done_flushed { result ≡ Status.Done → IsFlushed (O.taken world.new.stdout) (O.flushed world.new.stdout) }
-    ensures input_fault { HasCause (I.faults world.old.stdin) (I.faults world.new.stdin) (result ≡ input_fault) }
-    ensures output_fault { HasCause (O.faults world.old.stdout) (O.faults world.new.stdout) (result ≡ output_fault) }
+    ensures input_fault { FaultTold (I.faults world.old.stdin) (I.faults world.new.stdin) (result ≡ input_fault) ((result ≡ output_fault) ⊎ (result ≡ Status.NoMemory)) }
+    ensures output_fault { FaultTold (O.faults world.old.stdout) (O.faults world.new.stdout) (result ≡ output_fault) (result ≡ Status.NoMemory) }
     ensures stderr { world.new.stderr ≡ world.old.stderr }
 {
     let Some(text) = config_text(words) else {
@@ -133,6 +138,7 @@ fn fault_status(alloc: Global, stop: Stop) -> Result<Status, AllocError>
 fn tell<O: Sink>(status: &Status, stderr: &mut O) -> Result<(), Failed>
     ensures ok { OnOk result (Grows (O.taken stderr.old) (O.taken stderr.new) (line_of status.now)) }
     ensures part { GrowsInPart (O.taken stderr.old) (O.taken stderr.new) (line_of status.now) }
+    ensures flushed { OnOk result (IsFlushed (O.taken stderr.new) (O.flushed stderr.new)) }
     ensures cause { HasCause (O.faults stderr.old) (O.faults stderr.new) (IsErr result) }
 {
     write_line(status, stderr)?;

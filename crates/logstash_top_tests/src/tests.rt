@@ -2,10 +2,9 @@ use crate::poll_of;
 use in_lines::{Poll, events_of_polls, write_row};
 use logstash_top::{Status, ThinWorld, logstash};
 use std::alloc::{AllocError, Global};
-use std::process::Abort;
 use std::sync::Wait;
 use std::test::Fail;
-use store_disk::{Gave, Instant, ListClock, MemorySink, MemorySource, Script};
+use store_disk::{Clock, Gave, Instant, ListClock, MemorySink, MemorySource, Script};
 
 type World = ThinWorld<MemorySource, MemorySink, ListClock>;
 
@@ -75,6 +74,40 @@ fn run<R: Wait>(
     Ok((status, world))
 }
 
+// What a run is to leave: its status, all that stands on stdout, flushed, and all that stands on stderr.
+#[derive(Clone, Copy)]
+struct Wanted<'a> {
+    number: u8,
+    stdout: &'a [u8],
+    stderr: &'a [u8],
+}
+
+impl<'a> Wanted<'a> {
+    fn done(stdout: &'a [u8]) -> Wanted<'a> {
+        Wanted {
+            number: 0,
+            stdout,
+            stderr: b"",
+        }
+    }
+}
+
+fn ends_as<R: Wait>(
+    rt: &R,
+    alloc: Global,
+    words: &[&str],
+    case: &Case<'_>,
+    wanted: &Wanted<'_>,
+) -> Result<bool, Fail> {
+    let (status, world) = run(rt, alloc, words, case)?;
+    Ok(
+        status.number() == wanted.number
+            && world.stdout.taken() == wanted.stdout
+            && world.stdout.flushed() == wanted.stdout.len()
+            && world.stderr.taken() == wanted.stderr,
+    )
+}
+
 // The rows of events at 2024-01-01T00:00:00Z, whose messages are given as they stand in JSON text.
 fn rows(alloc: Global, messages: &[&[u8]]) -> Result<Vec<u8>, AllocError> {
     let mut rows = Vec::new(alloc);
@@ -90,29 +123,39 @@ fn rows(alloc: Global, messages: &[&[u8]]) -> Result<Vec<u8>, AllocError> {
     Ok(rows)
 }
 
+// Texts that say the same.
+const TEXTS: [&str; 6] = [
+    BUILT,
+    "input { stdin {} } output { stdout {} }",
+    "input{stdin{}}output{stdout{codec=>json_lines}}",
+    "\tinput\r\n{ stdin\n{\t}\n}\n\noutput { stdout { codec\n=>\tjson_lines } }\n",
+    "# lines\ninput { \"stdin\" {} } output { 'stdout' { \"codec\" => 'json_lines' } } # to the end",
+    "output { stdout { codec => line codec => json_lines } } filter { } input { } input { stdin {} }",
+];
+
+#[test]
+fn each_text_that_says_the_same_runs(rt: HostRuntime) -> Result<(), Fail> {
+    for text in TEXTS {
+        assert!(rt; says_the_same(&rt, rt.alloc(), text)?, "{text}");
+    }
+    Ok(())
+}
+
+// One row comes, by a write and a flush for the one read, and the flush at the end.
+fn says_the_same<R: Wait>(rt: &R, alloc: Global, text: &str) -> Result<bool, Fail> {
+    let row =
+        "{\"@timestamp\":\"2024-01-01T00:00:00.000Z\",\"@version\":\"1\",\"event\":{\"original\":\"hello\"},\"message\":\"hello\"}\n";
+    let (status, world) = run(rt, alloc, &["-e", text], &Case::of(b"hello\n"))?;
+    Ok(
+        status.number() == 0
+            && world.stdout.taken() == row.as_bytes()
+            && world.stdout.script().made() == 3
+            && world.stderr.taken().is_empty(),
+    )
+}
+
 #[test]
 fn each_line_gives_a_row(rt: HostRuntime) -> Result<(), Fail> {
-    let row =
-        r#"{"@timestamp":"2024-01-01T00:00:00.000Z","@version":"1","event":{"original":"hello"},"message":"hello"}"#;
-    for text in [
-        BUILT,
-        "input { stdin {} } output { stdout {} }",
-        "input{stdin{}}output{stdout{codec=>json_lines}}",
-        "\tinput\r\n{ stdin\n{\t}\n}\n\noutput { stdout { codec\n=>\tjson_lines } }\n",
-        "# lines\ninput { \"stdin\" {} } output { 'stdout' { \"codec\" => 'json_lines' } } # to the end",
-        "output { stdout { codec => line codec => json_lines } } filter { } input { } input { stdin {} }",
-    ] {
-        let (status, world) = run(&rt, rt.alloc(), &["-e", text], &Case::of(b"hello\n"))?;
-        assert_eq!(rt; status.number(), 0, "{text}");
-        assert_eq!(rt;
-            world.stdout.taken(),
-            format!(in rt.alloc(); "{row}\n")?.as_bytes()
-        );
-        // a write and a flush for the one read, and the flush at the end
-        assert_eq!(rt; world.stdout.script().made(), 3);
-        assert!(rt; world.stderr.taken().is_empty());
-    }
-
     let cases: [(&[u8], &[&[u8]]); 14] = [
         (b"", &[]),
         (b"a\nb", &[b"a", b"b"]),
@@ -136,37 +179,41 @@ fn each_line_gives_a_row(rt: HostRuntime) -> Result<(), Fail> {
         (b"\"a\\b\"\t\0\n", &[b"\\\"a\\\\b\\\"\\t\\u0000"]),
         (b"hello", &[b"hello"]),
     ];
+    for (stdin, messages) in cases {
+        assert!(rt; gives_rows(&rt, rt.alloc(), stdin, messages)?, "{stdin:?}");
+    }
+    Ok(())
+}
+
+// The rows are the same however many bytes a read gives, and whichever reads find nothing yet.
+fn gives_rows<R: Wait>(
+    rt: &R,
+    alloc: Global,
+    stdin: &[u8],
+    messages: &[&[u8]],
+) -> Result<bool, Fail> {
     let waits: [&[u64]; 3] = [
         &[],
         &[0, 2, 4, 6, 8, 10, 12, 14, 16, 18],
         &[0, 1, 2, 4, 5, 9],
     ];
-    for (stdin, messages) in cases {
-        let wanted = rows(rt.alloc(), messages)?;
-        for read_most in [1, 2, 3, 100] {
-            for waiting_reads in waits {
-                let case = Case {
-                    read_most,
-                    waiting_reads,
-                    ..Case::of(stdin)
-                };
-                let (status, world) = run(&rt, rt.alloc(), &["-e", BUILT], &case)?;
-                assert_eq!(rt; status.number(), 0, "{stdin:?}");
-                assert_eq!(rt;
-                    world.stdout.taken(),
-                    wanted.as_slice(),
-                    "{stdin:?} by {read_most}"
-                );
-                assert_eq!(rt; world.stdout.flushed(), wanted.len());
-                assert!(rt; world.stderr.taken().is_empty());
-            }
+    let wanted = rows(alloc, messages)?;
+    let mut all = true;
+    for read_most in [1, 2, 3, 100] {
+        for waiting_reads in waits {
+            let case = Case {
+                read_most,
+                waiting_reads,
+                ..Case::of(stdin)
+            };
+            all = ends_as(rt, alloc, &["-e", BUILT], &case, &Wanted::done(&wanted))? && all;
         }
     }
-    Ok(())
+    Ok(all)
 }
 
 #[test]
-fn other_words_and_other_texts_are_refused(rt: HostRuntime) -> Result<(), Fail> {
+fn other_words_are_refused(rt: HostRuntime) -> Result<(), Fail> {
     let cases: [&[&str]; 7] = [
         &[],
         &["--nope"],
@@ -178,16 +225,18 @@ fn other_words_and_other_texts_are_refused(rt: HostRuntime) -> Result<(), Fail> 
     ];
     for words in cases {
         for call in [0, 1, NEVER] {
-            is_refused(
-                &rt,
-                rt.alloc(),
-                words,
-                call,
-                1,
-                b"logstash: words: unread\n",
-            )?;
+            let line = b"logstash: words: unread\n";
+            assert!(rt;
+                is_refused(&rt, rt.alloc(), words, call, 1, line)?,
+                "{words:?}"
+            );
         }
     }
+    Ok(())
+}
+
+#[test]
+fn other_texts_are_refused(rt: HostRuntime) -> Result<(), Fail> {
     // why each text is refused
     let texts: [(&str, &[u8]); 14] = [
         ("", b"not built"),
@@ -231,7 +280,10 @@ fn other_words_and_other_texts_are_refused(rt: HostRuntime) -> Result<(), Fail> 
         line.extend_from_slice(reason)?;
         line.push(b'\n')?;
         for call in [0, 1, 3, NEVER] {
-            is_refused(&rt, rt.alloc(), &["-e", text], call, 3, &line)?;
+            assert!(rt;
+                is_refused(&rt, rt.alloc(), &["-e", text], call, 3, &line)?,
+                "{text}"
+            );
         }
     }
     Ok(())
@@ -247,32 +299,32 @@ fn a_text_of_more_than_a_megabyte_is_refused(rt: HostRuntime) -> Result<(), Fail
     assert_eq!(rt; status.number(), 0);
     text.push(' ')?;
     let line = b"logstash: pipeline main: long\n";
-    is_refused(&rt, rt.alloc(), &["-e", text.as_str()], NEVER, 3, line)
+    assert!(rt; is_refused(&rt, rt.alloc(), &["-e", text.as_str()], NEVER, 3, line)?);
+    Ok(())
 }
 
 // Nothing is read, and nothing written to stdout, also where this call of stderr fails: a write or the
 // flush.
-fn is_refused<R: Wait + Abort>(
+fn is_refused<R: Wait>(
     rt: &R,
     alloc: Global,
     words: &[&str],
     call: u64,
     number: u8,
     line: &[u8],
-) -> Result<(), Fail> {
+) -> Result<bool, Fail> {
     let case = Case {
         failing_stderr: &[call],
         ..Case::of(b"hello\n")
     };
     let (status, world) = run(rt, alloc, words, &case)?;
-    assert_eq!(rt; status.number(), number);
-    assert_eq!(rt; world.stdin.script().made(), 0);
-    assert_eq!(rt; world.stdout.script().made(), 0);
-    assert!(rt; line.starts_with(world.stderr.taken()));
-    if call == NEVER {
-        assert_eq!(rt; world.stderr.flushed(), line.len());
-    }
-    Ok(())
+    Ok(
+        status.number() == number
+            && world.stdin.script().made() == 0
+            && world.stdout.script().made() == 0
+            && line.starts_with(world.stderr.taken())
+            && (call != NEVER || world.stderr.flushed() == line.len()),
+    )
 }
 
 // Three lines, of which the last has no line feed.
@@ -293,25 +345,27 @@ fn a_fault_ends_the_run(rt: HostRuntime) -> Result<(), Fail> {
     let mut read = 0_u64;
     for messages in reads {
         let wanted = rows(rt.alloc(), messages)?;
-        read_fails(&rt, rt.alloc(), read, &wanted)?;
+        assert!(rt;
+            read_fails(&rt, rt.alloc(), read, &wanted)?,
+            "at read {read}"
+        );
         read = read.saturating_add(1);
     }
 
     let wanted = rows(rt.alloc(), &[b"a", b"bc", b"d"])?;
-    let calls = whole_run(&rt, rt.alloc(), &wanted)?;
+    let (calls, is_whole) = whole_run(&rt, rt.alloc(), &wanted)?;
+    assert!(rt; is_whole);
     for call in 0..calls {
-        write_fails(&rt, rt.alloc(), call, &wanted)?;
+        assert!(rt;
+            write_fails(&rt, rt.alloc(), call, &wanted)?,
+            "at call {call}"
+        );
     }
     Ok(())
 }
 
 // A read fails, and the flush of stderr, which changes nothing.
-fn read_fails<R: Wait + Abort>(
-    rt: &R,
-    alloc: Global,
-    read: u64,
-    wanted: &[u8],
-) -> Result<(), Fail> {
+fn read_fails<R: Wait>(rt: &R, alloc: Global, read: u64, wanted: &[u8]) -> Result<bool, Fail> {
     let case = Case {
         read_most: 1,
         failing_reads: &[read],
@@ -319,21 +373,17 @@ fn read_fails<R: Wait + Abort>(
         ..Case::of(LINES)
     };
     let (status, world) = run(rt, alloc, &["-e", BUILT], &case)?;
-    assert_eq!(rt; status.number(), 5, "at read {read}");
-    assert_eq!(rt; world.stdout.taken(), wanted, "at read {read}");
-    assert_eq!(rt; world.stdout.flushed(), wanted.len(), "at read {read}");
-    assert_eq!(rt; world.stderr.taken(), INPUT_FAULT);
-    assert_eq!(rt; world.stderr.script().faults(), 1);
-    Ok(())
+    Ok(
+        status.number() == 5
+            && world.stdout.taken() == wanted
+            && world.stdout.flushed() == wanted.len()
+            && world.stderr.taken() == INPUT_FAULT
+            && world.stderr.script().faults() == 1,
+    )
 }
 
 // A write or a flush of stdout fails.
-fn write_fails<R: Wait + Abort>(
-    rt: &R,
-    alloc: Global,
-    call: u64,
-    wanted: &[u8],
-) -> Result<(), Fail> {
+fn write_fails<R: Wait>(rt: &R, alloc: Global, call: u64, wanted: &[u8]) -> Result<bool, Fail> {
     let case = Case {
         read_most: 1,
         write_most: 7,
@@ -341,14 +391,15 @@ fn write_fails<R: Wait + Abort>(
         ..Case::of(LINES)
     };
     let (status, world) = run(rt, alloc, &["-e", BUILT], &case)?;
-    assert_eq!(rt; status.number(), 6, "at call {call}");
-    assert!(rt; wanted.starts_with(world.stdout.taken()), "at call {call}");
-    assert_eq!(rt; world.stderr.taken(), OUTPUT_FAULT);
-    Ok(())
+    Ok(
+        status.number() == 6
+            && wanted.starts_with(world.stdout.taken())
+            && world.stderr.taken() == OUTPUT_FAULT,
+    )
 }
 
-// How many calls of stdout a run makes where none of them fails; the flush of stderr does.
-fn whole_run<R: Wait + Abort>(rt: &R, alloc: Global, wanted: &[u8]) -> Result<u64, Fail> {
+// How many calls of stdout a run makes where none of them fails, and whether it is done; the flush of stderr fails.
+fn whole_run<R: Wait>(rt: &R, alloc: Global, wanted: &[u8]) -> Result<(u64, bool), Fail> {
     let case = Case {
         read_most: 1,
         write_most: 7,
@@ -356,9 +407,60 @@ fn whole_run<R: Wait + Abort>(rt: &R, alloc: Global, wanted: &[u8]) -> Result<u6
         ..Case::of(LINES)
     };
     let (status, world) = run(rt, alloc, &["-e", BUILT], &case)?;
-    assert_eq!(rt; status.number(), 0);
-    assert_eq!(rt; world.stdout.taken(), wanted);
-    Ok(world.stdout.script().made())
+    let is_whole = status.number() == 0 && world.stdout.taken() == wanted;
+    Ok((world.stdout.script().made(), is_whole))
+}
+
+// A clock that shows one moment and counts how often it is paused.
+#[derive(Drop)]
+struct PausedClock {
+    moment: Instant,
+    pauses: u64,
+}
+
+impl Clock for PausedClock {
+    ghost given = { λ _. None };
+
+    fn now(&mut self) -> Instant {
+        self.moment
+    }
+
+    fn pause(&mut self) {
+        self.pauses = self.pauses.saturating_add(1);
+    }
+}
+
+#[test]
+fn the_clock_is_paused_where_nothing_came(rt: HostRuntime) -> Result<(), Fail> {
+    for (waiting_reads, pauses) in [(&[] as &[u64], 0), (&[0, 1, 3], 3), (&[4], 1)] {
+        assert!(rt;
+            pauses_as_often(&rt, rt.alloc(), waiting_reads, pauses)?,
+            "{waiting_reads:?}"
+        );
+    }
+    Ok(())
+}
+
+fn pauses_as_often<R: Wait>(
+    rt: &R,
+    alloc: Global,
+    waiting_reads: &[u64],
+    pauses: u64,
+) -> Result<bool, Fail> {
+    let words = vec![in alloc;
+        String::from_str(alloc, "-e")?,
+        String::from_str(alloc, BUILT)?,
+    ]?;
+    let reads = Script::new(alloc, &[], waiting_reads)?;
+    let moment = Instant::from_nanos(NEW_YEAR).ok_or("2024")?;
+    let mut world = ThinWorld {
+        stdin: MemorySource::new(alloc, LINES, 1, reads)?,
+        stdout: MemorySink::new(alloc, usize::MAX, Script::empty(alloc)),
+        stderr: MemorySink::new(alloc, usize::MAX, Script::empty(alloc)),
+        clock: PausedClock { moment, pauses: 0 },
+    };
+    let status = logstash(rt, alloc, &words, &mut world);
+    Ok(status.number() == 0 && world.clock.pauses == pauses)
 }
 
 #[test]
@@ -378,11 +480,8 @@ fn a_line_is_cut_at_its_limit(rt: HostRuntime) -> Result<(), Fail> {
     ] {
         let mut stdin = longest.clone()?;
         stdin.extend_from_slice(behind)?;
-        let (status, world) = run(&rt, alloc, &["-e", BUILT], &Case::of(&stdin))?;
-        assert_eq!(rt; status.number(), 0);
-        assert_eq!(rt; world.stdout.taken().len(), wanted.len());
-        assert!(rt; world.stdout.taken() == wanted.as_slice());
-        assert!(rt; world.stderr.taken().is_empty());
+        let wanted = Wanted::done(wanted);
+        assert!(rt; ends_as(&rt, alloc, &["-e", BUILT], &Case::of(&stdin), &wanted)?);
     }
     Ok(())
 }
@@ -417,14 +516,26 @@ fn stdout_holds_what_the_definition_says(rt: HostRuntime) -> Result<(), Fail> {
     ];
     for stdin in inputs {
         for read_most in [1, 2, 3, 100] {
-            let case = Case {
-                read_most,
-                ..Case::of(stdin)
-            };
-            let (_, world) = run(&rt, rt.alloc(), &["-e", BUILT], &case)?;
-            let rows = defined_rows(rt.alloc(), world.stdin.given())?;
-            assert_eq!(rt; world.stdout.taken(), rows.as_slice());
+            assert!(rt;
+                holds_its_rows(&rt, rt.alloc(), stdin, read_most)?,
+                "{stdin:?}"
+            );
         }
     }
     Ok(())
+}
+
+fn holds_its_rows<R: Wait>(
+    rt: &R,
+    alloc: Global,
+    stdin: &[u8],
+    read_most: usize,
+) -> Result<bool, Fail> {
+    let case = Case {
+        read_most,
+        ..Case::of(stdin)
+    };
+    let (_, world) = run(rt, alloc, &["-e", BUILT], &case)?;
+    let rows = defined_rows(alloc, world.stdin.given())?;
+    Ok(world.stdout.taken() == rows.as_slice())
 }

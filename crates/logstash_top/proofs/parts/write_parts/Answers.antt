@@ -1,4 +1,4 @@
-use Rattle.std.proofs.Common.{◌++◌, arith}
+use Rattle.std.proofs.Common.{◌++◌, ◌∙◌}
 use Rattle.outside.proofs.Growth.{grows_then}
 use Rattle.outside.proofs.Causes.{cause_from}
 use Rattle.logstash_top.proofs.PartsLemmas.{next_part, part_more, in_next_part}
@@ -10,7 +10,7 @@ returns-in-Err-clause-part g c =
     in_next_part _ _ _ _ _ i.whole (next_part c.args.parts.now c.loop-part.part-index _ c.as_bytes.result.now c.loop-part-test.true c.as_bytes.ensures.value) i.grows c.in-Err.ensures.part
 
 pub returns-in-Err-clause-cause : goal.returns-in-Err-clause-cause
-returns-in-Err-clause-cause g c = cause_from c.loop-part.invariant.later c.in-Err.ensures.cause
+returns-in-Err-clause-cause g c = cause_from c.loop-part.invariant.same c.in-Err.ensures.cause
 
 pub loop-part-preserved : goal.loop-part-preserved
 loop-part-preserved g c =
@@ -19,5 +19,5 @@ loop-part-preserved g c =
       written = i.written ++ c.as_bytes.result.now;
       whole = part_more _ _ _ _ _ i.whole (next_part c.args.parts.now c.loop-part.part-index _ c.as_bytes.result.now c.loop-part-test.true c.as_bytes.ensures.value);
       grows = grows_then i.grows c.in-Ok.ensures.ok;
-      later = omega (arith, i.later, c.in-Ok.ensures.cause.later);
+      same = c.in-Ok.ensures.cause.same (λ e. cc) ∙ i.same;
     }

@@ -1,4 +1,4 @@
-use Rattle.std.proofs.Common.{◌≡◌, ◌≤◌, ◌++◌, ℕ, List, drop}
+use Rattle.std.proofs.Common.{◌≡◌, ◌++◌, ℕ, List, drop}
 use Rattle.outside.specs.Telling.{Grows}
 use Rattle.logstash_top.specs.Parts.{parts_text}
 use Rattle.logstash_top.proofs.parts.write_parts.Given as goal
@@ -8,5 +8,5 @@ invariant-loop-part g l = record {
   written : List ℕ;
   whole : parts_text l.parts ≡ written ++ parts_text (drop l.part-index l.parts);
   grows : Grows (g.O.Sink.taken l.fn.sink) (g.O.Sink.taken l.sink) written;
-  later : g.O.Sink.faults l.fn.sink ≤ g.O.Sink.faults l.sink;
+  same : g.O.Sink.faults l.sink ≡ g.O.Sink.faults l.fn.sink;
 }

@@ -26,8 +26,8 @@ loop-init g c = record {
   wrote = grows_by (sym no_rows) (grows_same _);
   reader = c.new-reader.ensures ∙ ap (λ b. unread line_limit b false) (sym no_rest);
   stderr = refl;
-  read_later = omega arith;
-  write_later = omega arith;
+  read_same = refl;
+  write_same = refl;
 }
 
 -- nothing came
@@ -40,10 +40,10 @@ returns-in-Err-clause-ran g c =
     (polled_more g.I.Source g.O.Sink g.K.Clock _ c.loop.world _ i.polls m Nothing i.still i.polled c.now-moment.ensures e.given e.left) refl i.wrote (in_part_none [] (grows_same _)) (λ is. cc)
 
 pub returns-in-Err-clause-read_cause : goal.returns-in-Err-clause-read_cause
-returns-in-Err-clause-read_cause g c = cause_from c.loop.invariant.read_later (cause_of (λ _. refl) c.in-Err.ensures.cause)
+returns-in-Err-clause-read_cause g c = cause_from c.loop.invariant.read_same (cause_of (λ _. refl) (λ _. refl) c.in-Err.ensures.cause)
 
 pub returns-in-Err-clause-write_cause : goal.returns-in-Err-clause-write_cause
-returns-in-Err-clause-write_cause g c = no_cause c.loop.invariant.write_later (λ is. cc)
+returns-in-Err-clause-write_cause g c = no_cause c.loop.invariant.write_same (λ is. cc)
 
 pub loop-preserved : goal.loop-preserved
 loop-preserved g c =
@@ -59,8 +59,8 @@ loop-preserved g c =
       wrote = grows_by (sym (rows_more i.polls m Nothing i.still ∙ append-nil _)) i.wrote;
       reader = waited_rest i.polls m _ i.still i.reader;
       stderr = i.stderr;
-      read_later = omega (arith, i.read_later, e.cause.later);
-      write_later = i.write_later;
+      read_same = e.cause.same (λ is. cc) ∙ i.read_same;
+      write_same = i.write_same;
     }
 
 -- bytes came
@@ -81,8 +81,8 @@ loop-preserved-in-Ok g c =
       wrote = grows_by (ap (λ l. out_bytes (events_of line_limit i.polls) ++ rows_at m l) lines ∙ sym (rows_more i.polls m (Came bytes) i.still)) (grows_then i.wrote c.in-Ok.ensures.ok);
       reader = fed_rest i.polls m bytes c.loop.reader c.take_piece.new.reader i.still i.reader c.in-Ok.ensures.left c.in-Ok.ensures.rest c.in-Ok.ensures.ended c.in-Ok.ensures.limit;
       stderr = i.stderr;
-      read_later = omega (arith, i.read_later, e.cause.later);
-      write_later = omega (arith, i.write_later, c.in-Ok.ensures.cause.later);
+      read_same = e.cause.same (λ is. cc) ∙ i.read_same;
+      write_same = c.in-Ok.ensures.cause.same (λ is. cc) ∙ i.write_same;
     }
 
 pub returns-in-Err-take_piece-clause-ran : goal.returns-in-Err-take_piece-clause-ran
@@ -99,10 +99,10 @@ returns-in-Err-take_piece-clause-ran g c =
 pub returns-in-Err-take_piece-clause-read_cause : goal.returns-in-Err-take_piece-clause-read_cause
 returns-in-Err-take_piece-clause-read_cause g c =
     let e = rw c.in-Ok-Bytes.field-0-is at c.in-Ok-Bytes.ensures in
-    no_cause (omega (arith, c.loop.invariant.read_later, e.cause.later)) c.in-Err-take_piece.ensures.not_input
+    no_cause (e.cause.same (λ is. cc) ∙ c.loop.invariant.read_same) c.in-Err-take_piece.ensures.not_input
 
 pub returns-in-Err-take_piece-clause-write_cause : goal.returns-in-Err-take_piece-clause-write_cause
-returns-in-Err-take_piece-clause-write_cause g c = cause_from c.loop.invariant.write_later c.in-Err-take_piece.ensures.cause
+returns-in-Err-take_piece-clause-write_cause g c = cause_from c.loop.invariant.write_same c.in-Err-take_piece.ensures.cause
 
 -- the end came
 pub returns-in-Ok-End-clause-ran : goal.returns-in-Ok-End-clause-ran
@@ -118,7 +118,7 @@ returns-in-Ok-End-clause-ran g c =
 pub returns-in-Ok-End-clause-read_cause : goal.returns-in-Ok-End-clause-read_cause
 returns-in-Ok-End-clause-read_cause g c =
     let e = rw c.in-Ok-End.field-0-is at c.in-Ok-End.ensures in
-    no_cause (omega (arith, c.loop.invariant.read_later, e.cause.later)) c.write_lines.ensures.not_input
+    no_cause (e.cause.same (λ is. cc) ∙ c.loop.invariant.read_same) c.write_lines.ensures.not_input
 
 pub returns-in-Ok-End-clause-write_cause : goal.returns-in-Ok-End-clause-write_cause
-returns-in-Ok-End-clause-write_cause g c = cause_from c.loop.invariant.write_later c.write_lines.ensures.cause
+returns-in-Ok-End-clause-write_cause g c = cause_from c.loop.invariant.write_same c.write_lines.ensures.cause

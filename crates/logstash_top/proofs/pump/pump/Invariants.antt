@@ -1,4 +1,4 @@
-use Rattle.std.proofs.Common.{◌≡◌, ◌≤◌, List, false}
+use Rattle.std.proofs.Common.{◌≡◌, List, false}
 use Rattle.outside.specs.Telling.{Grows}
 use Rattle.in_lines.specs.Polls.{Poll, is_ended, rest_through}
 use Rattle.in_lines.specs.Events.{events_of}
@@ -16,6 +16,6 @@ invariant-loop g l = record {
   wrote : Grows (g.O.Sink.taken l.fn.world.stdout) (g.O.Sink.taken l.world.stdout) (out_bytes (events_of line_limit polls));
   reader : l.reader ≡ record { limit = line_limit; bytes = rest_through line_limit polls; ended = false };
   stderr : l.world.stderr ≡ l.fn.world.stderr;
-  read_later : g.I.Source.faults l.fn.world.stdin ≤ g.I.Source.faults l.world.stdin;
-  write_later : g.O.Sink.faults l.fn.world.stdout ≤ g.O.Sink.faults l.world.stdout;
+  read_same : g.I.Source.faults l.world.stdin ≡ g.I.Source.faults l.fn.world.stdin;
+  write_same : g.O.Sink.faults l.world.stdout ≡ g.O.Sink.faults l.fn.world.stdout;
 }

@@ -1,4 +1,4 @@
-use Rattle.std.proofs.Common.{◌++◌, [], ◌∷◌, ap, sym, ◌∙◌, arith, append_assoc}
+use Rattle.std.proofs.Common.{◌++◌, [], ◌∷◌, ap, sym, ◌∙◌, append_assoc}
 use Rattle.std.specs.String.{string_bytes}
 use Rattle.byte_lines.specs.Unread.{lines_left}
 use Rattle.logstash_top.proofs.RowLemmas.{rows_then, rows_in_part}
@@ -19,7 +19,7 @@ loop-line-preserved g c =
       shown = i.shown ++ line ∷ [];
       whole = i.whole ∙ ap (λ t. i.shown ++ t) e.lines ∙ sym (append_assoc i.shown (line ∷ []) (lines_left c.next_line.new.self));
       grows = rows_then c.args.moment i.shown line c.as_str.result.now c.as_str.ensures.value i.grows c.in-Ok.ensures.ok;
-      later = omega (arith, i.later, c.in-Ok.ensures.cause.later);
+      same = c.in-Ok.ensures.cause.same (λ e. cc) ∙ i.same;
       rest = λ is. e.rest (i.ended ∙ is) ∙ i.rest is;
       ended = e.ended ∙ i.ended;
       limit = e.limit ∙ i.limit;

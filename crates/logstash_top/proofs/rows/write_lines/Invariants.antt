@@ -1,4 +1,4 @@
-use Rattle.std.proofs.Common.{◌≡◌, ◌≤◌, ◌++◌, ℕ, false, List, length}
+use Rattle.std.proofs.Common.{◌≡◌, ◌++◌, ℕ, false, List, length}
 use Rattle.byte_lines.specs.Unread.{lines_left, rest_of}
 use Rattle.outside.specs.Telling.{Grows}
 use Rattle.logstash_top.specs.Rows.{rows_at}
@@ -9,7 +9,7 @@ invariant-loop-line g l = record {
   shown : List (List ℕ);
   whole : lines_left l.fn.reader ≡ shown ++ lines_left l.reader;
   grows : Grows (g.O.Sink.taken l.fn.sink) (g.O.Sink.taken l.sink) (rows_at l.fn.moment shown);
-  later : g.O.Sink.faults l.fn.sink ≤ g.O.Sink.faults l.sink;
+  same : g.O.Sink.faults l.sink ≡ g.O.Sink.faults l.fn.sink;
   rest : l.fn.reader.ended ≡ false → rest_of l.reader ≡ rest_of l.fn.reader;
   ended : l.reader.ended ≡ l.fn.reader.ended;
   limit : l.reader.limit ≡ l.fn.reader.limit;
