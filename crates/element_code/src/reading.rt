@@ -15,7 +15,10 @@ const INNER_LEVELS: usize = 127;
 
 // For how many items or members room is made at once: no more than a few, since the bytes may say any
 // count.
-fn room_for(count: u32) -> usize {
+fn room_for(count: u32) -> usize
+    ensures few { result ≤ 16 }
+    ensures no_more { result ≤ count }
+{
     (count as usize).min(16)
 }
 

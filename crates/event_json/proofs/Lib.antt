@@ -16,3 +16,4 @@ pub mod DecimalDigits
 pub mod WrittenNumbers
 pub mod WrittenValues
 pub mod NumberParts
+pub mod LeastForms

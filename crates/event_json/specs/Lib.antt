@@ -5,3 +5,4 @@ pub mod Stops
 pub mod Faults
 pub mod Timeless
 pub mod NumberGrammar
+pub mod LeastForms

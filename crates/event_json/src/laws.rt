@@ -1,10 +1,11 @@
 //! What holds of JSON texts, as contracts of functions that do nothing.
-ghost use Rattle.std.specs.Prelude.{◌↔◌, ℕ, List, Option};
-ghost use Rattle.event_tree.specs.Number.{Num};
+ghost use Rattle.std.specs.Prelude.{◌≡◌, ◌↔◌, ℕ, ℤ, List, Option, Some, None};
+ghost use Rattle.event_tree.specs.Number.{Num, IsLeast, least};
 ghost use Rattle.event_tree.specs.NumberTexts.{NumberReads};
 ghost use Rattle.event_tree.specs.declared.value.Value.{Value};
 ghost use Rattle.json_grammar.specs.Json.{JsonWithin};
 ghost use Rattle.event_json.specs.Json.{json};
+ghost use Rattle.event_json.specs.LeastForms.{IsValueOf};
 ghost use Rattle.event_json.specs.NumberGrammar.{IsNumberText};
 ghost use Rattle.event_json.specs.Timeless.{IsTimeless};
 
@@ -19,4 +20,13 @@ pub fn what_is_written_reads_back()
 /// a number, and none otherwise.
 pub fn numbers_are_those_of_the_grammar()
     ensures { (read : Option Num) (text : List ℕ) → NumberReads read text ↔ IsNumberText read text }
+{}
+
+/// What `Number::new` answers is the least form: of at most 18 places, with no zero at its end where there
+/// are places, and of the same value. It is none only where no least form has that value.
+pub fn least_forms_are_least()
+    ensures some { (mantissa : ℤ) (places : ℕ) (n : Num) → least mantissa places ≡ Some n
+        → IsLeast n.mantissa n.scale × IsValueOf mantissa places n }
+    ensures none { (mantissa : ℤ) (places : ℕ) (n : Num) → least mantissa places ≡ None
+        → IsLeast n.mantissa n.scale → IsValueOf mantissa places n → ⊥ }
 {}

@@ -1,5 +1,5 @@
 /// Texts of JSON, and what they are written back as.
-pub static TEXTS: [(&str, &str); 74] = [
+pub static TEXTS: [(&str, &str); 82] = [
     ("null", "null"),
     ("true", "true"),
     ("false", "false"),
@@ -89,6 +89,58 @@ pub static TEXTS: [(&str, &str); 74] = [
         "{\"message\":\"GET /index.html\",\"status\":200,\"bytes\":5316,\"ok\":true,\"tags\":[\"a\",\"b\"]}",
         "{\"bytes\":5316,\"message\":\"GET /index.html\",\"ok\":true,\"status\":200,\"tags\":[\"a\",\"b\"]}",
     ),
+    // The examples of RFC 8259, section 13, and the numbers and characters of its sections 6 and 7.
+    (
+        r#"{
+  "Image": {
+    "Width":  800,
+    "Height": 600,
+    "Title":  "View from 15th Floor",
+    "Thumbnail": {
+      "Url":    "http://www.example.com/image/481989943",
+      "Height": 125,
+      "Width":  100
+    },
+    "Animated" : false,
+    "IDs": [116, 943, 234, 38793]
+  }
+}"#,
+        r#"{"Image":{"Animated":false,"Height":600,"IDs":[116,943,234,38793],"Thumbnail":{"Height":125,"Url":"http://www.example.com/image/481989943","Width":100},"Title":"View from 15th Floor","Width":800}}"#,
+    ),
+    (
+        r#"[
+  {
+    "precision": "zip",
+    "Latitude":  37.7668,
+    "Longitude": -122.3959,
+    "Address":   "",
+    "City":      "SAN FRANCISCO",
+    "State":     "CA",
+    "Zip":       "94107",
+    "Country":   "US"
+  },
+  {
+    "precision": "zip",
+    "Latitude":  37.371991,
+    "Longitude": -122.026020,
+    "Address":   "",
+    "City":      "SUNNYVALE",
+    "State":     "CA",
+    "Zip":       "94085",
+    "Country":   "US"
+  }
+]"#,
+        r#"[{"Address":"","City":"SAN FRANCISCO","Country":"US","Latitude":37.7668,"Longitude":-122.3959,"State":"CA","Zip":"94107","precision":"zip"},{"Address":"","City":"SUNNYVALE","Country":"US","Latitude":37.371991,"Longitude":-122.02602,"State":"CA","Zip":"94085","precision":"zip"}]"#,
+    ),
+    (r#""Hello world!""#, r#""Hello world!""#),
+    (r#"42"#, r#"42"#),
+    (
+        r#"3.141592653589793238462643383279"#,
+        r#""3.141592653589793238462643383279""#,
+    ),
+    (r#"1E400"#, r#""1E400""#),
+    (r#""\u005C""#, r#""\\""#),
+    (r#""\uD834\uDD1E""#, r#""𝄞""#),
 ];
 
 /// Other texts, and the place of the first byte that no text has after the bytes before it.

@@ -109,3 +109,32 @@ fn objects_and_arrays_count_as_levels(rt: HostRuntime) -> Result<(), Fail> {
     );
     Ok(())
 }
+
+/// What each fault says.
+const SAID: [(JsonFault, &str); 4] = [
+    (JsonFault::NotUtf8(7), "no UTF-8 character begins at byte 7"),
+    (JsonFault::At(0), "no JSON text goes on so at byte 0"),
+    (JsonFault::Deep(100), "too many levels of JSON at byte 100"),
+    (JsonFault::Memory, "memory ran out"),
+];
+
+fn says(alloc: Global, fault: JsonFault, want: &str) -> Result<bool, AllocError> {
+    Ok(format!(in alloc; "{fault}")?.as_str() == want)
+}
+
+fn faults_say(
+    rt: &impl Abort,
+    alloc: Global,
+    faults: &[(JsonFault, &str)],
+) -> Result<(), AllocError> {
+    for (fault, want) in faults {
+        assert!(rt; says(alloc, *fault, want)?);
+    }
+    Ok(())
+}
+
+#[test]
+fn faults_say_what_is_wrong_and_where(rt: HostRuntime) -> Result<(), Fail> {
+    faults_say(&rt, rt.alloc(), &SAID)?;
+    Ok(())
+}

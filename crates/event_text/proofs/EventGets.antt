@@ -9,7 +9,7 @@ use Rattle.event_tree.specs.declared.value.Value.{Value, out-Value, roll-Value, 
 use Rattle.event_tree.specs.declared.value.Value.TheOpen.{Value-F}
 use Rattle.event_tree.specs.declared.value.Value.TheVariants as v
 use Rattle.event_text.specs.PathLaws.{IsNoList, event_passes_end, to}
-use Rattle.event_text.proofs.Levels.{some_same}
+use Rattle.event_json.proofs.NumberParts.{some_same}
 use Rattle.event_text.proofs.PutGets.{at_put, at_put_other}
 use Rattle.event_text.proofs.TakeGets.{taken, at_take, at_take_other}
 

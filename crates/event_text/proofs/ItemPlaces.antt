@@ -4,7 +4,7 @@ use Rattle.std.proofs.lemmas.Option.{slice_get_past}
 use Rattle.event_tree.proofs.Tens.{at_most_some, at_most_within}
 use Rattle.event_tree.specs.Paths.{digits, at_most, place}
 use Rattle.event_text.specs.PathLaws.{is_from_end}
-use Rattle.event_text.proofs.Levels.{some_same}
+use Rattle.event_json.proofs.NumberParts.{some_same}
 
 pub get_set : {X : Type 0} (xs : List X) (i : ℕ) (x y : X) → slice_get xs i ≡ Some x → slice_get (slice_set xs i y) i ≡ Some y
 get_set [] i x y h = absurd (search (h, rules))

@@ -11,15 +11,13 @@ use Rattle.event_tree.specs.PathTexts.{IsPathText, IsPathFault}
 use Rattle.event_tree.proofs.Tens.{tens-add, tens-cancel}
 use Rattle.std.specs.Option.{IfSome}
 use Rattle.event_json.specs.Json.{number_text}
+use Rattle.event_json.proofs.NumberParts.{some_same}
 use Rattle.event_json.proofs.WrittenNumbers.{number_text_reads}
 use Rattle.event_text.specs.PathReading.{parts_in}
 use Rattle.event_text.proofs.PathReads.{path_text, empty_fault, unclosed_fault, stray_fault}
 use Rattle.event_text.proofs.PathFaults.{fault_is}
 use Rattle.event_tree.specs.declared.fault.PathFault.{PathFault}
 use Rattle.event_tree.specs.declared.fault.PathFault.TheVariants.{Empty, Unclosed, Stray, Memory}
-
-some_same : {A : Type 0} (a b : A) → Some a ≡ Some b → a ≡ b
-some_same a b e = ap (λ o. elim o [ None ↦ a | Some x ↦ x ]) e
 
 pub path_once : (ps qs : List (List ℕ)) (text : List ℕ) → IsPathText ps text → IsPathText qs text → ps ≡ qs
 path_once ps qs text h k = some_same ps qs (sym (path_text ps text h) ∙ path_text qs text k)

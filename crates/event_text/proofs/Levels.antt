@@ -3,12 +3,10 @@ use Rattle.std.proofs.Common.{◌≡◌, ℕ, List, [], ◌∷◌, ◌++◌, len
 use Rattle.plain_lists.specs.Members.{get_member, set_member, insert_member, remove_member}
 use Rattle.event_tree.specs.Values.{Members}
 use Rattle.event_tree.specs.Paths.{place, step, step_in, over, change_in, cut_in, through_in}
+use Rattle.event_json.proofs.NumberParts.{some_same}
 use Rattle.event_tree.specs.declared.value.Value.{Value, out-Value, roll-Value, roll-out-Value}
 use Rattle.event_tree.specs.declared.value.Value.TheOpen.{Value-F}
 use Rattle.event_tree.specs.declared.value.Value.TheVariants as v
-
-pub some_same : {A : Type 0} (a b : A) → Some a ≡ Some b → a ≡ b
-some_same a b e = ap (λ o. elim o [ None ↦ a | Some x ↦ x ]) e
 
 pub step-List : (p : List ℕ) (vs : List Value) → step p (v.List vs) ≡ option_and_then (λ i. slice_get vs i) (place p (length vs))
 step-List p vs = ap (λ f. step_in p f) (v.outs-List vs)

@@ -12,7 +12,8 @@ use Rattle.event_tree.proofs.Orders.{ordered-List, items_ordered-get, ordered-ge
 use Rattle.event_tree.proofs.PutLaws.{list_no_object}
 use Rattle.event_tree.proofs.Shapes.{Shape, shape_of, is_null, is_bool, is_number, is_text, is_time, is_list, is_object}
 use Rattle.event_text.specs.PathLaws.{IsNoList}
-use Rattle.event_text.proofs.Levels.{some_same, step-List, step-Object, Cut, cut_item, cut_field, was_cut, CutThrough, in_item, in_field, was_cut_through}
+use Rattle.event_json.proofs.NumberParts.{some_same}
+use Rattle.event_text.proofs.Levels.{step-List, step-Object, Cut, cut_item, cut_field, was_cut, CutThrough, in_item, in_field, was_cut_through}
 use Rattle.event_text.proofs.ItemPlaces.{step_set, step_is}
 
 abbrev first : Option (Value × Value) → Option Value

@@ -1,9 +1,10 @@
 //! What `get` answers after a `put` or a `take`, as contracts of functions that do nothing: a caller
 //! learns the law by the call.
-ghost use Rattle.std.specs.Prelude.{◌≡◌, ◌≢◌, ℕ, ◌<◌, List, [], ◌∷◌, ◌++◌, length, Bool, true, false, if◌then◌else◌, Some, None, Ok};
+ghost use Rattle.std.specs.Prelude.{◌≡◌, ◌≢◌, ℕ, ◌<◌, ◌≤◌, List, [], ◌∷◌, ◌++◌, length, Bool, true, false, if◌then◌else◌, Some, None, Ok, Err};
 ghost use Rattle.std.specs.Option.{option_map};
 ghost use Rattle.event_tree.specs.Values.{Members};
-ghost use Rattle.event_tree.specs.Events.{Ev, Way, IsEvent, event_at, event_put, event_take, limited};
+ghost use Rattle.event_tree.specs.Events.{Ev, Way, IsEvent, event_depth, event_size, event_at, event_put, event_take, limited};
+ghost use Rattle.event_tree.specs.declared.fault.PutFault.TheVariants.{ThroughScalar, Deep, Large};
 ghost use Rattle.event_tree.specs.declared.value.Value.{Value};
 ghost use Rattle.event_tree.specs.declared.value.Value.TheVariants as v;
 ghost use Rattle.event_text.specs.PathLaws.{to, IsNoList, event_passes_end};
@@ -52,4 +53,14 @@ pub fn other_paths_are_not_taken()
         → event_at (to meta (front ++ other ∷ others)) new ≡ event_at (to meta (front ++ other ∷ others)) old }
     ensures apart { (way other : Way) (value : Value) (old new : Ev) → way.meta ≢ other.meta
         → event_take way old ≡ Some (value, new) → event_at other new ≡ event_at other old }
+{}
+
+/// The limits of events: 128 levels and 16,777,216 bytes. What would be past one of them is refused, the
+/// levels first, and all else is put.
+pub fn events_have_limits()
+    ensures held { (event : Ev) → IsEvent event → (event_depth event ≤ 128) × (event_size event ≤ 16777216) }
+    ensures none { limited None ≡ Err ThroughScalar }
+    ensures deep { (event : Ev) → 128 < event_depth event → limited (Some event) ≡ Err Deep }
+    ensures large { (event : Ev) → event_depth event ≤ 128 → 16777216 < event_size event → limited (Some event) ≡ Err Large }
+    ensures put { (event : Ev) → event_depth event ≤ 128 → event_size event ≤ 16777216 → limited (Some event) ≡ Ok event }
 {}

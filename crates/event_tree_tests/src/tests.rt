@@ -405,7 +405,7 @@ const NUMBERS: [(i64, u8, Option<(i64, u8)>); 6] = [
     (1050, 2, Some((105, 1))),
 ];
 
-const NUMBER_TEXTS: [(&str, Option<(i64, u8)>); 26] = [
+const NUMBER_TEXTS: [(&str, Option<(i64, u8)>); 31] = [
     ("-0", Some((0, 0))),
     ("1.50", Some((15, 1))),
     ("1e2", Some((100, 0))),
@@ -435,6 +435,12 @@ const NUMBER_TEXTS: [(&str, Option<(i64, u8)>); 26] = [
     ("-", None),
     ("1 ", None),
     ("", None),
+    // Numbers that RFC 8259 shows, in sections 6 and 13.
+    ("1E400", None),
+    ("3.141592653589793238462643383279", None),
+    ("37.7668", Some((377_668, 4))),
+    ("-122.3959", Some((-1_223_959, 4))),
+    ("-122.026020", Some((-12_202_602, 5))),
 ];
 
 fn numbers_are_least(rt: &impl Abort, numbers: &[(i64, u8, Option<(i64, u8)>)]) {
@@ -501,5 +507,41 @@ fn letters_are_copied(rt: HostRuntime) -> Result<(), Fail> {
         event: Event::new(alloc),
     })?;
     assert_eq!(rt; letters.clone()?.len(), 1);
+    Ok(())
+}
+
+const PATH_FAULTS: [(PathFault, &str); 4] = [
+    (PathFault::Empty, "an empty path or part"),
+    (PathFault::Unclosed(3), "an unclosed bracket at 3"),
+    (PathFault::Stray(0), "a stray character at 0"),
+    (PathFault::Memory, "out of memory"),
+];
+
+const PUT_FAULTS: [(PutFault, &str); 4] = [
+    (
+        PutFault::ThroughScalar,
+        "the path leads through a value that holds no others",
+    ),
+    (PutFault::Deep, "nested too deeply"),
+    (PutFault::Large, "too large"),
+    (PutFault::Memory, "out of memory"),
+];
+
+fn path_fault_says(alloc: Global, fault: PathFault, want: &str) -> Result<bool, AllocError> {
+    Ok(format!(in alloc; "{fault}")?.as_str() == want)
+}
+
+fn put_fault_says(alloc: Global, fault: PutFault, want: &str) -> Result<bool, AllocError> {
+    Ok(format!(in alloc; "{fault}")?.as_str() == want)
+}
+
+#[test]
+fn faults_say_what_is_wrong(rt: HostRuntime) -> Result<(), Fail> {
+    for (fault, want) in PATH_FAULTS {
+        assert!(rt; path_fault_says(rt.alloc(), fault, want)?);
+    }
+    for (fault, want) in PUT_FAULTS {
+        assert!(rt; put_fault_says(rt.alloc(), fault, want)?);
+    }
     Ok(())
 }
