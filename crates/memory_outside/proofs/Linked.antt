@@ -2,6 +2,7 @@
 use Rattle.std.proofs.Common.{◌≡◌, ◌≢◌, ◌⊎◌, ◌≤◌, ◌<◌, ℕ, List, [], ◌∷◌, ◌++◌, Bool, true, false, inl, inr, Result, Ok, Err, Some, length, take, take_at, min, refl, sym, ap, subst, ◌∙◌, arith}
 use Rattle.std.specs.Prelude.{IfOk, OnOk, if◌then◌else◌}
 use Rattle.std.proofs.lemmas.Bool.{cases_eq}
+use Rattle.std.proofs.lemmas.Option.{same_Some}
 use Rattle.std.proofs.lemmas.Bool.Decides.{nat_tests}
 use Rattle.std.proofs.lemmas.List.{get_or-set_same, get_or-set_other, length-take, take_min}
 use Rattle.outside.specs.Pieces.{Piece, Came, End, Nothing, bytes_in, gave}
@@ -16,11 +17,8 @@ use Rattle.memory_outside.specs.Links.{Linking, fresh, state_of, with_state, lef
 use Rattle.memory_outside.specs.declared.memory_links.ConnState.{ConnState}
 use Rattle.memory_outside.proofs.Pieces.{none_left, others_left, next_taken, others_taken}
 
-pub some_same : {a b : List ℕ} → Some a ≡ Some b → a ≡ b
-some_same told = cc
-
 shrinks : (old new taken : List ℕ) → old ≡ taken ++ new → Shrinks (Some old) (Some new) taken
-shrinks old new taken is = record { each = λ rest told. ap Some (is ∙ ap (λ t. taken ++ t) (some_same told)) }
+shrinks old new taken is = record { each = λ rest told. ap Some (is ∙ ap (λ t. taken ++ t) (same_Some _ _ told)) }
 
 -- nothing is left of a connection that is shut, and all of each other one
 pub none_of_shut : (s : Linking) (conn : ℕ) → left_of (shut s conn) conn ≡ []

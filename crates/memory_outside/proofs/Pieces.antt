@@ -1,16 +1,11 @@
 -- The pieces of connections, and what is left of them after a call.
-use Rattle.std.proofs.Common.{◌≡◌, ◌≢◌, ◌≤◌, ℕ, List, [], ◌∷◌, ◌++◌, Bool, true, false, map, length, take, take-append-drop, refl, sym, subst, arith}
+use Rattle.std.proofs.Common.{◌≡◌, ◌≢◌, ◌≤◌, ℕ, List, [], ◌∷◌, ◌++◌, Bool, true, false, length, take, take-append-drop, refl, sym, subst, arith}
 use Rattle.std.specs.Prelude.{filter, nat_eq, if◌then◌else◌}
 use Rattle.std.proofs.lemmas.Grind.{common_steps}
 use Rattle.std.proofs.lemmas.Bool.{eqb-true}
 use Rattle.std.proofs.lemmas.Bool.Decides.{nat_tests}
 use Rattle.outside.specs.Pieces.{Piece, Came, End, Nothing}
 use Rattle.memory_outside.specs.Links.{AllFull, is_full, without, bytes_left, taken_off, first_from}
-
--- a test of the pieces is one of what stands for them
-pub filter_through : {X Y : Type 0} (f : X → Y) (p : X → Bool) (q : Y → Bool) → ((x : X) → p x ≡ q (f x)) → (xs : List X) → map f (filter p xs) ≡ filter q (map f xs)
-filter_through f p q same [] = refl
-filter_through f p q same (x ∷ xs) = grind (arith, same x, filter_through f p q same xs)
 
 -- where pieces are left out, each of those that stay is full
 full_or_not : (b : Bool) (x : ℕ × Piece) (rest : List (ℕ × Piece)) → is_full x ≡ true → AllFull rest → AllFull (if b then x ∷ rest else rest)

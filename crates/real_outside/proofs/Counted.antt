@@ -1,16 +1,16 @@
 -- The counts of connections after a call.
-use Rattle.std.proofs.Common.{◌≡◌, suc, ◌≢◌, ◌⊎◌, ◌≤◌, ◌<◌, ◌+◌, ◌-◌, ◌^◌, ℕ, List, [], ◌∷◌, ◌++◌, Bool, true, false, Some, None, Result, Ok, Err, inl, inr, map, set, get_or, refl, sym, ap, subst, ◌∙◌, rules, arith}
-use Rattle.std.specs.Prelude.{IsErr, is_some, filter, not, nat_eq, nat_lt, if◌then◌else◌}
+use Rattle.std.proofs.Common.{◌≡◌, suc, ◌≢◌, ◌⊎◌, ◌≤◌, ◌<◌, ◌+◌, ◌-◌, ◌^◌, ℕ, List, [], ◌∷◌, ◌++◌, Bool, true, false, Some, None, Result, Ok, Err, inl, inr, set, get_or, refl, sym, ap, subst, ◌∙◌, rules, arith}
+use Rattle.std.specs.Prelude.{IsErr, is_some, not, nat_eq, nat_lt, if◌then◌else◌}
 use Rattle.std.proofs.lemmas.Bool.{cases_lt, ltb-false}
-use Rattle.std.proofs.lemmas.Option.{none-some}
+use Rattle.std.proofs.lemmas.Option.{none-some, same_Some}
 use Rattle.std.proofs.lemmas.Bool.Decides.{nat_tests}
 use Rattle.outside.specs.Counts.{HasCause, Rose, one_more}
 use Rattle.outside.specs.declared.faults.Failed.{Failed}
 use Rattle.outside.specs.declared.sources.Step.{Step}
 use Rattle.outside.specs.declared.sources.Step.TheVariants.{Bytes, NotYet}
 use Rattle.outside.specs.declared.sources.Step.TheVariants.{End as AtEnd}
-use Rattle.real_outside.specs.Adapters.{ReadCounts, counts_after}
-use Rattle.real_outside.specs.Links.{Open, LinkCounts, AllCame, no_counts, last_counts, counts_among, counts_of, counted, others, place_from, is_open}
+use Rattle.real_outside.specs.Adapters.{ReadCounts, no_counts, counts_after}
+use Rattle.real_outside.specs.Links.{Open, LinkCounts, AllCame, last_counts, counts_among, counts_of, counted, others, place_from, is_open}
 
 -- one more connection
 pub came_more : (came : ℕ) (all : List Open) → AllCame came all → AllCame (came + 1) (all ++ (came, no_counts) ∷ [])
@@ -105,11 +105,6 @@ waits_cause c (Ok NotYet) fits = record { later = omega arith; rose = λ e. rise
 waits_cause c (Ok AtEnd) fits = record { later = omega arith; rose = λ e. cc; same = λ none. refl }
 waits_cause c (Err e) fits = record { later = omega arith; rose = λ e. cc; same = λ none. refl }
 
--- a test of the members is one of what stands for them
-pub filter_through : {X Y : Type 0} (f : X → Y) (p : X → Bool) (q : Y → Bool) → ((x : X) → p x ≡ q (f x)) → (xs : List X) → map f (filter p xs) ≡ filter q (map f xs)
-filter_through f p q same [] = refl
-filter_through f p q same (x ∷ xs) = grind (arith, same x, filter_through f p q same xs)
-
 pub faults_bound : (missing : ReadCounts) (came conn : ℕ) (all : List Open) → missing.faults ≤ 2 ^ 64 - 1 → AllCame came all → (counts_among missing conn all).faults ≤ 2 ^ 64 - 1
 faults_bound missing came conn [] fits each = fits
 faults_bound missing came conn (o ∷ rest) fits each = either (nat_eq o.0 conn) (faults_bound missing came conn rest fits each.3)
@@ -138,15 +133,12 @@ counts_fit l conn each = (faults_bound _ l.came conn l.connections (missing_fits
 abbrev CountedAt : ℕ → ℕ → ℕ → Result Step Failed → List Open → Open → Type 0
 CountedAt at i conn result all d = (k : ℕ) × (i ≡ at + k) × (set all k ((get_or all k d).0, counts_after (get_or all k d).1 result) ≡ counted conn result all)
 
-some_same : {a b : ℕ} → Some a ≡ Some b → a ≡ b
-some_same told = cc
-
 counted_from : (at i conn : ℕ) (result : Result Step Failed) (all : List Open) (d : Open) → place_from at conn all ≡ Some i → CountedAt at i conn result all d
 counted_from at i conn result [] d is = absurd (none-some i is)
 counted_from at i conn result (o ∷ rest) d is = either (nat_eq o.0 conn) refl is (λ found. counted_from (at + 1) i conn result rest d found)
   where
     first : Some at ≡ Some i → i ≡ at + 0
-    first is = omega (arith, some_same is)
+    first is = omega (arith, same_Some _ _ is)
 
     more : (k : ℕ) → i ≡ at + 1 + k → i ≡ at + suc k
     more k is = omega (arith, is)

@@ -1,5 +1,5 @@
 -- The counts of the objects of the real machine.
-use Rattle.std.specs.Prelude.{ℕ, Result, Ok, Err}
+use Rattle.std.specs.Prelude.{ℕ, Bool, ◌||◌, Result, Ok, Err, is_err}
 use Rattle.outside.specs.declared.faults.Failed.{Failed}
 use Rattle.outside.specs.declared.faults.ListFault.{ListFault}
 use Rattle.outside.specs.declared.faults.ListFault.TheVariants.{Failed as ListFailed, Memory}
@@ -12,6 +12,19 @@ use Rattle.outside.specs.Counts.{one_more}
 pub record ReadCounts : Type 0 where
   pub faults : ℕ
   pub waits : ℕ
+
+-- a source over a reader, and its counts
+pub record Reading (R : Type 0) : Type 0 where
+  pub input : R
+  pub counts : ReadCounts
+
+-- a sink over a writer, and how often it failed
+pub record Writing (W : Type 0) : Type 0 where
+  pub output : W
+  pub faults : ℕ
+
+abbrev pub no_counts : ReadCounts
+no_counts = record { faults = 0; waits = 0 }
 
 -- the counts after a read: one more fault at an error, and one more wait where nothing came yet
 abbrev pub counts_after : ReadCounts → Result Step Failed → ReadCounts
@@ -30,6 +43,21 @@ abbrev pub faults_listed : {T : Type 0} → ℕ → Result T ListFault → ℕ
 faults_listed n (Ok x) = n
 faults_listed n (Err ListFailed) = one_more n
 faults_listed n (Err Memory) = n
+
+-- how often a store failed, and whether a sync of it failed, after which no sync is known to settle anything
+pub record StoreCounts : Type 0 where
+  pub faults : ℕ
+  pub is_lost : Bool
+
+-- after a call, after a list, and after a sync
+abbrev pub store_called : {T : Type 0} → StoreCounts → Result T Failed → StoreCounts
+store_called c result = record c { faults = faults_after c.faults result }
+
+abbrev pub store_listed : {T : Type 0} → StoreCounts → Result T ListFault → StoreCounts
+store_listed c result = record c { faults = faults_listed c.faults result }
+
+abbrev pub store_synced : StoreCounts → Result (Unit {0}) Failed → StoreCounts
+store_synced c result = record { faults = faults_after c.faults result; is_lost = c.is_lost || is_err result }
 
 -- how often files were called, and how often a call failed
 pub record CallCounts : Type 0 where

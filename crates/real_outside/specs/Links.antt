@@ -5,7 +5,7 @@ use Rattle.outside.specs.declared.faults.Failed.{Failed}
 use Rattle.outside.specs.declared.links.Come.{Come}
 use Rattle.outside.specs.declared.links.Come.TheVariants.{Conn, NotYet, Ended}
 use Rattle.outside.specs.declared.sources.Step.{Step}
-use Rattle.real_outside.specs.Adapters.{ReadCounts, counts_after}
+use Rattle.real_outside.specs.Adapters.{ReadCounts, no_counts, counts_after}
 use Rattle.real_outside.specs.declared.connections.Connection.{Connection}
 
 -- a connection that is open: its number, and its counts
@@ -13,16 +13,13 @@ abbrev pub Open : Type 0
 Open = ℕ × ReadCounts
 
 abbrev pub open_of : {S : Type 0} → Connection S → Open
-open_of c = (c.number, c.source)
+open_of c = (c.number, c.source.counts)
 
 -- how many connections came, those that are open, and how often a look failed and found none yet
 pub record LinkCounts : Type 0 where
   pub came : ℕ
   pub connections : List Open
   pub accepts : ReadCounts
-
-abbrev pub no_counts : ReadCounts
-no_counts = record { faults = 0; waits = 0 }
 
 -- the counts of a connection that isn't kept any more
 abbrev pub last_counts : ReadCounts

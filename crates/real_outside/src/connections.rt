@@ -1,7 +1,8 @@
 // The connections that are open.
 ghost use Rattle.std.specs.Prelude.{◌≡◌, ◌≤◌, ◌<◌, [], ◌∷◌, ◌++◌, Ok, true, false, IfSome, OnOk, OnErr, map, length};
 ghost use Rattle.outside.specs.Pieces.{IfBytes};
-ghost use Rattle.real_outside.specs.Links.{counted, is_open, no_counts, open_of, others, place_from};
+ghost use Rattle.real_outside.specs.Adapters.{no_counts};
+ghost use Rattle.real_outside.specs.Links.{counted, is_open, open_of, others, place_from};
 
 use crate::stdin_sources::StdinSource;
 use outside::{Failed, Source, Step};

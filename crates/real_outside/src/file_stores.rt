@@ -1,7 +1,7 @@
-ghost use Rattle.std.specs.Prelude.{◌≡◌, ◌≤◌, false, None, Ok, Err, IfOk, IsErr, length};
+ghost use Rattle.std.specs.Prelude.{◌≡◌, ◌≤◌, ◌||◌, true, false, None, Ok, Err, IfOk, IsErr, is_err, length};
 ghost use Rattle.std.proofs.lemmas.Bool.{false≢true};
 ghost use Rattle.outside.specs.Counts.{HasCause, Rose, one_more};
-ghost use Rattle.real_outside.specs.Adapters.{faults_after, faults_listed};
+ghost use Rattle.real_outside.specs.Adapters.{store_called, store_listed, store_synced};
 
 use crate::folders::names_in;
 use crate::opened_files::OpenedFiles;
@@ -13,7 +13,8 @@ use std::marker::Model;
 use std::rt::Files;
 use store_images::Store;
 
-/// A store over the files of the machine. A contract sees its count of faults.
+/// A store over the files of the machine. A contract sees its count of faults, and
+/// whether a sync failed.
 ///
 /// A file is opened once and kept open; where more than 32 are, one that didn't change is closed.
 /// What is appended is there for every later read. A file that is made has its folders made where
@@ -31,17 +32,17 @@ pub struct FileStore<R> {
 }
 
 impl<R> Model for FileStore<R> {
-    ghost use Rattle.std.specs.Prelude.{ℕ};
+    ghost use Rattle.real_outside.specs.Adapters.{StoreCounts};
 
-    ghost Value = { ℕ };
+    ghost Value = { StoreCounts };
 
-    ghost view = { λ s. s.faults };
+    ghost view = { λ s. record { faults = s.faults; is_lost = s.is_lost } };
 }
 
 impl<R> FileStore<R> {
     /// A store over a runtime, or a reference to one. Names are paths.
     pub fn new(alloc: Global, rt: R) -> FileStore<R>
-        ensures { result ≡ 0 }
+        ensures { result ≡ record { faults = 0; is_lost = false } }
     {
         FileStore {
             rt,
@@ -53,16 +54,16 @@ impl<R> FileStore<R> {
 
     /// How many calls failed.
     pub fn faults(&self) -> u64
-        ensures { result ≡ self.now }
+        ensures { result ≡ self.now.faults }
     {
         self.faults
     }
 
     // Counts a fault.
     fn fail(&mut self) -> Failed
-        ensures state { self.new ≡ one_more self.old }
-        ensures later { self.old ≤ self.new }
-        ensures rose { Rose self.old self.new }
+        ensures state { self.new ≡ record self.old { faults = one_more self.old.faults } }
+        ensures later { self.old.faults ≤ self.new.faults }
+        ensures rose { Rose self.old.faults self.new.faults }
     {
         self.faults = self.faults.saturating_add(1);
         Failed
@@ -72,9 +73,10 @@ impl<R> FileStore<R> {
     fn counted<T>(&mut self, outcome: io::Result<T>) -> Result<T, Failed>
     where
         T: Drop,
-        ensures counts { self.new ≡ faults_after self.old result }
+        ensures counts { self.new ≡ store_called self.old result }
         ensures same { IfOk result (λ value. outcome ≡ Ok value) }
-        ensures cause { HasCause self.old self.new (IsErr result) }
+        ensures failed { is_err result ≡ is_err outcome }
+        ensures cause { HasCause self.old.faults self.new.faults (IsErr result) }
     {
         match outcome {
             Ok(value) => Ok(value),
@@ -86,7 +88,8 @@ impl<R> FileStore<R> {
 impl<R: Files<File = File> + AllocGlobal + Clone + Drop> FileStore<R> {
     // Syncs, unless a sync failed before.
     fn settle(&mut self) -> io::Result<()>
-        ensures { self.new ≡ self.old }
+        ensures state { self.new ≡ record self.old { is_lost = self.old.is_lost || is_err result } }
+        ensures lost { self.old.is_lost ≡ true → IsErr result }
     {
         if self.is_lost {
             return Err(ErrorKind::Other.into());
@@ -106,9 +109,14 @@ impl<R: Files<File = File> + AllocGlobal + Clone + Drop> Store for FileStore<R> 
 
     ghost may_leave = { λ _ _ _. ⊥ };
 
-    ghost faults = { λ s. s };
+    ghost faults = { λ s. s.faults };
 
-    fn list(&mut self, alloc: Global, folder: &str) -> Result<Names, ListFault> {
+    fn list(&mut self, alloc: Global, folder: &str) -> Result<Names, ListFault>
+        ensures state { self.new ≡ store_listed self.old result }
+
+        // What every store promises.
+        ensures cause { HasCause self.old.faults self.new.faults (result ≡ Err ListFault.Failed) }
+    {
         match names_in(&self.rt, alloc, folder) {
             Ok(names) => Ok(names),
             Err(error) if error.kind() == ErrorKind::OutOfMemory => Err(ListFault::Memory),
@@ -116,37 +124,75 @@ impl<R: Files<File = File> + AllocGlobal + Clone + Drop> Store for FileStore<R> 
         }
     }
 
-    fn length(&mut self, name: &str) -> Result<Option<u64>, Failed> {
+    fn length(&mut self, name: &str) -> Result<Option<u64>, Failed>
+        ensures state { self.new ≡ store_called self.old result }
+
+        // What every store promises.
+        ensures cause { HasCause self.old.faults self.new.faults (IsErr result) }
+    {
         let outcome = self.opened.length(&self.rt, name);
         self.counted(outcome)
     }
 
-    fn read(&mut self, name: &str, at: u64, into: &mut [u8]) -> Result<usize, Failed> {
+    fn read(&mut self, name: &str, at: u64, into: &mut [u8]) -> Result<usize, Failed>
+        ensures state { self.new ≡ store_called self.old result }
+
+        // What every store promises.
+        ensures within { IfOk result (λ n. n ≤ length into.old) }
+        ensures cause { HasCause self.old.faults self.new.faults (IsErr result) }
+    {
         let outcome = self.opened.read(&self.rt, name, at, into);
         self.counted(outcome)
     }
 
-    fn append(&mut self, name: &str, bytes: &[u8]) -> Result<(), Failed> {
+    fn append(&mut self, name: &str, bytes: &[u8]) -> Result<(), Failed>
+        ensures state { self.new ≡ store_called self.old result }
+
+        // What every store promises.
+        ensures cause { HasCause self.old.faults self.new.faults (IsErr result) }
+    {
         let outcome = self.opened.append(&self.rt, name, bytes);
         self.counted(outcome)
     }
 
-    fn write_at(&mut self, name: &str, at: u64, bytes: &[u8]) -> Result<(), Failed> {
+    fn write_at(&mut self, name: &str, at: u64, bytes: &[u8]) -> Result<(), Failed>
+        ensures state { self.new ≡ store_called self.old result }
+
+        // What every store promises.
+        ensures cause { HasCause self.old.faults self.new.faults (IsErr result) }
+    {
         let outcome = self.opened.write_at(&self.rt, name, at, bytes);
         self.counted(outcome)
     }
 
-    fn cut(&mut self, name: &str, length: u64) -> Result<(), Failed> {
+    fn cut(&mut self, name: &str, length: u64) -> Result<(), Failed>
+        ensures state { self.new ≡ store_called self.old result }
+
+        // What every store promises.
+        ensures cause { HasCause self.old.faults self.new.faults (IsErr result) }
+    {
         let outcome = self.opened.cut(&self.rt, name, length);
         self.counted(outcome)
     }
 
-    fn remove(&mut self, name: &str) -> Result<(), Failed> {
+    fn remove(&mut self, name: &str) -> Result<(), Failed>
+        ensures state { self.new ≡ store_called self.old result }
+
+        // What every store promises.
+        ensures cause { HasCause self.old.faults self.new.faults (IsErr result) }
+    {
         let outcome = self.opened.remove(&self.rt, name);
         self.counted(outcome)
     }
 
-    fn sync(&mut self) -> Result<(), Failed> {
+    /// Once a sync failed, each later one fails too.
+    fn sync(&mut self) -> Result<(), Failed>
+        ensures state { self.new ≡ store_synced self.old result }
+        ensures lost { self.old.is_lost ≡ true → IsErr result }
+
+        // What every store promises.
+        ensures cause { HasCause self.old.faults self.new.faults (IsErr result) }
+    {
         let outcome = self.settle();
         self.counted(outcome)
     }

@@ -1,13 +1,15 @@
 ghost use Rattle.std.specs.Prelude.{◌≡◌, ◌≤◌, ◌<◌, None, Ok, IsErr, length};
 ghost use Rattle.outside.specs.Counts.{HasCause};
-ghost use Rattle.outside.specs.Pieces.{IfBytes};
-ghost use Rattle.real_outside.specs.Adapters.{counts_after};
+ghost use Rattle.std.specs.Io.KnownBytes.{Consumes, IsAtEnd};
+ghost use Rattle.outside.specs.Pieces.{bytes_in, gave, IfBytes};
+ghost use Rattle.real_outside.specs.Adapters.{counts_after, no_counts};
 
 use outside::{Failed, Source, Step};
 use std::io::{ErrorKind, Read};
 use std::marker::Model;
 
-/// A source over a reader, such as stdin as `HostRuntime::stdin` gives it. A contract sees its counts.
+/// A source over a reader, such as stdin as `HostRuntime::stdin` gives it. A contract sees the reader and
+/// its counts.
 ///
 /// Each read is one read of the reader, straight into the room. It may wait, as a read of a pipe or
 /// a terminal does.
@@ -19,17 +21,17 @@ pub struct StdinSource<R> {
 }
 
 impl<R> Model for StdinSource<R> {
-    ghost use Rattle.real_outside.specs.Adapters.{ReadCounts};
+    ghost use Rattle.real_outside.specs.Adapters.{Reading};
 
-    ghost Value = { ReadCounts };
+    ghost Value = { Reading R };
 
-    ghost view = { λ s. record { faults = s.faults; waits = s.waits } };
+    ghost view = { λ s. record { input = s.input; counts = record { faults = s.faults; waits = s.waits } } };
 }
 
 impl<R> StdinSource<R> {
     /// A source over a reader, which it reads itself: no buffer is between them.
     pub fn new(input: R) -> StdinSource<R>
-        ensures { result ≡ record { faults = 0; waits = 0 } }
+        ensures { result ≡ record { input = input; counts = no_counts } }
     {
         StdinSource {
             input,
@@ -40,14 +42,14 @@ impl<R> StdinSource<R> {
 
     /// How many reads failed.
     pub fn faults(&self) -> u64
-        ensures { result ≡ self.now.faults }
+        ensures { result ≡ self.now.counts.faults }
     {
         self.faults
     }
 
     /// How many reads found nothing yet.
     pub fn waits(&self) -> u64
-        ensures { result ≡ self.now.waits }
+        ensures { result ≡ self.now.counts.waits }
     {
         self.waits
     }
@@ -58,22 +60,24 @@ impl<R: Read> Source for StdinSource<R> {
 
     ghost left = { λ _. None };
 
-    ghost faults = { λ s. s.faults };
+    ghost faults = { λ s. s.counts.faults };
 
-    ghost waits = { λ s. s.waits };
+    ghost waits = { λ s. s.counts.waits };
 
     /// Reads once. It is the end where the reader gives no byte into a room that isn't empty. A read
     /// that would block (`ErrorKind::WouldBlock`), or that a signal cut short
     /// (`ErrorKind::Interrupted`), found nothing yet; with any other error it failed.
     fn read(&mut self, into: &mut [u8]) -> Result<Step, Failed>
-        ensures counts { self.new ≡ counts_after self.old result }
+        ensures counts { self.new.counts ≡ counts_after self.old.counts result }
+        ensures reader { Consumes (R.remaining self.old.input) (R.remaining self.new.input) (bytes_in (gave result into.new)) }
+        ensures reader_end { result ≡ Ok Step.End → IsAtEnd (R.remaining self.new.input) }
         ensures room { result ≡ Ok Step.End → 0 < length into.old }
 
         // What every source promises.
         ensures within { IfBytes result (λ n. n ≤ length into.old) }
         ensures some { IfBytes result (λ n. 0 < length into.old → 0 < n) }
-        ensures cause { HasCause self.old.faults self.new.faults (IsErr result) }
-        ensures waits { HasCause self.old.waits self.new.waits (result ≡ Ok Step.NotYet) }
+        ensures cause { HasCause self.old.counts.faults self.new.counts.faults (IsErr result) }
+        ensures waits { HasCause self.old.counts.waits self.new.counts.waits (result ≡ Ok Step.NotYet) }
     {
         match self.input.read(into) {
             Ok(0) if !into.is_empty() => Ok(Step::End),

@@ -35,7 +35,7 @@ impl<R: Net> Model for TcpLinks<R> {
 }
 
 impl<R: Net> TcpLinks<R> {
-    ghost use Rattle.real_outside.specs.Links.{no_counts};
+    ghost use Rattle.real_outside.specs.Adapters.{no_counts};
 
     /// Connections over a runtime, or a reference to one. It listens nowhere so far.
     pub fn new(alloc: Global, rt: R) -> TcpLinks<R>

@@ -3,7 +3,8 @@ use Rattle.std.specs.Prelude.{filter}
 use Rattle.std.proofs.lemmas.Grind.{common_steps}
 use Rattle.std.proofs.lemmas.Fn.{filter_same}
 use Rattle.memory_outside.specs.Links.{AllFull, is_full, sent_of}
-use Rattle.memory_outside.proofs.Pieces.{filter_through, full_ones}
+use Rattle.plain_lists.proofs.Filters.{filter_through}
+use Rattle.memory_outside.proofs.Pieces.{full_ones}
 use Rattle.memory_outside.proofs.memory_links.MemoryLinks.new.Goals as goal
 
 pub invariant_of-result : goal.invariant_of-result

@@ -3,7 +3,8 @@ use Rattle.std.specs.Prelude.{filter, nat_eq, not}
 use Rattle.std.proofs.lemmas.Grind.{common_steps}
 use Rattle.std.proofs.lemmas.Fn.{filter_same}
 use Rattle.memory_outside.specs.Links.{AllFull, sent_of, without}
-use Rattle.memory_outside.proofs.Pieces.{filter_through, full_filtered}
+use Rattle.plain_lists.proofs.Filters.{filter_through}
+use Rattle.memory_outside.proofs.Pieces.{full_filtered}
 use Rattle.memory_outside.proofs.memory_links.MemoryLinks.shut.Goals as goal
 
 pub invariant_of-self : goal.invariant_of-self

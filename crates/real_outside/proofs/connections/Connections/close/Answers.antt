@@ -2,7 +2,7 @@ use Rattle.std.proofs.Common.{◌≡◌, ap, ◌∙◌, map, refl, rules}
 use Rattle.std.specs.Prelude.{filter, nat_eq, not}
 use Rattle.std.proofs.lemmas.Fn.{filter_same}
 use Rattle.real_outside.specs.Links.{open_of, others}
-use Rattle.real_outside.proofs.Counted.{filter_through}
+use Rattle.plain_lists.proofs.Filters.{filter_through}
 use Rattle.real_outside.proofs.connections.Connections.close.Goals as goal
 
 pub returns : goal.returns

@@ -15,7 +15,7 @@ returns-in-Some-clause-state g c =
     let at : get_or (map open_of items) place (open_of old) ≡ open_of old = get_or-map open_of items place old ∙ ap open_of (sym c.index_mut.ensures.value) in
     let found : place_from 0 c.args.conn (map open_of items) ≡ Some place =
     ap (λ ms. place_from 0 c.args.conn (map open_of ms)) (sym c.deref.ensures.value) ∙ sym c.place_of.ensures.place ∙ c.in-Some.is in
-    let now : (old.number, c.read.new.self) ≡ ((get_or (map open_of items) place (open_of old)).0, counts_after (get_or (map open_of items) place (open_of old)).1 c.read.result) =
+    let now : (old.number, c.read.new.self.counts) ≡ ((get_or (map open_of items) place (open_of old)).0, counts_after (get_or (map open_of items) place (open_of old)).1 c.read.result) =
     ap (λ s. (old.number, s)) c.read.ensures.counts ∙ ap (λ o. (o.0, counts_after o.1 c.read.result)) (sym at) in
     map-set open_of items place _ ∙ ap (set (map open_of items) place) now ∙ counted_at place c.args.conn c.read.result (map open_of items) (open_of old) found ∙ ap (counted c.args.conn c.read.result) c.self.view_is
 

@@ -1,6 +1,7 @@
 use Rattle.std.proofs.Common.{◌≡◌, ◌+◌, [], ◌∷◌, ◌++◌, subst, sym, arith}
 use Rattle.std.proofs.lemmas.Grind.{common_steps}
-use Rattle.real_outside.specs.Links.{AllCame, no_counts}
+use Rattle.real_outside.specs.Adapters.{no_counts}
+use Rattle.real_outside.specs.Links.{AllCame}
 use Rattle.real_outside.proofs.Counted.{came_more}
 use Rattle.real_outside.proofs.tcp_links.TcpLinks.take.Goals as goal
 

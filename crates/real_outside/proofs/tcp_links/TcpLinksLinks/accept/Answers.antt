@@ -1,6 +1,7 @@
 use Rattle.std.proofs.Common.{◌≡◌, ◌+◌, [], ◌∷◌, ◌++◌, ap, ◌∙◌, arith}
 use Rattle.std.proofs.lemmas.Grind.{common_steps}
-use Rattle.real_outside.specs.Links.{no_counts, counts_of}
+use Rattle.real_outside.specs.Adapters.{no_counts}
+use Rattle.real_outside.specs.Links.{counts_of}
 use Rattle.real_outside.proofs.Counted.{come_later}
 use Rattle.real_outside.proofs.tcp_links.TcpLinksLinks.accept.Goals as goal
 
