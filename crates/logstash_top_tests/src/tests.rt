@@ -1,3 +1,5 @@
+ghost use Rattle.std.specs.Prelude.{None};
+
 use crate::poll_of;
 use in_lines::{Poll, events_of_polls, write_row};
 use logstash_top::{Status, ThinWorld, logstash};
