@@ -11,7 +11,7 @@ use Rattle.config_laws.specs.declared.symbol.Symbol.{Symbol}
 use Rattle.config_laws.specs.declared.symbol.Symbol.TheVariants as y
 use Rattle.config_laws.specs.declared.symbol.Action.TheVariants as a
 use Rattle.config_laws.specs.Machine.{Stack, Move, refuses, stays, opens, shuts, Step, stuck, deep, goes, step, act, is_blank, may_end, next, blank, rise}
-use Rattle.config_finding.specs.Moves.{bare, next_bare, may_be_blank, is_denial}
+use Rattle.config_finding.specs.Moves.{bare, next_bare, may_be_blank}
 
 pub split0 : {A : Type 0} (xs : List A) (x : A) → slice_get xs 0 ≡ Some x → xs ≡ x ∷ remove xs 0
 split0 [] x h = absurd (cc)

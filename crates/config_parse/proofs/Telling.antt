@@ -1,18 +1,13 @@
 -- What reading tells of the grammar, and what the answers tell of a text.
 use Rattle.std.proofs.Common.{◌≡◌, ℕ, ◌≤◌, ◌<◌, List, length, refl, ap, subst, ◌∙◌, Ok, Err, Result, arith, MatchResult}
-use Rattle.config_grammar.specs.declared.token.Token.{Token}
 use Rattle.config_grammar.specs.declared.tree.Config.{Config}
 use Rattle.config_grammar.specs.Grammar.{ReadsConfig}
 use Rattle.config_grammar.specs.Levels.{IsSyntax, IsDeep}
 use Rattle.config_grammar.specs.declared.token.Lexeme.{Lexeme}
 use Rattle.config_grammar.specs.Lexemes.{lexemes, tokens, place_in}
 use Rattle.config_grammar.specs.Texts.{Reads, IsSyntaxAt, IsDeepAt}
-use Rattle.config_laws.specs.Trees.{made}
-use Rattle.config_laws.specs.declared.symbol.Verdict.TheVariants as is
-use Rattle.config_reading.specs.Read.{config, whole}
 use Rattle.config_reading.specs.declared.error.ReadError.{ReadError}
 use Rattle.config_reading.specs.declared.error.ReadError.TheVariants as errors
-use Rattle.config_parse.specs.Gives.{Fails}
 use Rattle.config_reading.specs.Seen.{seen}
 use Rattle.config_parse.specs.Told.{ToldLeft, Told, placed}
 use Rattle.config_parse.specs.declared.fault.ConfigFault.{ConfigFault}
