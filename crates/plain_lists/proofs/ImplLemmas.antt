@@ -1,5 +1,6 @@
 -- Lists that are compared and members that are cloned one by one.
-use Rattle.std.proofs.Common.{◌≡◌, ℕ, Bool, true, false, ◌&&◌, IsTrue, ◌↔◌, List, [], ◌∷◌, nat_eq, refl, sym, ap, subst, ◌∙◌, rules}
+use Rattle.std.proofs.Common.{◌≡◌, ℕ, Bool, true, ◌&&◌, IsTrue, ◌↔◌, List, [], ◌∷◌, nat_eq, refl, sym, ap, subst, ◌∙◌}
+use Rattle.std.proofs.lemmas.Bool.{and_parts}
 use Rattle.std.proofs.lemmas.Bool.Decides.{Decides-eqb}
 use Rattle.std.specs.List.{AllZip}
 use Rattle.std.specs.Cmp.Lexicographic.{pointwise, pointwise_decides, bytes_decides}
@@ -26,10 +27,6 @@ module _ {V : Type 0} (clones : V → V → Type 0) where
   same_from_clone same (m ∷ ms) [] all = absurd all
   same_from_clone same (m ∷ ms) (n ∷ ns) all = λ i. (all.0.0 i, same m.1 n.1 all.0.1 i) ∷ same_from_clone same ms ns all.1 i
 
-both_true : (s t : Bool) → (s && t) ≡ true → (s ≡ true) × (t ≡ true)
-both_true true t both = (refl, both)
-both_true false t both = absurd (search (both, rules))
-
 module _ {X : Type 0} (test : X → X → Bool) (decides : (x y : X) → IsTrue (test x y) ↔ (x ≡ y)) where
   -- where a test of elements tells which are the same, so does the test of lists
   pub items_exact : (xs ys : List X) (r : Bool) → r ≡ pointwise test xs ys → IsTrue r ↔ (xs ≡ ys)
@@ -39,7 +36,7 @@ module _ {X : Type 0} (test : X → X → Bool) (decides : (x y : X) → IsTrue 
   pub member_exact : (m n : List ℕ × X) → IsTrue (member_eq test m n) ↔ (m ≡ n)
   member_exact m n = (
     λ t.
-        let both = both_true (pointwise nat_eq m.0 n.0) (test m.1 n.1) t in
+        let both = and_parts (pointwise nat_eq m.0 n.0) (test m.1 n.1) t in
         let key : m.0 ≡ n.0 = (bytes_decides m.0 n.0).0 both.0 in
         let value : m.1 ≡ n.1 = (decides m.1 n.1).0 both.1 in
         λ i. (key i, value i),

@@ -4,3 +4,4 @@ pub mod FindLemmas
 pub mod ImplLemmas
 pub mod ChangeLemmas
 pub mod Splits
+pub mod Filters
