@@ -1,5 +1,5 @@
 -- Lists that are compared from the front.
-use Rattle.std.proofs.Common.{◌≡◌, ℕ, zero, suc, ◌+◌, ◌<◌, List, [], ◌∷◌, length, take, map, get_or, ap, sym, subst, add-one, arith}
+use Rattle.std.proofs.Common.{◌≡◌, ℕ, zero, suc, ◌+◌, ◌<◌, List, [], ◌∷◌, length, take, get_or, sym, subst, add-one, arith}
 
 take_suc : {A : Type 0} (xs ys : List A) (i : ℕ) (a b : A) → i < length xs → i < length ys → a ≡ get_or xs i a → b ≡ get_or ys i b → take i xs ≡ take i ys → a ≡ b → take (suc i) xs ≡ take (suc i) ys
 take_suc [] ys i a b l k p q t e = absurd (omega arith)
@@ -16,8 +16,3 @@ same_at [] ys i a b l p q e = absurd (omega arith)
 same_at (x ∷ xs) [] i a b l p q e = absurd (cc)
 same_at (x ∷ xs) (y ∷ ys) zero a b l p q e = cc
 same_at (x ∷ xs) (y ∷ ys) (suc i) a b l p q e = let r : xs ≡ ys = cc in same_at xs ys i a b (omega arith) p q r
-
-pub get_map : {A B : Type 0} (f : A → B) (xs : List A) (i : ℕ) (a : A) → i < length xs → a ≡ get_or xs i a → f a ≡ get_or (map f xs) i (f a)
-get_map f [] i a l p = absurd (omega arith)
-get_map f (x ∷ xs) zero a l p = ap f p
-get_map f (x ∷ xs) (suc i) a l p = get_map f xs i a (omega arith) p

@@ -57,8 +57,5 @@ members_where ms ns e = sym (ap members_in (out-Object ms)) ∙ ap (λ d. member
 pub as_lists : (b : Bool) (xs ys : List Value) → ((b ≡ true) ↔ (xs ≡ ys)) → ((b ≡ true) ↔ (v.List xs ≡ v.List ys))
 as_lists b xs ys h = (λ t. ap v.List (h.0 t), λ e. h.1 (items_where xs ys e))
 
-pub as_lists_back : (b : Bool) (xs ys : List Value) → ((b ≡ true) ↔ (xs ≡ ys)) → ((b ≡ true) ↔ (v.List ys ≡ v.List xs))
-as_lists_back b xs ys h = (λ t. ap v.List (sym (h.0 t)), λ e. h.1 (sym (items_where ys xs e)))
-
 pub as_objects : (b : Bool) (ms ns : Members) → ((b ≡ true) ↔ (ms ≡ ns)) → ((b ≡ true) ↔ (v.Object ms ≡ v.Object ns))
 as_objects b ms ns h = (λ t. ap v.Object (h.0 t), λ e. h.1 (members_where ms ns e))

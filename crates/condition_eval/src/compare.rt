@@ -1,10 +1,10 @@
-ghost use Rattle.std.specs.Prelude.{◌≡◌, ◌↔◌, IsTrue, map};
+ghost use Rattle.std.specs.Prelude.{◌≡◌, ◌↔◌, IsTrue};
 ghost use Rattle.event_tree.specs.declared.value.Value.{out-Value};
 ghost use Rattle.condition_eval.specs.Values as spec;
 ghost use Rattle.condition_eval.specs.Sides as sides;
 
 use crate::number::number_order;
-use crate::side::{Side, kind, side_of_literal, side_of_value};
+use crate::side::{Element, Elements, Side, kind, side_of_element};
 use crate::truth::{Kind, Reason, Truth};
 use config_grammar::Literal;
 use event_tree::{Instant, Number, Text, Value};
@@ -31,7 +31,7 @@ pub(crate) fn compared(left: Side<'_>, right: Side<'_>) -> Order
         Side::Number(number) => after_number(number, right),
         Side::Text(text) => after_text(text, right),
         Side::Time(moment) => after_time(moment, right),
-        Side::Values(_) | Side::Literals(_) => unordered(Kind::List, right),
+        Side::List(_) => unordered(Kind::List, right),
         Side::Object(_) => unordered(Kind::Object, right),
     }
 }
@@ -87,27 +87,35 @@ pub(crate) fn are_equal(left: Side<'_>, right: Side<'_>) -> bool
         (Side::Number(a), Side::Number(b)) => a == b,
         (Side::Text(a), Side::Text(b)) => a == b,
         (Side::Time(a), Side::Time(b)) => a == b,
-        (Side::Values(a), Side::Values(b)) => are_equal_values(a, b),
-        (Side::Values(a), Side::Literals(b)) => are_literals(a, b),
-        (Side::Literals(a), Side::Values(b)) => are_literals(b, a),
-        (Side::Literals(a), Side::Literals(b)) => are_equal_literals(a, b),
+        (Side::List(a), Side::List(b)) => are_equal_elements(a, b),
         (Side::Object(a), Side::Object(b)) => are_equal_members(a.members(), b.members()),
         _ => false,
     }
 }
 
-fn are_equal_values(left: &[Value], right: &[Value]) -> bool
-    ensures { IsTrue result ↔ (left.now ≡ right.now) }
+fn are_equal_elements(left: Elements<'_>, right: Elements<'_>) -> bool
+    ensures { IsTrue result ↔ (sides.values_of left.entry ≡ sides.values_of right.entry) }
 {
     if left.len() != right.len() {
         return false;
     }
     for i in 0..left.len() {
-        if !left[i].same(&right[i]) {
+        if !are_same(left.at(i), right.at(i)) {
             return false;
         }
     }
     true
+}
+
+fn are_same(left: Element<'_>, right: Element<'_>) -> bool
+    ensures { IsTrue result ↔ (sides.element_value left.entry ≡ sides.element_value right.entry) }
+{
+    match (left, right) {
+        (Element::Value(a), Element::Value(b)) => a.same(b),
+        (Element::Value(a), Element::Literal(b)) => is_literal(a, b),
+        (Element::Literal(a), Element::Value(b)) => is_literal(b, a),
+        (Element::Literal(a), Element::Literal(b)) => is_same_literal(a, b),
+    }
 }
 
 fn are_equal_members(left: &[(Text, Value)], right: &[(Text, Value)]) -> bool
@@ -126,20 +134,6 @@ fn are_equal_members(left: &[(Text, Value)], right: &[(Text, Value)]) -> bool
     true
 }
 
-fn are_literals(values: &[Value], literals: &[Literal]) -> bool
-    ensures { IsTrue result ↔ (values.now ≡ map spec.literal_value literals.now) }
-{
-    if values.len() != literals.len() {
-        return false;
-    }
-    for i in 0..values.len() {
-        if !is_literal(&values[i], &literals[i]) {
-            return false;
-        }
-    }
-    true
-}
-
 fn is_literal(value: &Value, literal: &Literal) -> bool
     ensures { IsTrue result ↔ (value.now ≡ spec.literal_value literal.now) }
 {
@@ -148,20 +142,6 @@ fn is_literal(value: &Value, literal: &Literal) -> bool
         (Value::Num(a), Literal::Number(b)) => a == b,
         _ => false,
     }
-}
-
-fn are_equal_literals(left: &[Literal], right: &[Literal]) -> bool
-    ensures { IsTrue result ↔ (map spec.literal_value left.now ≡ map spec.literal_value right.now) }
-{
-    if left.len() != right.len() {
-        return false;
-    }
-    for i in 0..left.len() {
-        if !is_same_literal(&left[i], &right[i]) {
-            return false;
-        }
-    }
-    true
 }
 
 fn is_same_literal(left: &Literal, right: &Literal) -> bool
@@ -181,29 +161,17 @@ pub(crate) fn is_in(left: Side<'_>, right: Side<'_>) -> bool
     ensures { result ≡ spec.is_in (sides.value_of left.entry) (sides.value_of right.entry) }
 {
     match (left, right) {
-        (left, Side::Values(items)) => is_among_values(left, items),
-        (left, Side::Literals(items)) => is_among_literals(left, items),
+        (left, Side::List(elements)) => is_among(left, elements),
         (Side::Text(part), Side::Text(text)) => holds(text.as_str(), part.as_str()),
         _ => false,
     }
 }
 
-fn is_among_values(left: Side<'_>, items: &[Value]) -> bool
-    ensures { result ≡ spec.is_among (sides.value_of left.entry) items.now }
+fn is_among(left: Side<'_>, elements: Elements<'_>) -> bool
+    ensures { result ≡ spec.is_among (sides.value_of left.entry) (sides.values_of elements.entry) }
 {
-    for item in items {
-        if are_equal(left, side_of_value(item)) {
-            return true;
-        }
-    }
-    false
-}
-
-fn is_among_literals(left: Side<'_>, items: &[Literal]) -> bool
-    ensures { result ≡ spec.is_among (sides.value_of left.entry) (map spec.literal_value items.now) }
-{
-    for item in items {
-        if are_equal(left, side_of_literal(item)) {
+    for i in 0..elements.len() {
+        if are_equal(left, side_of_element(elements.at(i))) {
             return true;
         }
     }

@@ -1,4 +1,4 @@
-ghost use Rattle.std.specs.Prelude.{◌≡◌};
+ghost use Rattle.std.specs.Prelude.{◌≡◌, ◌<◌, length, slice_index_or};
 ghost use Rattle.condition_eval.specs.Values as spec;
 ghost use Rattle.condition_eval.specs.Sides as sides;
 
@@ -15,11 +15,46 @@ pub(crate) enum Side<'a> {
     Number(&'a Number),
     Text(&'a Text),
     Time(&'a Instant),
-    /// A list of the event.
-    Values(&'a [Value]),
-    /// A list that the condition writes.
-    Literals(&'a [Literal]),
+    List(Elements<'a>),
     Object(&'a Fields<Value>),
+}
+
+/// The elements of a list.
+#[derive(Clone, Copy)]
+pub(crate) enum Elements<'a> {
+    /// Those of a list of the event.
+    Values(&'a [Value]),
+    /// Those of a list that the condition writes.
+    Literals(&'a [Literal]),
+}
+
+/// An element of a list.
+#[derive(Clone, Copy)]
+pub(crate) enum Element<'a> {
+    Value(&'a Value),
+    Literal(&'a Literal),
+}
+
+impl<'a> Elements<'a> {
+    pub(crate) fn len(self) -> usize
+        ensures { result ≡ length (sides.values_of self.entry) }
+    {
+        match self {
+            Elements::Values(values) => values.len(),
+            Elements::Literals(literals) => literals.len(),
+        }
+    }
+
+    pub(crate) fn at(self, index: usize) -> Element<'a>
+        requires { index < length (sides.values_of self) }
+        ensures { sides.element_value result
+            ≡ slice_index_or (sides.values_of self.entry) index (sides.element_value result) }
+    {
+        match self {
+            Elements::Values(values) => Element::Value(&values[index]),
+            Elements::Literals(literals) => Element::Literal(&literals[index]),
+        }
+    }
 }
 
 /// What an operand is in an event: null where the field is missing.
@@ -33,11 +68,11 @@ pub(crate) fn side_of<'a>(operand: &'a Operand, event: &'a Event) -> Side<'a>
         },
         Operand::Text(text) => Side::Text(text),
         Operand::Number(number) => Side::Number(number),
-        Operand::List(list) => Side::Literals(list.as_slice()),
+        Operand::List(list) => Side::List(Elements::Literals(list.as_slice())),
     }
 }
 
-pub(crate) fn side_of_value(value: &Value) -> Side<'_>
+fn side_of_value(value: &Value) -> Side<'_>
     ensures { sides.value_of result ≡ value.now }
 {
     match value {
@@ -46,17 +81,26 @@ pub(crate) fn side_of_value(value: &Value) -> Side<'_>
         Value::Num(number) => Side::Number(number),
         Value::Text(text) => Side::Text(text),
         Value::Time(moment) => Side::Time(moment),
-        Value::List(items) => Side::Values(items.as_slice()),
+        Value::List(items) => Side::List(Elements::Values(items.as_slice())),
         Value::Object(fields) => Side::Object(fields),
     }
 }
 
-pub(crate) fn side_of_literal(literal: &Literal) -> Side<'_>
+fn side_of_literal(literal: &Literal) -> Side<'_>
     ensures { sides.value_of result ≡ spec.literal_value literal.now }
 {
     match literal {
         Literal::Text(text) => Side::Text(text),
         Literal::Number(number) => Side::Number(number),
+    }
+}
+
+pub(crate) fn side_of_element(element: Element<'_>) -> Side<'_>
+    ensures { sides.value_of result ≡ sides.element_value element.entry }
+{
+    match element {
+        Element::Value(value) => side_of_value(value),
+        Element::Literal(literal) => side_of_literal(literal),
     }
 }
 
@@ -71,7 +115,7 @@ pub(crate) fn kind(side: Side<'_>) -> Kind
         Side::Number(_) => Kind::Number,
         Side::Text(_) => Kind::Text,
         Side::Time(_) => Kind::Time,
-        Side::Values(_) | Side::Literals(_) => Kind::List,
+        Side::List(_) => Kind::List,
         Side::Object(_) => Kind::Object,
     }
 }

@@ -91,3 +91,13 @@ fn long_and_deep_texts_are_refused(rt: HostRuntime) -> Result<(), Fail> {
     }
     Ok(())
 }
+
+// A count is written out in the compiled form: ten thousand states here, and then a million.
+#[test]
+fn a_compiled_form_past_the_limit_is_want_of_memory(rt: HostRuntime) -> Result<(), Fail> {
+    let small = Pattern::new(rt.alloc(), "(a{100}){100}");
+    assert!(rt; small.is_ok());
+    let large = Pattern::new(rt.alloc(), "(a{1000}){1000}");
+    assert!(rt; large.err() == Some(PatternFault::Memory));
+    Ok(())
+}
