@@ -535,13 +535,31 @@ fn put_fault_says(alloc: Global, fault: PutFault, want: &str) -> Result<bool, Al
     Ok(format!(in alloc; "{fault}")?.as_str() == want)
 }
 
+fn path_faults_say(
+    rt: &impl Abort,
+    alloc: Global,
+    faults: &[(PathFault, &str)],
+) -> Result<(), AllocError> {
+    for (fault, want) in faults {
+        assert!(rt; path_fault_says(alloc, *fault, want)?);
+    }
+    Ok(())
+}
+
+fn put_faults_say(
+    rt: &impl Abort,
+    alloc: Global,
+    faults: &[(PutFault, &str)],
+) -> Result<(), AllocError> {
+    for (fault, want) in faults {
+        assert!(rt; put_fault_says(alloc, *fault, want)?);
+    }
+    Ok(())
+}
+
 #[test]
 fn faults_say_what_is_wrong(rt: HostRuntime) -> Result<(), Fail> {
-    for (fault, want) in PATH_FAULTS {
-        assert!(rt; path_fault_says(rt.alloc(), fault, want)?);
-    }
-    for (fault, want) in PUT_FAULTS {
-        assert!(rt; put_fault_says(rt.alloc(), fault, want)?);
-    }
+    path_faults_say(&rt, rt.alloc(), &PATH_FAULTS)?;
+    put_faults_say(&rt, rt.alloc(), &PUT_FAULTS)?;
     Ok(())
 }
