@@ -1,6 +1,6 @@
 use crate::fault_place;
 use crate::tables::{FAULTS, SPELLINGS};
-use element_code::{ElementFault, decode, encode};
+use element_code::{decode, encode};
 use event_text::write_json;
 use event_tree::Event;
 use std::alloc::{AllocError, Global};
@@ -177,20 +177,5 @@ fn an_event_is_appended(rt: HostRuntime) -> Result<(), Fail> {
     bytes.extend_from_slice(b"before")?;
     encode(&Event::new(alloc), &mut bytes)?;
     assert_eq!(rt; bytes.as_slice(), b"before\0\0\0\0\0\0\0\0".as_slice());
-    Ok(())
-}
-
-fn says(alloc: Global, fault: ElementFault, want: &str) -> Result<bool, AllocError> {
-    Ok(format!(in alloc; "{fault}")?.as_str() == want)
-}
-
-#[test]
-fn faults_say_what_is_wrong_and_where(rt: HostRuntime) -> Result<(), Fail> {
-    for (fault, want) in [
-        (ElementFault::At(12), "no event: the fault stands at 12"),
-        (ElementFault::Memory, "out of memory"),
-    ] {
-        assert!(rt; says(rt.alloc(), fault, want)?);
-    }
     Ok(())
 }
