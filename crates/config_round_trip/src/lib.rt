@@ -6,3 +6,6 @@ mod laws;
 
 pub use again::print_and_parse;
 pub use laws::printed_text_reads;
+
+#[cfg(test)]
+mod tests;

@@ -1,9 +1,7 @@
 use crate::tables::{COMPARED, CONDITIONS, NESTED, Row, STRINGS, TEXTS};
 use crate::{is_copied, printed, reads_again};
-use config_parse::{ConfigFault, parse};
 use config_parse_tests::operators::TEXT;
 use config_parse_tests::tables as parsed;
-use config_round_trip::print_and_parse;
 use std::alloc::Global;
 use std::process::Abort;
 use std::test::Fail;
@@ -95,32 +93,5 @@ fn texts_of_the_reader_read_again(rt: HostRuntime) -> Result<(), Fail> {
 #[test]
 fn a_configuration_as_operators_write_them(rt: HostRuntime) -> Result<(), Fail> {
     assert!(rt; is_met(rt.alloc(), TEXT));
-    Ok(())
-}
-
-/// A text that has each part of the language.
-const ALL_PARTS: &str = r#"
-input { stdin { } }
-filter {
-  if !([a][b] == "x" or [n] in [1, -2.50, 'it "is"']) and [m] =~ /a\/b/ nand [@metadata][c] {
-    grok-x { match => { "message" => ["%{IP:ip}", bare] } match => { 7 => "later" } }
-  } else if [d] not in ["e"] xor "f" <= 12 {
-    "if" { if => [{ "k" => 1 }, json { charset => "UTF-8" }, []] }
-  } else { "a b" { } }
-}
-output { stdout { codec => json_lines id => "o" id => out } }
-filter { drop { } }
-"#;
-
-fn comes_back(alloc: Global, text: &str) -> Result<bool, ConfigFault> {
-    let config = parse(alloc, text)?;
-    let again = print_and_parse(alloc, &config)?;
-    Ok(again.same(&config))
-}
-
-#[test]
-fn a_configuration_comes_back(rt: HostRuntime) -> Result<(), Fail> {
-    let met = comes_back(rt.alloc(), ALL_PARTS);
-    assert!(rt; matches!(met, Ok(true)));
     Ok(())
 }
