@@ -11,6 +11,8 @@ mod folders;
 #[cfg(test)]
 mod real_files_tests;
 #[cfg(test)]
+mod sync_tests;
+#[cfg(test)]
 mod tcp_tests;
 
 pub use calls::{
