@@ -6,13 +6,13 @@ root=$(cd "$(dirname "$0")/.." && pwd)
 work=$(mktemp -d)
 trap 'rm -rf "$work"' EXIT
 
-# Proves and builds a program of crates/, and sets `program` to its path.
+# Proves and builds the program that makes the calls, and sets `program` to its path.
 build() {
-    (cd "$root/crates/$1" && rt run) >"$work/build.log" 2>&1 || {
+    (cd "$root/crates/bench_parts" && rt run) >"$work/build.log" 2>&1 || {
         tail -n 5 "$work/build.log"
         exit 1
     }
-    program=$root/crates/$1/out/$1
+    program=$root/crates/bench_parts/out/bench_parts
 }
 
 # The least time of five runs of a command, in nanoseconds. Its output stands in $work/output.

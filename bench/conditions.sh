@@ -1,14 +1,14 @@
 #!/usr/bin/env bash
 # How long does it take to evaluate a condition of ten parts on an event of thirty fields? Runs the
-# program bench_conditions on few and on many rounds; the difference of the two times is that of the
+# program bench_parts on few and on many rounds; the difference of the two times is that of the
 # evaluations, without the start. The least of five runs counts. Each condition is Yes, and all of its
 # parts are evaluated. The event's fields with even numbers are texts, the others numbers.
 . "$(dirname "$0")/common.sh"
 
-build bench_conditions
+build
 
 measure() {
-    echo "$1: $(round_time 1000 "$program" "$2") ns an evaluation"
+    echo "$1: $(round_time 1000 "$program" conditions "$2") ns an evaluation"
 }
 
 text='"a value of some bytes"'

@@ -1,12 +1,12 @@
 #!/bin/sh
-# How fast is crc32? Times the program bench_crc on 1 GiB, beside a C build of the form with one table of
+# How fast is crc32? Times the program bench_parts on 1 GiB, beside a C build of the form with one table of
 # bytes and beside zlib's crc32 by python3, all in the same run, and checks that they agree.
 #
 # Each is run from outside on a file of 64 MiB, with 1 pass over it and with 17. The difference of the two
 # times is that of 16 passes, without the start and the reading of the file. The least of five runs counts.
 . "$(dirname "$0")/common.sh"
 
-build bench_crc
+build
 cc -O2 -o "$work/crc_bytes" "$root/bench/crc_bytes.c"
 python3 -c '
 import random, sys
@@ -23,7 +23,7 @@ measure() {
     cat "$work/output" >>"$work/sums"
 }
 
-measure "crc_frame::crc32" "$program"
+measure "crc_frame::crc32" "$program" crc
 measure "C, one table of bytes" "$work/crc_bytes"
 measure "zlib by python3" python3 "$root/bench/crc_zlib.py"
 if [ "$(sort -u "$work/sums" | wc -l)" -ne 1 ]; then

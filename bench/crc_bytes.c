@@ -41,6 +41,6 @@ int main(int argc, char **argv) {
     uint32_t sum = 0;
     for (size_t start = 0; start < passes && start < len; start++)
         sum ^= crc32(bytes + start, len - start);
-    printf("%08x\n", sum);
+    printf("%u\n", sum);
     return 0;
 }

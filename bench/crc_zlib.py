@@ -8,4 +8,4 @@ with open(sys.argv[1], "rb") as file:
 total = 0
 for start in range(min(int(sys.argv[2]), len(data))):
     total ^= zlib.crc32(data[start:])
-print(f"{total:08x}")
+print(total)

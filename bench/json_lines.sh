@@ -1,12 +1,12 @@
 #!/usr/bin/env bash
 # How fast are JSON lines read and written? Makes 10 MB of JSON lines as a log has them, and reads and
-# writes them through the program bench_json and, in the same run, through python3's json. bench_json
+# writes them through the program bench_parts and, in the same run, through python3's json. bench_parts
 # runs once and eleven times over the file; the difference of the two times is that of ten rounds,
 # without the start. The least of five runs counts (three for python3). Prints MB (1,000,000 bytes) a second of the lines'
 # text.
 . "$(dirname "$0")/common.sh"
 
-build bench_json
+build
 
 awk 'BEGIN {
     for (bytes = 0; bytes < 10000000; i++) {
@@ -19,9 +19,9 @@ awk 'BEGIN {
 size=$(wc -c <"$work/lines")
 
 measure() {
-    once=$(least_time "$program" "$1" 1 "$work/lines")
-    many=$(least_time "$program" "$1" 11 "$work/lines")
-    echo "bench_json $1 $((size * 10 * 1000 / (many - once))) MB/s"
+    once=$(least_time "$program" json "$1" 1 "$work/lines")
+    many=$(least_time "$program" json "$1" 11 "$work/lines")
+    echo "event_json $1 $((size * 10 * 1000 / (many - once))) MB/s"
 }
 
 measure read

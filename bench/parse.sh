@@ -1,11 +1,11 @@
 #!/usr/bin/env bash
-# How fast does a configuration parse? Runs the program bench_parse on a configuration of a megabyte, as
+# How fast does a configuration parse? Runs the program bench_parts on a configuration of a megabyte, as
 # operators write them, with 1 pass and with 11; the difference of the two times is that of ten passes. The
 # least of five runs counts. Prints MB/s and nanoseconds a token, for lexing alone, for parsing whole and for printing
 # what was read.
 . "$(dirname "$0")/common.sh"
 
-build bench_parse
+build
 
 awk 'BEGIN {
     print "input { beats { port => 5044 } }"
@@ -21,10 +21,10 @@ awk 'BEGIN {
 }' >"$work/config"
 
 size=$(wc -c <"$work/config")
-tokens=$("$program" lex "$work/config" 1)
+tokens=$("$program" parse lex 1 "$work/config")
 for call in lex parse print; do
-    one=$(least_time "$program" "$call" "$work/config" 1)
-    many=$(least_time "$program" "$call" "$work/config" 11)
+    one=$(least_time "$program" parse "$call" 1 "$work/config")
+    many=$(least_time "$program" parse "$call" 11 "$work/config")
     awk -v call="$call" -v time=$((many - one)) -v size="$size" -v tokens="$tokens" 'BEGIN {
         printf "%-6s %d bytes, %d tokens: %6.1f ms  %6.1f MB/s  %5.1f ns a token\n",
             call, size, tokens, time / 1e7, size * 1e4 / time, time / 10 / tokens

@@ -1,12 +1,12 @@
 #!/usr/bin/env bash
 # How fast is a pattern? Searches 100,000 lines of an access log with the pattern of such lines
-# (bench/access_log.regex) through the program bench_patterns and, in the same run, through python3's re
-# and perl, and checks that they find the same. Then bench_patterns makes, searches and drops 20,000
+# (bench/access_log.regex) through the program bench_parts and, in the same run, through python3's re
+# and perl, and checks that they find the same. Then it makes, searches and drops 20,000
 # patterns. Prints wall and processor time and peak memory of the fastest of three runs. Needs GNU time.
 . "$(dirname "$0")/common.sh"
 pattern=$root/bench/access_log.regex
 
-build bench_patterns
+build
 
 awk 'BEGIN {
     for (i = 0; i < 100000; i++)
@@ -58,11 +58,11 @@ search() {
     cat "$work/output" >>"$work/all_found"
 }
 
-search "pattern_box" "$program" search
+search "pattern_box" "$program" patterns search
 search "python3, re" python3 "$work/search.py"
 search "perl" perl "$work/search.pl"
 if [ "$(sort -u "$work/all_found" | wc -l)" -ne 1 ]; then
     echo "the searches differ"
     exit 1
 fi
-measure "20,000 patterns" "$program" make "$pattern" 20000
+measure "20,000 patterns" "$program" patterns make "$pattern" 20000

@@ -1,4 +1,4 @@
-/* Makes the calls that bench_store makes, without a store: appends of 300 bytes to a file, with a sync
+/* Makes the calls that bench/store.sh times, without a store: appends of 300 bytes to a file, with a sync
    behind each EVERY-th of them and at the end, and a sync of the folder with the first. */
 #include <fcntl.h>
 #include <libgen.h>

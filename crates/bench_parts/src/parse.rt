@@ -1,12 +1,25 @@
-//! Parses or prints a configuration several times over, for a benchmark that times it from outside (bench/parse.sh).
-#![tactic(auto)]
+//! Parses, lexes or prints a configuration several times over (bench/parse.sh).
 
-use anyhow::{Context, Result};
+use anyhow::{Context, Result, bail};
 use config_grammar::lexemes;
 use config_parse::parse;
 use config_text::print;
 use std::alloc::Global;
-use std::{env, fs};
+use std::fs;
+
+/// How much was parsed, lexed or printed, so many times.
+pub fn run(rt: &HostRuntime, words: &[String]) -> Result<u64> {
+    let [call, times, file] = words else {
+        bail!("usage: parse parse|lex|print TIMES FILE");
+    };
+    let times = times.as_str().parse::<u32>().context("TIMES")?;
+    let text = fs::read_to_string(rt, file.as_str())?;
+    match call.as_str() {
+        "lex" => lexed(rt.alloc(), text.as_str(), times),
+        "print" => printed(rt.alloc(), text.as_str(), times),
+        _ => parsed(rt.alloc(), text.as_str(), times),
+    }
+}
 
 /// Parses the text so many times, and gives the number of statements and plugins at the top of what was read.
 fn parsed(alloc: Global, text: &str, times: u32) -> Result<u64> {
@@ -37,22 +50,4 @@ fn printed(alloc: Global, text: &str, times: u32) -> Result<u64> {
         count = count.wrapping_add(print(alloc, &config)?.len() as u64);
     }
     Ok(count)
-}
-
-fn main(rt: HostRuntime) -> Result<()> {
-    let alloc = rt.alloc();
-    let mut words = env::args(&rt)?.skip(1);
-    let (Some(call), Some(file), Some(times)) = (words.next(), words.next(), words.next()) else {
-        println!(rt; "usage: bench_parse parse|lex|print FILE TIMES")?;
-        return Ok(());
-    };
-    let times = times.parse::<u32>().context("TIMES")?;
-    let text = fs::read_to_string(&rt, file.as_str())?;
-    let count = match call.as_str() {
-        "lex" => lexed(alloc, text.as_str(), times)?,
-        "print" => printed(alloc, text.as_str(), times)?,
-        _ => parsed(alloc, text.as_str(), times)?,
-    };
-    println!(rt; "{count}")?;
-    Ok(())
 }

@@ -1,32 +1,26 @@
-//! Makes calls on an event of thirty fields, to be timed from outside (bench/events.sh).
-#![tactic(auto)]
+//! Makes calls on an event of thirty fields (bench/events.sh).
 
-use anyhow::{Context, Result};
+use anyhow::{Context, Result, bail};
 use event_tree::{Event, Path, Text, Value};
 use std::alloc::Global;
-use std::env;
 
 /// How many fields the event has.
 const FIELDS: u8 = 30;
 
-fn main(rt: HostRuntime) -> Result<()> {
-    let alloc = rt.alloc();
-    let words: Vec<String> = env::args(&rt)?.skip(1).collect(alloc)?;
-    let [call, rounds] = words.as_slice() else {
-        println!(rt; "usage: bench_events get|put|take|copy ROUNDS")?;
-        return Ok(());
+/// How many calls were made in so many rounds.
+pub fn run(alloc: Global, words: &[String]) -> Result<u64> {
+    let [call, rounds] = words else {
+        bail!("usage: events get|put|take|copy ROUNDS");
     };
-    let rounds = rounds.as_str().parse::<u32>().context("rounds")?;
+    let rounds = rounds.as_str().parse::<u32>().context("ROUNDS")?;
     let paths = paths(alloc)?;
     let mut event = event(alloc, &paths)?;
-    let done = match call.as_str() {
-        "get" => gets(&event, &paths, rounds),
-        "put" => puts(alloc, &mut event, &paths, rounds)?,
-        "take" => takes(&mut event, &paths, rounds)?,
-        _ => copies(&event, rounds)?,
-    };
-    println!(rt; "{done}")?;
-    Ok(())
+    match call.as_str() {
+        "get" => Ok(gets(&event, &paths, rounds)),
+        "put" => puts(alloc, &mut event, &paths, rounds),
+        "take" => takes(&mut event, &paths, rounds),
+        _ => copies(&event, rounds),
+    }
 }
 
 /// The paths of the fields, of one and of two parts.

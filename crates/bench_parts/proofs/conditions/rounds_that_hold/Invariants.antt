@@ -1,5 +1,5 @@
 use Rattle.condition_eval.specs.Made.{AreMadeOf}
-use Rattle.bench_conditions.proofs.rounds_that_hold.Given as goal
+use Rattle.bench_parts.proofs.conditions.rounds_that_hold.Given as goal
 
 abbrev pub invariant-loop : goal.invariant-loop
 invariant-loop l = AreMadeOf l.condition l.patterns

@@ -1,30 +1,24 @@
-//! Encodes or decodes an event of nineteen fields, to be timed from outside (bench/elements.sh).
-#![tactic(auto)]
+//! Encodes or decodes an event of nineteen fields (bench/elements.sh).
 
-use anyhow::{Context, Result};
+use anyhow::{Context, Result, bail};
 use element_code::{decode, encode};
 use event_tree::{Event, Instant, Number, Path, Text, Value};
 use std::alloc::Global;
-use std::env;
 
-fn main(rt: HostRuntime) -> Result<()> {
-    let alloc = rt.alloc();
-    let words: Vec<String> = env::args(&rt)?.skip(1).collect(alloc)?;
-    let [call, rounds] = words.as_slice() else {
-        println!(rt; "usage: bench_elements size|encode|decode ROUNDS")?;
-        return Ok(());
+/// The size of the event, or how many bytes so many rounds encode or decode.
+pub fn run(alloc: Global, words: &[String]) -> Result<u64> {
+    let [call, rounds] = words else {
+        bail!("usage: elements size|encode|decode ROUNDS");
     };
-    let rounds = rounds.as_str().parse::<u32>().context("rounds")?;
+    let rounds = rounds.as_str().parse::<u32>().context("ROUNDS")?;
     let event = event(alloc)?;
     let mut bytes = Vec::new(alloc);
     encode(&event, &mut bytes)?;
-    let done = match call.as_str() {
-        "size" => event.size(),
-        "encode" => encodes(&event, &mut bytes, rounds)?,
-        _ => decodes(alloc, &bytes, rounds)?,
-    };
-    println!(rt; "{done}")?;
-    Ok(())
+    match call.as_str() {
+        "size" => Ok(event.size()),
+        "encode" => encodes(&event, &mut bytes, rounds),
+        _ => decodes(alloc, &bytes, rounds),
+    }
 }
 
 /// An event like that of a line of an access log.

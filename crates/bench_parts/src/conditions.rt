@@ -1,6 +1,4 @@
-//! Evaluates a condition on an event of thirty fields, to be timed from outside
-//! (bench/conditions.sh).
-#![tactic(auto)]
+//! Evaluates a condition on an event of thirty fields (bench/conditions.sh).
 
 ghost use Rattle.condition_eval.specs.Made.{AreMadeOf};
 
@@ -11,22 +9,17 @@ use config_parse::parse;
 use event_tree::{Event, Number, Path, Text, Value};
 use pattern_box::Patterns;
 use std::alloc::Global;
-use std::env;
 
 /// How many fields the event has.
 const FIELDS: u8 = 30;
 
-fn main(rt: HostRuntime) -> Result<()> {
-    let alloc = rt.alloc();
-    let words: Vec<String> = env::args(&rt)?.skip(1).collect(alloc)?;
-    let [text, rounds] = words.as_slice() else {
-        println!(rt; "usage: bench_conditions CONDITION ROUNDS")?;
-        return Ok(());
+/// In how many of so many rounds a condition is Yes.
+pub fn run(alloc: Global, words: &[String]) -> Result<u64> {
+    let [text, rounds] = words else {
+        bail!("usage: conditions CONDITION ROUNDS");
     };
-    let rounds = rounds.as_str().parse::<u32>().context("rounds")?;
-    let found = evaluated(alloc, text.as_str(), rounds)?;
-    println!(rt; "{found}")?;
-    Ok(())
+    let rounds = rounds.as_str().parse::<u32>().context("ROUNDS")?;
+    evaluated(alloc, text.as_str(), rounds)
 }
 
 /// In how many rounds the condition of this text is Yes.

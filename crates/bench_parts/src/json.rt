@@ -1,27 +1,22 @@
-//! Reads or writes the JSON lines of a file over and over, to be timed from outside (bench/json_lines.sh).
-#![tactic(auto)]
+//! Reads or writes the JSON lines of a file over and over (bench/json_lines.sh).
 
-use anyhow::{Context, Result};
+use anyhow::{Context, Result, bail};
 use event_json::{read_json, write_json};
 use event_tree::Value;
 use std::alloc::Global;
-use std::{env, fs};
+use std::fs;
 
-fn main(rt: HostRuntime) -> Result<()> {
-    let alloc = rt.alloc();
-    let words: Vec<String> = env::args(&rt)?.skip(1).collect(alloc)?;
-    let [call, rounds, path] = words.as_slice() else {
-        println!(rt; "usage: bench_json read|write ROUNDS FILE")?;
-        return Ok(());
+/// How many lines of a file are read, or how many bytes their values are written as, in so many rounds.
+pub fn run(rt: &HostRuntime, words: &[String]) -> Result<u64> {
+    let [call, rounds, path] = words else {
+        bail!("usage: json read|write ROUNDS FILE");
     };
-    let rounds = rounds.as_str().parse::<u32>().context("rounds")?;
-    let text = fs::read_to_string(&rt, path.as_str())?;
-    let done = match call.as_str() {
-        "read" => reads(alloc, text.as_str(), rounds),
-        _ => writes(alloc, text.as_str(), rounds)?,
-    };
-    println!(rt; "{done}")?;
-    Ok(())
+    let rounds = rounds.as_str().parse::<u32>().context("ROUNDS")?;
+    let text = fs::read_to_string(rt, path.as_str())?;
+    match call.as_str() {
+        "read" => Ok(reads(rt.alloc(), text.as_str(), rounds)),
+        _ => writes(rt.alloc(), text.as_str(), rounds),
+    }
 }
 
 /// How many lines are JSON texts, over all rounds.
