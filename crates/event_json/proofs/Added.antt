@@ -16,9 +16,6 @@ replacement_is = refl
 pub low_alone : (u : ℕ) → is_high u ≡ false → is_low u ≡ true → alone u ≡ replacement
 low_alone u h l = rw (h, l) refl
 
-pub scalar_alone : (u : ℕ) → is_high u ≡ false → is_low u ≡ false → alone u ≡ encode_utf8 u
-scalar_alone u h l = rw (h, l) refl
-
 pub not_joined : (h u : ℕ) → is_low u ≡ false → joined (Some h) u ≡ replacement ++ alone u
 not_joined h u l = rw l refl
 
