@@ -16,15 +16,8 @@ replacement_is = refl
 pub low_alone : (u : ℕ) → is_high u ≡ false → is_low u ≡ true → alone u ≡ replacement
 low_alone u h l = rw (h, l) refl
 
-pub scalar_alone : (u : ℕ) → is_high u ≡ false → is_low u ≡ false → alone u ≡ encode_utf8 u
-scalar_alone u h l = rw (h, l) refl
-
 pub not_joined : (h u : ℕ) → is_low u ≡ false → joined (Some h) u ≡ replacement ++ alone u
 not_joined h u l = rw l refl
-
-pub added_two : {T E : Type 0} (r : Result T E) (one two whole old middle new : List ℕ) → whole ≡ one ++ two → middle ≡ old ++ one → OnOk r (new ≡ middle ++ two) → OnOk r (new ≡ old ++ whole)
-added_two (Ok x) one two whole old middle new e f g = g ∙ ap (λ l. l ++ two) f ∙ append_assoc old one two ∙ ap (λ l. old ++ l) (sym e)
-added_two (Err x) one two whole old middle new e f g = tt
 
 -- at the end of the bytes more of a word is wanted
 pub word_nothing : (ws rest : List ℕ) → 0 < length ws → length rest ≡ 0 → after_word ws rest ≡ Err (At (length rest))

@@ -1,5 +1,6 @@
 -- What the least form of a number is.
 use Rattle.std.proofs.Common.{◌≡◌, ℕ, zero, suc, ◌+◌, ◌-◌, ◌*◌, ◌/◌, ◌%◌, ◌<◌, ◌≤◌, nat_le, if◌then◌else◌, ℤ, pos, negsuc, unsigned_abs, Bool, true, false, Option, Some, None, refl, sym, ap, subst, ◌∙◌, arith, rules, inl, inr}
+use Rattle.std.proofs.lemmas.Option.{same_Some}
 use Rattle.std.specs.Prelude.{int_rem, int_div}
 use Rattle.std.specs.Ordering.{int_eq}
 use Rattle.std.proofs.lemmas.Int.{ints}
@@ -9,7 +10,6 @@ use Rattle.event_tree.specs.NumberTexts.{signed, tens}
 use Rattle.event_tree.proofs.Tens.{tens-ten, tens-add, tens-cancel}
 use Rattle.json_grammar.proofs.Tests.{bool_cases}
 use Rattle.event_json.specs.LeastForms.{IsValueOf}
-use Rattle.event_json.proofs.NumberParts.{some_same}
 
 sign_of : (m : ℤ) → (negative : Bool) × (m ≡ signed negative (unsigned_abs m))
 sign_of (pos n) = (false, refl)
@@ -44,14 +44,14 @@ here : (m : ℤ) (s : ℕ) (n : Num) → IsLeast m s → ◌≡◌ {A = Num} (re
 here m s n l e = subst (λ x. IsTheLeast x m s) e (l, itself m s)
 
 pub least_some : (m : ℤ) (s : ℕ) (n : Num) → least m s ≡ Some n → IsTheLeast n m s
-least_some m zero n h = here m zero n (record { few = omega arith; trimmed = inl refl }) (some_same (record { mantissa = m; scale = 0 }) n h)
+least_some m zero n h = here m zero n (record { few = omega arith; trimmed = inl refl }) (same_Some (record { mantissa = m; scale = 0 }) n h)
 least_some m (suc s) n h = bool_cases (int_eq (int_rem m (pos 10)) (pos 0)) (λ e. deeper e (least_some (int_div m (pos 10)) s n (rw e at h))) (λ e. ends e (nat_le (suc s) 18) refl (rw e at h))
   where
     deeper : int_eq (int_rem m (pos 10)) (pos 0) ≡ true → IsTheLeast n (int_div m (pos 10)) s → IsTheLeast n m (suc s)
     deeper e i = (i.0, raised m s n (rem_is m e) i.1)
 
     ends : int_eq (int_rem m (pos 10)) (pos 0) ≡ false → (t : Bool) → nat_le (suc s) 18 ≡ t → ◌≡◌ {A = Option Num} (if t then Some (record { mantissa = m; scale = suc s }) else None) (Some n) → IsTheLeast n m (suc s)
-    ends e true t k = let few : suc s ≤ 18 = grind (arith, nat_tests) in here m (suc s) n (record { few = few; trimmed = inr e }) (some_same (record { mantissa = m; scale = suc s }) n k)
+    ends e true t k = let few : suc s ≤ 18 = grind (arith, nat_tests) in here m (suc s) n (record { few = few; trimmed = inr e }) (same_Some (record { mantissa = m; scale = suc s }) n k)
     ends e false t k = absurd (search (k, rules))
 
 -- digits that more places lead to end in a zero

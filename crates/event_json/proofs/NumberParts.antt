@@ -1,5 +1,6 @@
 -- What the parts of a number's text are, and that a text which has such parts is a number of the grammar.
 use Rattle.std.proofs.Common.{◌≡◌, ℕ, ◌<◌, ◌≤◌, ◌==◌, ◌||◌, not, Bool, true, false, if◌then◌else◌, List, [], ◌∷◌, ◌++◌, length, Option, Some, None, option_map, option_and_then, refl, sym, ap, subst, ◌∙◌, arith, rules, inl, inr, ◌⊎◌, eqb-true}
+use Rattle.std.proofs.lemmas.Option.{same_Some, some_pair_parts}
 use Rattle.std.specs.Prelude.{⊤}
 use Rattle.std.proofs.lemmas.Bool.Decides.{nat_tests}
 use Rattle.std.proofs.lemmas.List.{append-nil}
@@ -11,9 +12,6 @@ use Rattle.json_grammar.proofs.Tests.{bool_cases}
 use Rattle.json_grammar.proofs.Only.{digit_bounds}
 use Rattle.event_json.proofs.WrittenNumbers.{front_all, behind_all, same_digits}
 use Rattle.event_json.specs.NumberGrammar.{behind_first, is_negative, without_sign, parts_of, IsNumberText}
-
-pub some_same : {A : Type 0} (a b : A) → Some a ≡ Some b → a ≡ b
-some_same a b e = ap (λ o. elim o [ None ↦ a | Some x ↦ x ]) e
 
 -- ---- digits
 
@@ -147,22 +145,19 @@ whole_from [] a h = absurd (no_whole h)
 whole_from (b ∷ []) a h = bool_cases (b == 48) (λ t. inl (eqb-true b 48 t, refl)) (λ t. let d = digit_bounds b a.0 in inr (grind (arith, nat_tests), d.1, tt))
 whole_from (b ∷ c ∷ ds) a h = bool_cases (b == 48) (λ t. absurd (zero_alone b c ds h t)) (λ t. let d = digit_bounds b a.0 in inr (grind (arith, nat_tests), d.1, same_digits (c ∷ ds) a.1))
 
-pair_is : {A B : Type 0} (a b : A × B) → Some a ≡ Some b → (a.0 ≡ b.0) × (a.1 ≡ b.1)
-pair_is {A} {B} a b h = let e : ◌≡◌ {A = A × B} a b = some_same a b h in (ap (λ r. r.0) e, ap (λ r. r.1) e)
-
 some_from : (ds rest : List ℕ) (f : List ℕ × List ℕ) → some_digits ds rest ≡ Some f → (0 < length ds) × (ds ≡ f.0) × (rest ≡ f.1)
 some_from ds rest f h = by (length ds == 0) refl h
   where
     by : (t : Bool) → (length ds == 0) ≡ t → ◌≡◌ {A = Option (List ℕ × List ℕ)} (if t then None else Some (ds, rest)) (Some f) → (0 < length ds) × (ds ≡ f.0) × (rest ≡ f.1)
     by true e k = absurd (search (k, rules))
-    by false e k = let s = pair_is (ds, rest) f k in (some_left ds e, s.0, s.1)
+    by false e k = let s = some_pair_parts ds f.0 rest f.1 k in (some_left ds e, s.0, s.1)
 
 -- the fraction in front of what is behind it
 abbrev HasFraction : List ℕ → List ℕ × List ℕ → Type 0
 HasFraction cs f = (part : List ℕ) × g.IsFraction part × (behind_first part ≡ f.0) × (cs ≡ part ++ f.1)
 
 fraction_from : (cs : List ℕ) (f : List ℕ × List ℕ) → fraction_of cs ≡ Some f → HasFraction cs f
-fraction_from [] f h = let s = pair_is ([], []) f h in ([], tt, s.0, s.1)
+fraction_from [] f h = let s = some_pair_parts [] f.0 [] f.1 h in ([], tt, s.0, s.1)
 fraction_from (b ∷ bs) f h = bool_cases (b == 46) (λ e. point e (rw e at h)) (λ e. none (rw e at h))
   where
     point : (b == 46) ≡ true → some_digits (digits_front bs) (digits_behind bs) ≡ Some f → HasFraction (b ∷ bs) f
@@ -170,7 +165,7 @@ fraction_from (b ∷ bs) f h = bool_cases (b == 46) (λ e. point e (rw e at h)) 
         (b ∷ digits_front bs, (eqb-true b 46 e, (s.0, same_digits (digits_front bs) (front_are_digits bs))), s.1, ap (λ (ys : List ℕ). b ∷ ys) (front_behind bs ∙ ap (λ (ys : List ℕ). digits_front bs ++ ys) s.2))
 
     none : ◌≡◌ {A = Option (List ℕ × List ℕ)} (Some ([], b ∷ bs)) (Some f) → HasFraction (b ∷ bs) f
-    none k = let s = pair_is ([], b ∷ bs) f k in ([], tt, s.0, s.1)
+    none k = let s = some_pair_parts [] f.0 (b ∷ bs) f.1 k in ([], tt, s.0, s.1)
 
 only_from : (lower : Bool) (u : List ℕ) (e : Bool × List ℕ) → only_digits lower (digits_front u) (digits_behind u) ≡ Some e → g.AreSomeDigits u × (lower ≡ e.0) × (u ≡ e.1)
 only_from lower u e h = by (length (digits_front u) == 0) (length (digits_behind u) == 0) refl refl h
@@ -181,7 +176,7 @@ only_from lower u e h = by (length (digits_front u) == 0) (length (digits_behind
     by : (s t : Bool) → (length (digits_front u) == 0) ≡ s → (length (digits_behind u) == 0) ≡ t → ◌≡◌ {A = Option (Bool × List ℕ)} (if s || not t then None else Some (lower, digits_front u)) (Some e) → g.AreSomeDigits u × (lower ≡ e.0) × (u ≡ e.1)
     by true t f k m = absurd (search (m, rules))
     by false false f k m = absurd (search (m, rules))
-    by false true f k m = let s = pair_is (lower, digits_front u) e m in
+    by false true f k m = let s = some_pair_parts lower e.0 (digits_front u) e.1 m in
         (subst g.AreSomeDigits (sym (all k)) (some_left (digits_front u) f, same_digits (digits_front u) (front_are_digits u)), s.0, all k ∙ s.1)
 
 abbrev IsPowerOf : List ℕ → Bool × List ℕ → Type 0
@@ -204,7 +199,7 @@ letter : (b : ℕ) → (b == 101 || b == 69) ≡ true → (b ≡ 101) ⊎ (b ≡
 letter b h = bool_cases (b == 101) (λ t. inl (eqb-true b 101 t)) (λ t. inr (eqb-true b 69 (rw t at h)))
 
 exponent_from : (cs : List ℕ) (e : Bool × List ℕ) → exponent_of cs ≡ Some e → g.IsExponent cs × (is_negative (behind_first cs) ≡ e.0) × (without_sign (behind_first cs) ≡ e.1)
-exponent_from [] e h = let s = pair_is (false, []) e h in (tt, s.0, s.1)
+exponent_from [] e h = let s = some_pair_parts false e.0 [] e.1 h in (tt, s.0, s.1)
 exponent_from (b ∷ bs) e h = by (b == 101 || b == 69) refl h
   where
     by : (t : Bool) → (b == 101 || b == 69) ≡ t → ◌≡◌ {A = Option (Bool × List ℕ)} (if t then power bs else None) (Some e) → g.IsExponent (b ∷ bs) × (is_negative bs ≡ e.0) × (without_sign bs ≡ e.1)
@@ -230,7 +225,7 @@ module _ (negative : Bool) (bs : List ℕ) (d : Decimal) where
         fr.1,
         ex.0,
         front_behind bs ∙ ap (λ (ys : List ℕ). digits_front bs ++ ys) fr.3,
-        sym (some_same (decimal_with negative (digits_front bs) f.0 e) d h)
+        sym (same_Some (decimal_with negative (digits_front bs) f.0 e) d h)
             ∙ ap (λ (ys : List ℕ). decimal_with negative (digits_front bs) ys e) (sym fr.2)
             ∙ ap (λ (l : Bool). decimal_with negative (digits_front bs) (behind_first fr.0) (l, e.1)) (sym ex.1)
             ∙ ap (λ (ys : List ℕ). decimal_with negative (digits_front bs) (behind_first fr.0) (is_negative (behind_first f.1), ys)) (sym ex.2),

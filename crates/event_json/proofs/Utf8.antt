@@ -13,7 +13,7 @@ use lib.Utf8.{scalars, scalar, encodes, encode}
 use Rattle.event_tree.specs.Number.{Num}
 use Rattle.std.proofs.Common.{Result, Ok, Err, OnOk}
 use Rattle.event_tree.proofs.Orders.{first, second}
-use Rattle.event_json.specs.Adds.{Adds}
+use Rattle.event_tree.specs.Adds.{Adds}
 use Rattle.event_json.specs.TimeText.{digit, nine_digits, two_digits, four_digits, date_text, clock_text, date_time_text, fraction_text, decimals_of, nanos_in_day, year_of, month_of, day_in_month, time_text_of}
 use Rattle.event_json.specs.Json.{escaped, quoted, hex_digit, zeros, pointed, sign_of, number_text}
 

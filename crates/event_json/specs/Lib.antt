@@ -1,6 +1,5 @@
 pub mod TimeText
 pub mod Json
-pub mod Adds
 pub mod Stops
 pub mod Faults
 pub mod Timeless

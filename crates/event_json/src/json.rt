@@ -2,7 +2,7 @@ ghost use Rattle.std.specs.Prelude.{◌≡◌, ◌<◌, ◌≤◌, ◌+◌, ◌-
 ghost use Rattle.event_tree.specs.Values.{on_values};
 ghost use Rattle.event_json.specs.TimeText.{time_text_of};
 ghost use Rattle.event_json.specs.Json.{json, quoted, escaped, items_json, members_json, comma_if, number_text, sign_of, pointed, zeros, hex_digit};
-ghost use Rattle.event_json.specs.Adds.{Adds, Keeps};
+ghost use Rattle.event_tree.specs.Adds.{Adds, Keeps};
 
 use crate::string::run_length;
 use crate::time::time_text;

@@ -1,5 +1,6 @@
 -- The laws of paths at events.
 use Rattle.std.proofs.Common.{◌≡◌, ◌≢◌, ℕ, ◌<◌, List, [], ◌∷◌, ◌++◌, length, Bool, true, false, nat_lt, if◌then◌else◌, Option, Some, None, Result, Ok, Err, option_map, option_and_then, refl, sym, ap, ◌∙◌, rules, arith}
+use Rattle.std.proofs.lemmas.Option.{same_Some}
 use Rattle.event_tree.specs.Values.{Members}
 use Rattle.event_tree.specs.Paths.{at, put, take}
 use Rattle.event_tree.specs.Events.{Ev, IsEvent, event_depth, event_size, event_at, event_put, event_take, take_meta, object_in, object, object_put, with_fields, with_meta, limited}
@@ -9,7 +10,6 @@ use Rattle.event_tree.specs.declared.value.Value.{Value, out-Value, roll-Value, 
 use Rattle.event_tree.specs.declared.value.Value.TheOpen.{Value-F}
 use Rattle.event_tree.specs.declared.value.Value.TheVariants as v
 use Rattle.event_text.specs.PathLaws.{IsNoList, event_passes_end, to}
-use Rattle.event_json.proofs.NumberParts.{some_same}
 use Rattle.event_text.proofs.PutGets.{at_put, at_put_other}
 use Rattle.event_text.proofs.TakeGets.{taken, at_take, at_take_other}
 
@@ -39,7 +39,7 @@ object_same x y h = cases (out-Value x) (sym (roll-out-Value x)) h
     cases (Value-F.Text s) e h = absurd (search (h, rules))
     cases (Value-F.Time t) e h = absurd (search (h, rules))
     cases (Value-F.List vs) e h = absurd (search (h, rules))
-    cases (Value-F.Object ms) e h = e ∙ v.rolls-Object ms ∙ some_same (v.Object ms) y h
+    cases (Value-F.Object ms) e h = e ∙ v.rolls-Object ms ∙ same_Some (v.Object ms) y h
 
 put_same : (o : Option Value) (y : Value) → option_and_then object o ≡ Some y → o ≡ Some y
 put_same None y h = absurd (search (h, rules))
@@ -48,7 +48,7 @@ put_same (Some x) y h = ap Some (object_same x y h)
 -- what an event became, where one of its objects became y
 became : {A : Type 0} (f : A → Ev) (o : Option A) (new : Ev) → option_map f o ≡ Some new → (y : A) × (o ≡ Some y) × (new ≡ f y)
 became f None new h = absurd (search (h, rules))
-became f (Some y) new h = (y, refl, sym (some_same (f y) new h))
+became f (Some y) new h = (y, refl, sym (same_Some (f y) new h))
 
 pub put_got : (meta : Bool) (ps : List (List ℕ)) (d : Value) (old new : Ev) → limited (event_put (to meta ps) d old) ≡ Ok new → event_at (to meta ps) new ≡ (if event_passes_end (to meta ps) old then None else Some d)
 put_got true ps d old new h = let b = became (with_meta old) (object_put ps d old.meta) new (within (event_put (to true ps) d old) new h) in
@@ -84,7 +84,7 @@ taken_got false (p ∷ ps) e some = first_of (with_fields e) (take (p ∷ ps) e.
 left_of : {A B : Type 0} (f : A → B) (o : Option (Value × A)) (x : Value) (new : B) → option_map {U = Value × B} (λ r. (r.0, f r.1)) o ≡ Some (x, new) → (y : A) × (o ≡ Some (x, y)) × (new ≡ f y)
 left_of f None x new h = absurd (search (h, rules))
 left_of {A} {B} f (Some r) x new h =
-    let e : ◌≡◌ {A = Value × B} (r.0, f r.1) (x, new) = some_same (r.0, f r.1) (x, new) h in
+    let e : ◌≡◌ {A = Value × B} (r.0, f r.1) (x, new) = same_Some (r.0, f r.1) (x, new) h in
     (r.1, ap (λ y. Some (y, r.1)) (ap (λ s. s.0) e), sym (ap (λ s. s.1) e))
 
 take_inner : (ps : List (List ℕ)) (d : Value) → 0 < length ps → take_meta ps d ≡ take ps d
@@ -123,4 +123,4 @@ meta_emptied x old new h = let l = left_of (with_meta old) (take_meta [] old.met
     let y : l.0 ≡ v.Object [] = empty l.0 l.1 in ap (λ e. Some e.meta) l.2 ∙ ap Some y
   where
     empty : (y : Value) → ◌≡◌ {A = Option (Value × Value)} (Some (old.meta, v.Object [])) (Some (x, y)) → y ≡ v.Object []
-    empty y e = sym (ap (λ r. r.1) (some_same (old.meta, v.Object []) (x, y) e))
+    empty y e = sym (ap (λ r. r.1) (same_Some (old.meta, v.Object []) (x, y) e))

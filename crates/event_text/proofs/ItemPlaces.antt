@@ -1,10 +1,9 @@
 -- The places that a part names in a list before and after an item is set or added.
 use Rattle.std.proofs.Common.{◌≡◌, ℕ, zero, suc, ◌-◌, ◌≤◌, ◌==◌, List, [], ◌∷◌, ◌++◌, length, Bool, true, false, if◌then◌else◌, Option, Some, None, option_map, option_and_then, refl, sym, ap, ◌∙◌, rules, arith, slice_get, slice_set}
-use Rattle.std.proofs.lemmas.Option.{slice_get_past}
+use Rattle.std.proofs.lemmas.Option.{slice_get_past, same_Some}
 use Rattle.event_tree.proofs.Tens.{at_most_some, at_most_within}
 use Rattle.event_tree.specs.Paths.{digits, at_most, place}
 use Rattle.event_text.specs.PathLaws.{is_from_end}
-use Rattle.event_json.proofs.NumberParts.{some_same}
 
 pub get_set : {X : Type 0} (xs : List X) (i : ℕ) (x y : X) → slice_get xs i ≡ Some x → slice_get (slice_set xs i y) i ≡ Some y
 get_set [] i x y h = absurd (search (h, rules))
@@ -41,7 +40,7 @@ back_more n (Some k) i h le = cases (at_most n (Some k)) refl h
     cases None e g = absurd (search (g, rules))
     cases (Some j) e g =
         let m = at_most_some n k j e in
-        let left : n - j ≡ i = some_same (n - j) i g in
+        let left : n - j ≡ i = same_Some (n - j) i g in
         let first : suc n - k ≡ suc n = omega (arith, m.0, m.1, left, le) in
         ap (option_map (λ k. suc n - k)) (at_most_within (suc n) k (omega (arith, m.1))) ∙ ap Some first
 

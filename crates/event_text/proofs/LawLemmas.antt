@@ -1,5 +1,6 @@
 -- The laws of paths and numbers.
 use Rattle.std.proofs.Common.{◌≡◌, ◌≢◌, ℕ, suc, ◌+◌, ◌-◌, ◌*◌, ◌<◌, inl, inr, List, ◌++◌, Bool, true, false, pos, refl, sym, ap, subst, ◌∙◌, arith, rules, Option, Some, None}
+use Rattle.std.proofs.lemmas.Option.{same_Some}
 use Rattle.std.specs.Prelude.{int_rem}
 use Rattle.std.specs.Ordering.{int_eq}
 use Rattle.std.proofs.lemmas.Int.{ints}
@@ -11,7 +12,6 @@ use Rattle.event_tree.specs.PathTexts.{IsPathText, IsPathFault}
 use Rattle.event_tree.proofs.Tens.{tens-add, tens-cancel}
 use Rattle.std.specs.Option.{IfSome}
 use Rattle.event_json.specs.Json.{number_text}
-use Rattle.event_json.proofs.NumberParts.{some_same}
 use Rattle.event_json.proofs.WrittenNumbers.{number_text_reads}
 use Rattle.event_text.specs.PathReading.{parts_in}
 use Rattle.event_text.proofs.PathReads.{path_text, empty_fault, unclosed_fault, stray_fault}
@@ -20,7 +20,7 @@ use Rattle.event_tree.specs.declared.fault.PathFault.{PathFault}
 use Rattle.event_tree.specs.declared.fault.PathFault.TheVariants.{Empty, Unclosed, Stray, Memory}
 
 pub path_once : (ps qs : List (List ℕ)) (text : List ℕ) → IsPathText ps text → IsPathText qs text → ps ≡ qs
-path_once ps qs text h k = some_same ps qs (sym (path_text ps text h) ∙ path_text qs text k)
+path_once ps qs text h k = same_Some ps qs (sym (path_text ps text h) ∙ path_text qs text k)
 
 true_false : true ≡ false → ⊥
 true_false e = search (e, rules)
@@ -32,7 +32,7 @@ path_faulty (Stray at) text n h = stray_fault at text h
 path_faulty Memory text n h = absurd (n refl)
 
 pub fault_once : (fault other : PathFault) (text : List ℕ) → fault ≢ Memory → other ≢ Memory → IsPathFault fault text → IsPathFault other text → fault ≡ other
-fault_once fault other text n m h k = some_same fault other (sym (fault_is fault text n h) ∙ fault_is other text m k)
+fault_once fault other text n m h k = same_Some fault other (sym (fault_is fault text n h) ∙ fault_is other text m k)
 
 ten_divides : (negative : Bool) (x : ℕ) → int_rem (signed negative (10 * x)) (pos 10) ≡ pos 0
 ten_divides true x = omega (arith, ints)
@@ -67,7 +67,7 @@ lower_scale d n m less least h k =
 
 pub number_once : (n m : Num) (text : List ℕ) → IsLeast n.mantissa n.scale → IsLeast m.mantissa m.scale → NumberReads (Some n) text → NumberReads (Some m) text → n ≡ m
 number_once n m text nl ml h k =
-    let same : h.0 ≡ k.0 = some_same h.0 k.0 (sym h.1 ∙ k.1) in
+    let same : h.0 ≡ k.0 = same_Some h.0 k.0 (sym h.1 ∙ k.1) in
     let stands : StandsFor n k.0 = subst (StandsFor n) same h.2 in
     elim (cases_order n.scale m.scale) [
       | inl e ↦ same_scale k.0 n m e stands k.2

@@ -69,14 +69,8 @@ boundary_inside bytes at u h is =
     let e : at + 1 + 1 ≡ at + 2 = omega arith in
     subst (λ i. IsCharBoundary bytes i) e (IsCharBoundary-after_ascii bytes (at + 1) u (omega arith) (is_123 (get_or bytes (at + 1) 0) (second _ _ (opened bytes at h is))))
 
-pub boundary_close : (bytes : List ℕ) (close : ℕ) → close < length bytes → get_or bytes close 0 ≡ 125 → IsCharBoundary bytes close
-boundary_close bytes close h is = IsCharBoundary-before_ascii bytes close h (omega arith)
-
 inside_is : (bytes : List ℕ) (at : ℕ) → drop 2 (drop at bytes) ≡ drop (at + 2) bytes
 inside_is bytes at = drop-drop 2 at bytes
-
-pub not_opened : (text : List ℕ) → opens text ≡ false → placeholder text ≡ None
-not_opened text h = ap (λ t. if t then option_and_then placed (before_close (drop 2 text)) else None) h
 
 pub not_closed : (bytes : List ℕ) (at : ℕ) → opens (drop at bytes) ≡ true → before_close (drop (at + 2) bytes) ≡ None → placeholder (drop at bytes) ≡ None
 not_closed bytes at is none =

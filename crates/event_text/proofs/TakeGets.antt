@@ -1,5 +1,6 @@
 -- What stood at a path before a take, and what stands there behind it.
 use Rattle.std.proofs.Common.{◌≡◌, ◌≢◌, ℕ, ◌<◌, List, [], ◌∷◌, ◌++◌, length, true, Option, Some, None, option_map, option_and_then, refl, sym, ap, subst, ◌∙◌, rules, arith, slice_get, slice_set, remove}
+use Rattle.std.proofs.lemmas.Option.{same_Some}
 use Rattle.plain_lists.specs.Members.{Rises, get_member, set_member, remove_member}
 use Rattle.plain_lists.proofs.ChangeLemmas.{get_member-set_member, get_member-remove_member, get_member-set_member-other, get_member-remove_member-other}
 use Rattle.event_tree.specs.Values.{Members}
@@ -12,7 +13,6 @@ use Rattle.event_tree.proofs.Orders.{ordered-List, items_ordered-get, ordered-ge
 use Rattle.event_tree.proofs.PutLaws.{list_no_object}
 use Rattle.event_tree.proofs.Shapes.{Shape, shape_of, is_null, is_bool, is_number, is_text, is_time, is_list, is_object}
 use Rattle.event_text.specs.PathLaws.{IsNoList}
-use Rattle.event_json.proofs.NumberParts.{some_same}
 use Rattle.event_text.proofs.Levels.{step-List, step-Object, Cut, cut_item, cut_field, was_cut, CutThrough, in_item, in_field, was_cut_through}
 use Rattle.event_text.proofs.ItemPlaces.{step_set, step_is}
 
@@ -152,7 +152,7 @@ module _ (p : List ℕ) (x : Value) where
 
   -- behind a take from an object nothing stands at its path
   pub at_take : (front : List (List ℕ)) (old new : Value) (ms : Members) → ordered old ≡ true → at front old ≡ Some (v.Object ms) → take (front ++ p ∷ []) old ≡ Some (x, new) → at (front ++ p ∷ []) new ≡ None
-  at_take [] old new ms o is h = let same : old ≡ v.Object ms = some_same old (v.Object ms) is in gone_here old new ms same (rises_of ms (ap ordered (sym same) ∙ o)) (was_cut p x old new h)
+  at_take [] old new ms o is h = let same : old ≡ v.Object ms = same_Some old (v.Object ms) is in gone_here old new ms same (rises_of ms (ap ordered (sym same) ∙ o)) (was_cut p x old new h)
   at_take (r ∷ front) old new ms o is h =
       one_further r (take (front ++ p ∷ [])) x old new (at (r ∷ (front ++ p ∷ [])) new ≡ None)
       (λ e y was now cut. ap (option_and_then (at (front ++ p ∷ []))) now

@@ -1,20 +1,21 @@
--- A put into one of the two objects of an event, where there is room for so many more bytes.
+-- A put into one of the two objects of an event, where there is room for so many more bytes, and what is taken from one of them.
 use Rattle.std.proofs.Common.{◌≡◌, ℕ, ◌+◌, ◌-◌, ◌<◌, ◌≤◌, max, List, [], ◌∷◌, length, Bool, true, false, cond, Option, Some, None, option_map, option_and_then, Ok, Err, nat_lt, refl, sym, ap, subst, ◌∙◌, arith, rules}
 use Rattle.std.specs.Prelude.{is_some}
 use Rattle.std.proofs.lemmas.Bool.Decides.{nat_tests}
 use Rattle.event_tree.specs.Values.{depth}
 use Rattle.event_tree.specs.Sizes.{size, less}
 use Rattle.event_tree.specs.Ordered.{ordered}
-use Rattle.event_tree.specs.Paths.{put}
+use Rattle.event_tree.specs.Paths.{put, take}
 use Rattle.event_tree.specs.Growth.{growth}
 use Rattle.event_tree.specs.Events.{Ev, IsObject, IsEvent, both, object_in, object, object_put, with_fields, with_meta, event_size, event_depth, limited}
-use Rattle.event_tree.specs.Outcomes.{Puts, PutsWithin, PutsEvent}
+use Rattle.event_tree.specs.Outcomes.{Puts, PutsWithin, PutsEvent, Takes}
 use Rattle.event_tree.specs.declared.value.Value.{Value, out-Value, roll-Value, roll-out-Value}
 use Rattle.event_tree.specs.declared.value.Value.TheOpen.{Value-F}
 use Rattle.event_tree.specs.declared.value.Value.TheVariants as v
 use Rattle.event_tree.specs.declared.fault.PutFault.{PutFault}
 use Rattle.event_tree.specs.declared.fault.PutFault.TheVariants.{ThroughScalar, Deep, Large, Memory}
 use Rattle.event_tree.proofs.PutLaws.{Grown, refused, done, put_cases}
+use Rattle.event_tree.proofs.TakeLaws.{take-kept}
 use Rattle.event_tree.proofs.Sizes.{size-Object}
 
 pub less_none : (n m : ℕ) → less n m ≡ None → n < m
@@ -162,3 +163,47 @@ module _ (f m : Value) (is : IsEvent (both f m)) (said : Option Value) (room : �
 
   pub meta_refusal : PutsWithin (Err fault) said room m new → PutsEvent (Err fault) (limited (option_map (with_meta (both f m)) said)) (both f m) (both f new)
   meta_refusal = event_refusal (with_meta (both f m)) (depth f) (size f - 1) (omega (arith, is.shallow)) (λ x. omega arith) (λ x. omega arith) said room m is.meta_object full fault new
+
+-- what is said of the one object of an event, said of the other
+pub turned : (f m : Value) → IsEvent (both f m) → IsEvent (both m f)
+turned f m is = record {
+  fields_object = is.meta_object;
+  meta_object = is.fields_object;
+  small = omega (arith, is.small);
+  shallow = omega (arith, is.shallow);
+  fields_ordered = is.meta_ordered;
+  meta_ordered = is.fields_ordered;
+}
+
+-- an event of so many bytes, one object of which becomes another
+module _ (old other : Value) (was : IsEvent (both old other)) (whole : ℕ) (e : whole ≡ event_size (both old other)) (ps : List (List ℕ)) (new : Value) where
+  pub put_kept : (d : Value) (left : ℕ) → PutsWithin (Ok left) (object_put ps d old) (16777216 - whole) old new → IsEvent (both new other) × (event_size (both new other) + left ≡ 16777216)
+  put_kept d left p =
+      let o = object_put-gives ps d old new p.0 in
+      let s : event_size (both new other) + left ≡ 16777216 = omega (arith, e, was.small, p.2, size-object new o, size-object old was.fields_object) in (
+        record {
+          fields_object = o;
+          meta_object = was.meta_object;
+          small = omega (arith, s);
+          shallow = omega (arith, p.1, was.shallow);
+          fields_ordered = p.3;
+          meta_ordered = was.meta_ordered;
+        },
+        s,
+      )
+
+  pub take_kept : (x : Value) (key : ℕ) → Takes (Some x) (take ps old) old new → size new + size x + key ≡ size old → IsEvent (both new other) × (event_size (both new other) + size x + key ≡ whole)
+  take_kept x key taken s =
+      let k = take-kept ps old x new taken in
+      let o = k.object was.fields_object in
+      let t : event_size (both new other) + size x + key ≡ whole = omega (arith, e, s, size-object new o, size-object old was.fields_object) in (
+        record {
+          fields_object = o;
+          meta_object = was.meta_object;
+          small = omega (arith, t, e, was.small);
+          shallow = omega (arith, k.shallow, was.shallow);
+          fields_ordered = k.order was.fields_ordered;
+          meta_ordered = was.meta_ordered;
+        },
+        t,
+      )

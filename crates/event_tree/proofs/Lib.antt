@@ -15,3 +15,4 @@ pub mod DigitRuns
 pub mod Tens
 pub mod DecimalLemmas
 pub mod Shapes
+pub mod Adding

@@ -1,5 +1,6 @@
 -- What take does to depth and to order.
-use Rattle.std.proofs.Common.{◌≡◌, ℕ, ◌≤◌, List, [], ◌∷◌, length, true, Option, Some, None, option_map, option_and_then, refl, sym, ap, subst, ◌∙◌, arith, rules, slice_get, slice_set, remove}
+use Rattle.std.proofs.Common.{◌≡◌, ℕ, ◌≤◌, List, [], ◌∷◌, length, true, Option, Some, None, option_map, option_and_then, refl, sym, subst, ◌∙◌, arith, rules, slice_get, slice_set, remove}
+use Rattle.std.proofs.lemmas.Option.{some_pair_parts}
 use Rattle.plain_lists.specs.Members.{get_member, set_member, remove_member}
 use Rattle.event_tree.specs.Values.{Members, depth}
 use Rattle.event_tree.specs.Ordered.{ordered}
@@ -47,14 +48,10 @@ through_field p ms x y g k = record {
   object = λ o. (set_member p y ms, refl);
 }
 
--- what an answer of take leaves
-second_is : (a b : Value × Value) → Some a ≡ Some b → a.1 ≡ b.1
-second_is a b h = let e : a ≡ b = search (h, rules) in ap (λ r. r.1) e
-
 module _ (p : List ℕ) (x new : Value) where
   cut_at_item : (vs : List Value) (i : ℕ) (o : Option Value) → slice_get vs i ≡ o → option_map {U = Value × Value} (λ e. (e, v.List (remove vs i))) o ≡ Some (x, new) → Kept (v.List vs) new
   cut_at_item vs i None g h = absurd (search (h, rules))
-  cut_at_item vs i (Some e) g h = subst (Kept (v.List vs)) (second_is (e, v.List (remove vs i)) (x, new) h) (cut_item vs i e g)
+  cut_at_item vs i (Some e) g h = subst (Kept (v.List vs)) (some_pair_parts e x (v.List (remove vs i)) new h).1 (cut_item vs i e g)
 
   cut_at_place : (vs : List Value) (o : Option ℕ) → option_and_then {U = Value × Value} (λ i. option_map {U = Value × Value} (λ e. (e, v.List (remove vs i))) (slice_get vs i)) o ≡ Some (x, new) → Kept (v.List vs) new
   cut_at_place vs None h = absurd (search (h, rules))
@@ -62,7 +59,7 @@ module _ (p : List ℕ) (x new : Value) where
 
   cut_at_field : (ms : Members) (o : Option Value) → option_map {U = Value × Value} (λ e. (e, v.Object (remove_member p ms))) o ≡ Some (x, new) → Kept (v.Object ms) new
   cut_at_field ms None h = absurd (search (h, rules))
-  cut_at_field ms (Some e) h = subst (Kept (v.Object ms)) (second_is (e, v.Object (remove_member p ms)) (x, new) h) (cut_field p ms)
+  cut_at_field ms (Some e) h = subst (Kept (v.Object ms)) (some_pair_parts e x (v.Object (remove_member p ms)) new h).1 (cut_field p ms)
 
   cut_level : (f : Value-F Value) → cut_in p f ≡ Some (x, new) → Kept (roll-Value f) new
   cut_level Value-F.Null h = absurd (search (h, rules))
@@ -76,7 +73,7 @@ module _ (p : List ℕ) (x new : Value) where
   module _ (cut : Value → Option (Value × Value)) (inner : (old y left : Value) → cut old ≡ Some (y, left) → Kept old left) where
     from_item : (vs : List Value) (i : ℕ) (e : Value) (o : Option (Value × Value)) → slice_get vs i ≡ Some e → cut e ≡ o → option_map {U = Value × Value} (λ r. (r.0, v.List (slice_set vs i r.1))) o ≡ Some (x, new) → Kept (v.List vs) new
     from_item vs i e None g k h = absurd (search (h, rules))
-    from_item vs i e (Some r) g k h = subst (Kept (v.List vs)) (second_is (r.0, v.List (slice_set vs i r.1)) (x, new) h) (through_item vs i e r.1 g (inner e r.0 r.1 k))
+    from_item vs i e (Some r) g k h = subst (Kept (v.List vs)) (some_pair_parts r.0 x (v.List (slice_set vs i r.1)) new h).1 (through_item vs i e r.1 g (inner e r.0 r.1 k))
 
     at_item : (vs : List Value) (i : ℕ) (o : Option Value) → slice_get vs i ≡ o → option_and_then {U = Value × Value} (λ e. option_map {U = Value × Value} (λ r. (r.0, v.List (slice_set vs i r.1))) (cut e)) o ≡ Some (x, new) → Kept (v.List vs) new
     at_item vs i None g h = absurd (search (h, rules))
@@ -88,7 +85,7 @@ module _ (p : List ℕ) (x new : Value) where
 
     from_field : (ms : Members) (e : Value) (o : Option (Value × Value)) → get_member p ms ≡ Some e → cut e ≡ o → option_map {U = Value × Value} (λ r. (r.0, v.Object (set_member p r.1 ms))) o ≡ Some (x, new) → Kept (v.Object ms) new
     from_field ms e None g k h = absurd (search (h, rules))
-    from_field ms e (Some r) g k h = subst (Kept (v.Object ms)) (second_is (r.0, v.Object (set_member p r.1 ms)) (x, new) h) (through_field p ms e r.1 g (inner e r.0 r.1 k))
+    from_field ms e (Some r) g k h = subst (Kept (v.Object ms)) (some_pair_parts r.0 x (v.Object (set_member p r.1 ms)) new h).1 (through_field p ms e r.1 g (inner e r.0 r.1 k))
 
     at_field : (ms : Members) (o : Option Value) → get_member p ms ≡ o → option_and_then {U = Value × Value} (λ e. option_map {U = Value × Value} (λ r. (r.0, v.Object (set_member p r.1 ms))) (cut e)) o ≡ Some (x, new) → Kept (v.Object ms) new
     at_field ms None g h = absurd (search (h, rules))

@@ -1,7 +1,8 @@
 -- Powers of ten, and numbers that are digits with zeros behind them.
-use Rattle.std.proofs.Common.{◌≡◌, ◌≢◌, ℕ, zero, suc, ◌+◌, ◌-◌, ◌*◌, ◌%◌, ◌<◌, ◌≤◌, List, [], ◌∷◌, ◌++◌, length, take, get_or, nat_le, Bool, true, false, cond, Some, None, refl, sym, ap, subst, ◌∙◌, arith, rules}
+use Rattle.std.proofs.Common.{◌≡◌, ◌≢◌, ℕ, zero, suc, ◌+◌, ◌-◌, ◌*◌, ◌%◌, ◌<◌, ◌≤◌, List, [], ◌∷◌, ◌++◌, length, take, get_or, nat_le, Bool, true, false, cond, if◌then◌else◌, Some, None, option_and_then, refl, sym, ap, subst, ◌∙◌, arith, rules}
 use Rattle.std.proofs.lemmas.Bool.Decides.{nat_tests}
-use Rattle.event_tree.specs.NumberTexts.{is_digit, AreDigits, number, tens}
+use Rattle.event_tree.specs.Number.{least}
+use Rattle.event_tree.specs.NumberTexts.{is_digit, AreDigits, number, numeral, signed, most, tens}
 use Rattle.event_tree.specs.Paths.{at_most}
 
 pub tens-ten : (n k : ℕ) → tens (10 * n) k ≡ 10 * tens n k
@@ -49,6 +50,13 @@ reach k m a b trimmed e = by (nat_le a b) refl
 pub number-append : (n : ℕ) (xs ys : List ℕ) → number n (xs ++ ys) ≡ number (number n xs) ys
 number-append n [] ys = refl
 number-append n (x ∷ xs) ys = number-append (10 * n + (x - 48)) xs ys
+
+-- the same as one run of digits, where there are few places
+pub numeral_is : (negative : Bool) (whole places : List ℕ) → nat_le (length places) 18 ≡ true
+    → numeral negative whole places ≡ option_and_then (λ k. least (signed negative k) (length places)) (at_most (most negative) (Some (number 0 (whole ++ places))))
+numeral_is negative whole places few =
+    ap (λ t. if t then option_and_then (λ k. least (signed negative k) (length places)) (at_most (most negative) (Some (number (number 0 whole) places))) else None) few
+    ∙ ap (λ n. option_and_then (λ k. least (signed negative k) (length places)) (at_most (most negative) (Some n))) (sym (number-append 0 whole places))
 
 pub number-grows : (n : ℕ) (xs : List ℕ) → n ≤ number n xs
 number-grows n [] = omega arith

@@ -9,3 +9,4 @@ pub mod Outcomes
 pub mod PathTexts
 pub mod NumberTexts
 pub mod DecimalViews
+pub mod Adds

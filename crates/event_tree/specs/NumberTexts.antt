@@ -1,6 +1,7 @@
 -- Numbers as JSON writes them (RFC 8259, section 6), and the numbers that they stand for.
 use Rattle.std.specs.Prelude.{◌≡◌, ℕ, zero, suc, ◌+◌, ◌-◌, ◌*◌, ◌%◌, ◌==◌, ◌&&◌, ◌||◌, not, nat_le, slice_index, ℤ, pos, negsuc, neg_ℤ, ◌≤ℤ◌, Bool, true, false, if◌then◌else◌, List, [], ◌∷◌, ◌++◌, length, Option, Some, None, option_map, option_and_then, ⊤}
-use Rattle.event_tree.specs.Number.{Num, IsLeast}
+use Rattle.event_tree.specs.Number.{Num, IsLeast, least}
+use Rattle.event_tree.specs.Paths.{at_most}
 
 -- the parts of a text: the digits before the point, those behind it, and those of the exponent, which is negative where `lower` says so
 pub record Decimal : Type 0 where
@@ -97,6 +98,12 @@ IsSignificand n m zeros = (n ≡ tens m zeros) × (m % 10 ≡ 0 → m ≡ 0)
 abbrev pub most : Bool → ℕ
 most true = 9223372036854775808
 most false = 9223372036854775807
+
+-- the number with these digits before the point and behind it; none with more than 18 places, or beyond 64 bits
+abbrev pub numeral : Bool → List ℕ → List ℕ → Option Num
+numeral negative whole places =
+    if nat_le (length places) 18 then option_and_then (λ k. least (signed negative k) (length places)) (at_most (most negative) (Some (number (number 0 whole) places)))
+    else None
 
 -- in 64 bits
 abbrev pub IsI64 : ℤ → Type 0

@@ -1,6 +1,6 @@
 ghost use Rattle.std.specs.Prelude.{◌≡◌, ◌≢◌, ◌<◌, ◌≤◌, ◌%◌, ◌^◌, length, if◌then◌else◌};
 ghost use Rattle.event_tree.specs.Number.{Num, IsLeast, least};
-ghost use Rattle.event_tree.specs.NumberTexts.{AreDigits, NumberReads, ValueReads, signed, most};
+ghost use Rattle.event_tree.specs.NumberTexts.{AreDigits, NumberReads, ValueReads, numeral, signed, most};
 ghost use Rattle.event_tree.specs.DecimalViews.{seen};
 
 use crate::decimal::{Digits, digits_of};
@@ -65,6 +65,20 @@ impl Number {
         }
     }
 
+    /// The number with these digits before the point and behind it. It is none exactly where more than
+    /// 18 stand behind the point, or where all of them write a number beyond 64 bits. It takes no memory.
+    pub fn from_digits(negative: bool, whole: &[u8], places: &[u8]) -> Option<Number>
+        ensures { result ≡ numeral negative whole.now places.now }
+    {
+        if places.len() > 18 {
+            return None;
+        }
+        match number_of(whole, places, most_digits(negative)) {
+            Some(digits) => Number::new(mantissa_of(negative, digits), places.len() as u8),
+            None => None,
+        }
+    }
+
     /// The digits, with the sign.
     pub fn mantissa(&self) -> i64
         ensures { result ≡ self.now.mantissa }
@@ -93,6 +107,16 @@ fn most_digits(negative: bool) -> u128
     } else {
         9_223_372_036_854_775_807
     }
+}
+
+// The digits with a sign.
+fn mantissa_of(negative: bool, digits: u128) -> i64
+    requires { digits ≤ most negative }
+    ensures { result ≡ signed negative digits }
+{
+    let value = digits as i128;
+    let value = if negative { -value } else { value };
+    value as i64
 }
 
 // The value of a decimal.
@@ -152,10 +176,8 @@ fn with_sign(negative: bool, value: u128, places: u8) -> Number
     ensures mantissa { result.mantissa ≡ signed negative value }
     ensures scale { result.scale ≡ places }
 {
-    let value = value as i128;
-    let mantissa = if negative { -value } else { value };
     Number {
-        mantissa: mantissa as i64,
+        mantissa: mantissa_of(negative, value),
         scale: places,
     }
 }

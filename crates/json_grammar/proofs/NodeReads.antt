@@ -221,9 +221,6 @@ AreMembersOf n found front all = (ms : Pairs) × ArePairs ms × (pairs_levels ms
 abbrev IsObjectOf : ℕ → List ℕ → Members → Type 0
 IsObjectOf n front ms = (x : Node) × IsNode x × (node_levels x ≤ suc n) × (123 ∷ front ≡ node_bytes x) × (node_value x ≡ v.Object ms)
 
-entry_parts : (bytes s k a b t rest : List ℕ) (one two three : List ℕ) (x : ℕ) → bytes ≡ s ++ one → one ≡ k ++ two → two ≡ a ++ three → three ≡ x ∷ b → x ≡ 58 → b ≡ t ++ rest → bytes ≡ ((s ++ (k ++ (a ++ 58 ∷ []))) ++ t) ++ rest
-entry_parts bytes s k a b t rest one two three x h1 h2 h3 h4 h5 h6 = rw (h1, h2, h3, h4, h5, h6) (simp append_assoc)
-
 abbrev IsKeyOf : List ℕ → List ℕ → Type 0
 IsKeyOf front s = (ps : List Piece) × ArePieces ps × (front ≡ string_bytes ps) × (pieces_text ps ≡ s)
 

@@ -3,19 +3,20 @@ use Rattle.event_tree.specs.Values.{on_values}
 use Rattle.event_tree.proofs.Depths.{falls_member}
 use Rattle.element_code.specs.Parts.{part_bytes, key, bytes_of, count_bytes, items_parts, members_parts, parts, spelling}
 use Rattle.element_code.specs.Adds.{Writes}
-use Rattle.element_code.proofs.Added.{then_writes, keeps_on, keeps_after, stops}
+use Rattle.event_tree.proofs.Adding.{keeps_on}
+use Rattle.element_code.proofs.Added.{then_writes, stops}
 use Rattle.element_code.proofs.Spellings.{spelling-List, spelling-Object, items_on, members_on}
 use Rattle.element_code.proofs.encoding.+write.Goals as goal
 
 pub add_items-returns-in_err-add_value : goal.add_items-returns-in_err-add_value
-add_items-returns-in_err-add_value t c = stops c.from_residual.result _ c.args.to.now.items c.add_value.new.to.items c.from_residual.ensures.0 (keeps_after c.args.to.now.items c.loop-item.to.items c.add_value.new.to.items c.loop-item.invariant.keeps c.in_err-add_value.ensures)
+add_items-returns-in_err-add_value t c = stops c.from_residual.result _ c.args.to.now.items c.add_value.new.to.items c.from_residual.ensures.0 (keeps_on c.args.to.now.items c.loop-item.to.items c.add_value.new.to.items c.loop-item.invariant.keeps c.in_err-add_value.ensures)
 
 pub add_items-loop-item-preserved : goal.add_items-loop-item-preserved
 add_items-loop-item-preserved t c =
     let lt : c.loop-item.item-index < length c.args.items.now = omega (arith, c.loop-item-test.true) in
     record {
       rest = items_on c.args.items.now c.loop-item.item-index c.item-item.result c.loop-item.to.items c.add_value.new.to.items _ lt c.item-item.is c.in_ok-add_value.ensures c.loop-item.invariant.rest;
-      keeps = keeps_after c.args.to.now.items c.loop-item.to.items c.add_value.new.to.items c.loop-item.invariant.keeps (_, c.in_ok-add_value.ensures);
+      keeps = keeps_on c.args.to.now.items c.loop-item.to.items c.add_value.new.to.items c.loop-item.invariant.keeps (_, c.in_ok-add_value.ensures);
     }
 
 pub add_members-add_value-requires : goal.add_members-add_value-requires
@@ -25,7 +26,7 @@ add_members-add_value-requires t c =
 
 pub add_members-returns-in_err-add_value : goal.add_members-returns-in_err-add_value
 add_members-returns-in_err-add_value t c = stops c.from_residual-in_err-add_value.result _ c.args.to.now.items c.add_value.new.to.items c.from_residual-in_err-add_value.ensures.0
-    (keeps_after c.args.to.now.items c.loop-member.to.items c.add_value.new.to.items c.loop-member.invariant.keeps (keeps_on _ c.loop-member.to.items c.add_key.new.to.items c.add_value.new.to.items c.in_ok-add_key.ensures c.in_err-add_value.ensures))
+    (keeps_on c.args.to.now.items c.loop-member.to.items c.add_value.new.to.items c.loop-member.invariant.keeps (keeps_on c.loop-member.to.items c.add_key.new.to.items c.add_value.new.to.items (_, c.in_ok-add_key.ensures) c.in_err-add_value.ensures))
 
 pub add_members-loop-member-preserved : goal.add_members-loop-member-preserved
 add_members-loop-member-preserved t c =
@@ -34,7 +35,7 @@ add_members-loop-member-preserved t c =
     let keyed : c.add_key.new.to.items ≡ c.loop-member.to.items ++ part_bytes (key m.0) = c.in_ok-add_key.ensures ∙ ap (λ k. c.loop-member.to.items ++ part_bytes (key k)) c.as_str.ensures in
     record {
       rest = members_on c.args.members.now c.loop-member.member-index m c.loop-member.to.items c.add_key.new.to.items c.add_value.new.to.items _ lt c.member-item.is keyed c.in_ok-add_value.ensures c.loop-member.invariant.rest;
-      keeps = keeps_after c.args.to.now.items c.loop-member.to.items c.add_value.new.to.items c.loop-member.invariant.keeps (keeps_on _ c.loop-member.to.items c.add_key.new.to.items c.add_value.new.to.items keyed (_, c.in_ok-add_value.ensures));
+      keeps = keeps_on c.args.to.now.items c.loop-member.to.items c.add_value.new.to.items c.loop-member.invariant.keeps (keeps_on c.loop-member.to.items c.add_key.new.to.items c.add_value.new.to.items (_, keyed) (_, c.in_ok-add_value.ensures));
     }
 
 pub add_value-returns-in_ok-add-in-List : goal.add_value-returns-in_ok-add-in-List

@@ -1,7 +1,7 @@
 use Rattle.std.proofs.Common.{◌≡◌, ◌++◌, drop, map, ◌+◌, ◌*◌}
 use Rattle.event_tree.specs.Values.{on_values, depth, items_depth, members_depth}
 use Rattle.element_code.specs.Parts.{bytes_of, items_parts, members_parts, parts}
-use Rattle.element_code.specs.Adds.{Keeps}
+use Rattle.event_tree.specs.Adds.{Keeps}
 use Rattle.element_code.proofs.encoding.+write.Given as goal
 
 abbrev pub decreases-add_value : goal.decreases-add_value

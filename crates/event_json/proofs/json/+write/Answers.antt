@@ -1,10 +1,11 @@
 use Rattle.std.proofs.Common.{◌<◌, [], ◌∷◌, length, map, false, arith, ap, subst, ◌∙◌, OnOk}
 use Rattle.event_tree.specs.Values.{on_values}
 use Rattle.event_json.specs.Json.{json, items_json, members_json}
-use Rattle.event_json.specs.Adds.{Adds}
+use Rattle.event_tree.specs.Adds.{Adds}
 use Rattle.event_json.proofs.Jsons.{json-List, json-Object}
 use Rattle.event_tree.proofs.Depths.{falls_member}
-use Rattle.event_json.proofs.Written.{keeps_on, keeps_err, keeps_after, keeps_adds, adds_two}
+use Rattle.event_tree.proofs.Adding.{keeps_on}
+use Rattle.event_json.proofs.Written.{keeps_err, keeps_after, adds_two}
 use Rattle.event_json.proofs.json.+write.Goals as goal
 
 pub add_items-returns-in_err-add_comma-clause-err : goal.add_items-returns-in_err-add_comma-clause-err
@@ -12,7 +13,7 @@ add_items-returns-in_err-add_comma-clause-err t c = keeps_err c.from_residual.re
 
 pub add_items-returns-in_err-add_value-clause-err : goal.add_items-returns-in_err-add_value-clause-err
 add_items-returns-in_err-add_value-clause-err t c = keeps_err c.from_residual-in_err-add_value.result _ _ (keeps_on c.args.to.now.items c.loop-item.to.items c.add_value.new.to.items c.loop-item.invariant.keeps
-    (keeps_on c.loop-item.to.items c.add_comma.new.to.items c.add_value.new.to.items (keeps_adds _ c.loop-item.to.items c.add_comma.new.to.items c.in_ok-add_comma.ensures.ok) c.in_err-add_value.ensures.err))
+    (keeps_on c.loop-item.to.items c.add_comma.new.to.items c.add_value.new.to.items (_, c.in_ok-add_comma.ensures.ok) c.in_err-add_value.ensures.err))
 
 pub add_items-returns-clause-err : goal.add_items-returns-clause-err
 add_items-returns-clause-err t c = keeps_after c.add_text.result c.args.to.now.items c.loop-item.to.items c.add_text.new.to.items c.loop-item.invariant.keeps c.add_text.ensures.err
@@ -26,13 +27,13 @@ pub add_members-returns-in_err-add_comma-clause-err : goal.add_members-returns-i
 add_members-returns-in_err-add_comma-clause-err t c = keeps_err c.from_residual.result _ _ (keeps_on c.args.to.now.items c.loop-member.to.items c.add_comma.new.to.items c.loop-member.invariant.keeps c.in_err-add_comma.ensures.err)
 
 pub add_members-returns-in_err-add_quoted-clause-err : goal.add_members-returns-in_err-add_quoted-clause-err
-add_members-returns-in_err-add_quoted-clause-err t c = keeps_err c.from_residual-in_err-add_quoted.result _ _ (keeps_on c.args.to.now.items c.add_comma.new.to.items c.add_quoted.new.to.items (keeps_on c.args.to.now.items c.loop-member.to.items c.add_comma.new.to.items c.loop-member.invariant.keeps (keeps_adds _ c.loop-member.to.items c.add_comma.new.to.items c.in_ok-add_comma.ensures.ok)) c.in_err-add_quoted.ensures.err)
+add_members-returns-in_err-add_quoted-clause-err t c = keeps_err c.from_residual-in_err-add_quoted.result _ _ (keeps_on c.args.to.now.items c.add_comma.new.to.items c.add_quoted.new.to.items (keeps_on c.args.to.now.items c.loop-member.to.items c.add_comma.new.to.items c.loop-member.invariant.keeps (_, c.in_ok-add_comma.ensures.ok)) c.in_err-add_quoted.ensures.err)
 
 pub add_members-returns-in_err-add_text-clause-err : goal.add_members-returns-in_err-add_text-clause-err
-add_members-returns-in_err-add_text-clause-err t c = keeps_err c.from_residual-in_err-add_text.result _ _ (keeps_on c.args.to.now.items c.add_quoted.new.to.items c.add_text.new.to.items (keeps_on c.args.to.now.items c.add_comma.new.to.items c.add_quoted.new.to.items (keeps_on c.args.to.now.items c.loop-member.to.items c.add_comma.new.to.items c.loop-member.invariant.keeps (keeps_adds _ c.loop-member.to.items c.add_comma.new.to.items c.in_ok-add_comma.ensures.ok)) (keeps_adds _ c.add_comma.new.to.items c.add_quoted.new.to.items c.in_ok-add_quoted.ensures.ok)) c.in_err-add_text.ensures.err)
+add_members-returns-in_err-add_text-clause-err t c = keeps_err c.from_residual-in_err-add_text.result _ _ (keeps_on c.args.to.now.items c.add_quoted.new.to.items c.add_text.new.to.items (keeps_on c.args.to.now.items c.add_comma.new.to.items c.add_quoted.new.to.items (keeps_on c.args.to.now.items c.loop-member.to.items c.add_comma.new.to.items c.loop-member.invariant.keeps (_, c.in_ok-add_comma.ensures.ok)) (_, c.in_ok-add_quoted.ensures.ok)) c.in_err-add_text.ensures.err)
 
 pub add_members-returns-in_err-add_value-clause-err : goal.add_members-returns-in_err-add_value-clause-err
-add_members-returns-in_err-add_value-clause-err t c = keeps_err c.from_residual-in_err-add_value.result _ _ (keeps_on c.args.to.now.items c.add_text.new.to.items c.add_value.new.to.items (keeps_on c.args.to.now.items c.add_quoted.new.to.items c.add_text.new.to.items (keeps_on c.args.to.now.items c.add_comma.new.to.items c.add_quoted.new.to.items (keeps_on c.args.to.now.items c.loop-member.to.items c.add_comma.new.to.items c.loop-member.invariant.keeps (keeps_adds _ c.loop-member.to.items c.add_comma.new.to.items c.in_ok-add_comma.ensures.ok)) (keeps_adds _ c.add_comma.new.to.items c.add_quoted.new.to.items c.in_ok-add_quoted.ensures.ok)) (keeps_adds _ c.add_quoted.new.to.items c.add_text.new.to.items c.in_ok-add_text.ensures.ok)) c.in_err-add_value.ensures.err)
+add_members-returns-in_err-add_value-clause-err t c = keeps_err c.from_residual-in_err-add_value.result _ _ (keeps_on c.args.to.now.items c.add_text.new.to.items c.add_value.new.to.items (keeps_on c.args.to.now.items c.add_quoted.new.to.items c.add_text.new.to.items (keeps_on c.args.to.now.items c.add_comma.new.to.items c.add_quoted.new.to.items (keeps_on c.args.to.now.items c.loop-member.to.items c.add_comma.new.to.items c.loop-member.invariant.keeps (_, c.in_ok-add_comma.ensures.ok)) (_, c.in_ok-add_quoted.ensures.ok)) (_, c.in_ok-add_text.ensures.ok)) c.in_err-add_value.ensures.err)
 
 pub add_members-returns-clause-err : goal.add_members-returns-clause-err
 add_members-returns-clause-err t c = keeps_after c.add_text-2.result c.args.to.now.items c.loop-member.to.items c.add_text-2.new.to.items c.loop-member.invariant.keeps c.add_text-2.ensures.err

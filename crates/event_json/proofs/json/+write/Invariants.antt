@@ -2,7 +2,7 @@ use Rattle.std.proofs.Common.{◌≡◌, ◌++◌, drop, map, false, ◌+◌, �
 use Rattle.std.specs.Str.{IsUtf8}
 use Rattle.event_tree.specs.Values.{on_values, depth, items_depth, members_depth}
 use Rattle.event_json.specs.Json.{json, items_json, members_json}
-use Rattle.event_json.specs.Adds.{Keeps}
+use Rattle.event_tree.specs.Adds.{Keeps}
 use Rattle.event_json.proofs.json.+write.Given as goal
 
 abbrev pub invariant-add_items-loop-item : goal.invariant-add_items-loop-item

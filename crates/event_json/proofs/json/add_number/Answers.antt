@@ -3,7 +3,7 @@ use Rattle.std.specs.Prelude.{decimal}
 use Rattle.std.proofs.lemmas.Int.{to_z-of_z}
 use Rattle.std.specs.Int.{w64}
 use Rattle.std.proofs.lemmas.Fmt.{decimal_nonempty}
-use Rattle.event_json.specs.Adds.{Adds}
+use Rattle.event_tree.specs.Adds.{Adds}
 use Rattle.event_json.specs.Json.{zeros, pointed, sign_of, number_text}
 use Rattle.event_json.proofs.Utf8.{adds_utf8, number_utf8}
 use Rattle.event_json.proofs.Numbers.{number_parts}

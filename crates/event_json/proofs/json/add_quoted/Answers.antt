@@ -2,7 +2,7 @@ use Rattle.event_json.specs.Json.{quoted}
 use Rattle.std.proofs.Common.{◌++◌}
 use Rattle.event_json.proofs.Runs.{all_written_ok, one_written_on}
 use Rattle.event_json.proofs.Utf8.{adds_utf8, quoted_utf8}
-use Rattle.event_json.proofs.Written.{keeps_on, keeps_adds}
+use Rattle.event_tree.proofs.Adding.{keeps_on}
 use Rattle.event_json.proofs.json.add_quoted.Goals as goal
 
 pub returns-then-count-rest-clause-ok : goal.returns-then-count-rest-clause-ok
@@ -11,7 +11,7 @@ returns-then-count-rest-clause-ok c = all_written_ok c.add-then-count-rest.resul
 pub loop-to-preserved : goal.loop-to-preserved
 loop-to-preserved c = record {
   rest = one_written_on c.loop-to.rest.now (c.args.to.now.items ++ quoted c.args.text.now) c.run_length-count.result c.loop-to.to.items c.add-in-loop-to.new.to.items c.add_escaped.new.to.items c.run_length-count.ensures.run c.run_length-count.ensures.after c.run_length-count.ensures.within c.if-count-rest.false c.in_ok-add-2.ensures.ok c.in_ok-add_escaped.ensures.ok c.loop-to.invariant.rest;
-  keeps = keeps_on c.args.to.now.items c.loop-to.to.items c.add_escaped.new.to.items c.loop-to.invariant.keeps (keeps_on c.loop-to.to.items c.add-in-loop-to.new.to.items c.add_escaped.new.to.items (keeps_adds _ c.loop-to.to.items c.add-in-loop-to.new.to.items c.in_ok-add-2.ensures.ok) (keeps_adds _ c.add-in-loop-to.new.to.items c.add_escaped.new.to.items c.in_ok-add_escaped.ensures.ok));
+  keeps = keeps_on c.args.to.now.items c.loop-to.to.items c.add_escaped.new.to.items c.loop-to.invariant.keeps (keeps_on c.loop-to.to.items c.add-in-loop-to.new.to.items c.add_escaped.new.to.items (_, c.in_ok-add-2.ensures.ok) (_, c.in_ok-add_escaped.ensures.ok));
 }
 
 pub returns-then-count-rest-clause-utf8 : goal.returns-then-count-rest-clause-utf8

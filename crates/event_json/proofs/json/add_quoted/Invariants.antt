@@ -1,6 +1,6 @@
 use Rattle.std.proofs.Common.{◌≡◌, ◌++◌, ◌∷◌, [], length, flat_map}
 use Rattle.event_json.specs.Json.{escaped, quoted}
-use Rattle.event_json.specs.Adds.{Keeps}
+use Rattle.event_tree.specs.Adds.{Keeps}
 use Rattle.event_json.proofs.json.add_quoted.Given as goal
 
 abbrev pub invariant-loop-to : goal.invariant-loop-to

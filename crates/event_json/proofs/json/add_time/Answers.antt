@@ -1,7 +1,7 @@
 use Rattle.std.proofs.lemmas.Grind.{common_steps}
 use Rattle.std.proofs.Common.{OnOk, ◌∷◌, [], ◌++◌, arith}
 use Rattle.event_json.specs.TimeText.{time_text_of}
-use Rattle.event_json.specs.Adds.{Adds}
+use Rattle.event_tree.specs.Adds.{Adds}
 use Rattle.event_json.proofs.Utf8.{adds_utf8, time_utf8, in_quotes_utf8}
 use Rattle.event_json.proofs.json.add_time.Goals as goal
 

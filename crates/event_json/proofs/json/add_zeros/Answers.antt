@@ -1,5 +1,5 @@
 use Rattle.std.proofs.Common.{subst, OnOk}
-use Rattle.event_json.specs.Adds.{Adds}
+use Rattle.event_tree.specs.Adds.{Adds}
 use Rattle.event_json.proofs.Numbers.{take-zeros}
 use Rattle.event_json.proofs.json.add_zeros.Goals as goal
 

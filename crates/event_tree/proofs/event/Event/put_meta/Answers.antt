@@ -2,35 +2,18 @@ use Rattle.std.proofs.Common.{◌≡◌, ◌+◌, ◌-◌, Err, subst, arith}
 use Rattle.std.specs.Option.{option_map}
 use Rattle.event_tree.specs.Events.{both, event_size, object_put, with_meta, limited}
 use Rattle.event_tree.specs.Outcomes.{PutsEvent}
-use Rattle.event_tree.proofs.EventPuts.{object_put-gives, size-object, meta_refusal}
+use Rattle.event_tree.proofs.EventPuts.{meta_refusal, put_kept, turned}
 use Rattle.event_tree.proofs.event.Event.put_meta.Goals as goal
 
 pub overflow_sub-self : goal.overflow_sub-self
 overflow_sub-self c =
-    let old = c.self.inside.meta in
-    let new = c.put_within.new.target in
-    let p = c.in-Ok.ensures in
-    let o = object_put-gives c.args.parts.now c.args.value old new p.0 in
-    omega (arith, c.self.invariant.1, p.2, size-object new o, size-object old c.self.invariant.0.meta_object)
+    let k = put_kept c.self.inside.meta c.self.inside.fields (turned c.self.inside.fields c.self.inside.meta c.self.invariant.0) c.self.inside.size (omega (arith, c.self.invariant.1)) c.args.parts.now c.put_within.new.target c.args.value c.in-Ok.left c.in-Ok.ensures in
+    omega (arith, k.1)
 
 pub invariant_of-self : goal.invariant_of-self
 invariant_of-self c =
-    let old = c.self.inside.meta in
-    let new = c.put_within.new.target in
-    let was = c.self.invariant.0 in
-    let e = c.self.invariant.1 in
-    let p = c.in-Ok.ensures in
-    let o = object_put-gives c.args.parts.now c.args.value old new p.0 in (
-      record {
-        fields_object = was.fields_object;
-        meta_object = o;
-        small = omega (arith, e, p.2, size-object new o);
-        shallow = omega (arith, p.1, was.shallow);
-        fields_ordered = was.fields_ordered;
-        meta_ordered = p.3;
-      },
-      omega (arith, e, p.2, size-object new o, size-object old was.meta_object),
-    )
+    let k = put_kept c.self.inside.meta c.self.inside.fields (turned c.self.inside.fields c.self.inside.meta c.self.invariant.0) c.self.inside.size (omega (arith, c.self.invariant.1)) c.args.parts.now c.put_within.new.target c.args.value c.in-Ok.left c.in-Ok.ensures in
+    (turned c.put_within.new.target c.self.inside.fields k.0, omega (arith, k.1))
 
 pub returns-in-Err : goal.returns-in-Err
 returns-in-Err c =

@@ -1,46 +1,18 @@
 use Rattle.std.proofs.Common.{arith}
-use Rattle.event_tree.proofs.EventPuts.{size-object}
-use Rattle.event_tree.proofs.TakeLaws.{take-kept}
+use Rattle.event_tree.proofs.EventPuts.{take_kept}
 use Rattle.event_tree.proofs.event.Event.take_fields.Goals as goal
 
 pub size_without-requires : goal.size_without-requires
 size_without-requires c =
-    let old = c.self.inside.fields in
-    let new = c.take_in.new.target in
-    let was = c.self.invariant.0 in
-    let e = c.self.invariant.1 in
-    let s = c.in-Some.ensures.shorter in
-    let k = take-kept c.args.parts.now old c.in-Some.cut.value new c.in-Some.ensures.taken in
-    let o = k.object was.fields_object in
-    omega (arith, e, s, size-object new o)
+    let k = take_kept c.self.inside.fields c.self.inside.meta c.self.invariant.0 c.self.inside.size c.self.invariant.1 c.args.parts.now c.take_in.new.target c.in-Some.cut.value c.in-Some.cut.key_size c.in-Some.ensures.taken c.in-Some.ensures.shorter in
+    omega (arith, k.1)
 
 pub overflow_sub-self : goal.overflow_sub-self
 overflow_sub-self c =
-    let old = c.self.inside.fields in
-    let new = c.take_in.new.target in
-    let was = c.self.invariant.0 in
-    let e = c.self.invariant.1 in
-    let s = c.in-Some.ensures.shorter in
-    let k = take-kept c.args.parts.now old c.in-Some.cut.value new c.in-Some.ensures.taken in
-    let o = k.object was.fields_object in
-    omega (arith, e, s, size-object new o, c.size_without.ensures)
+    let k = take_kept c.self.inside.fields c.self.inside.meta c.self.invariant.0 c.self.inside.size c.self.invariant.1 c.args.parts.now c.take_in.new.target c.in-Some.cut.value c.in-Some.cut.key_size c.in-Some.ensures.taken c.in-Some.ensures.shorter in
+    omega (arith, k.1, c.size_without.ensures)
 
 pub invariant_of-self : goal.invariant_of-self
 invariant_of-self c =
-    let old = c.self.inside.fields in
-    let new = c.take_in.new.target in
-    let was = c.self.invariant.0 in
-    let e = c.self.invariant.1 in
-    let s = c.in-Some.ensures.shorter in
-    let k = take-kept c.args.parts.now old c.in-Some.cut.value new c.in-Some.ensures.taken in
-    let o = k.object was.fields_object in (
-      record {
-        fields_object = o;
-        meta_object = was.meta_object;
-        small = omega (arith, e, s, size-object new o, size-object old was.fields_object, was.small);
-        shallow = omega (arith, k.shallow, was.shallow);
-        fields_ordered = k.order was.fields_ordered;
-        meta_ordered = was.meta_ordered;
-      },
-      omega (arith, e, s, size-object new o, size-object old was.fields_object, c.size_without.ensures),
-    )
+    let k = take_kept c.self.inside.fields c.self.inside.meta c.self.invariant.0 c.self.inside.size c.self.invariant.1 c.args.parts.now c.take_in.new.target c.in-Some.cut.value c.in-Some.cut.key_size c.in-Some.ensures.taken c.in-Some.ensures.shorter in
+    (k.0, omega (arith, k.1, c.size_without.ensures))
