@@ -1,11 +1,12 @@
 ghost use Rattle.std.specs.Prelude.{◌≡◌, IfOk};
 
 use std::alloc::{AllocError, Global};
+use std::fmt;
 use std::marker::Model;
 
 /// A value on the heap, which contracts see as that value: two boxes of equal values are equal,
 /// whatever memory they hold.
-#[derive(Debug, Drop)]
+#[derive(Drop)]
 pub struct Boxed<T> {
     inner: Box<T>,
 }
@@ -52,5 +53,14 @@ impl<T> Boxed<T> {
     {
         let Boxed { inner } = self;
         Box::into_inner(inner)
+    }
+}
+
+/// Shows the value, as a `Box` does.
+impl<T: fmt::Debug> fmt::Debug for Boxed<T> {
+    ghost debug_output = { T.debug_output };
+
+    fn fmt<W: fmt::Write>(&self, f: &mut fmt::Formatter<W>) -> fmt::Result {
+        fmt::Debug::fmt(self.get(), f)
     }
 }

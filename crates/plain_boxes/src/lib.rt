@@ -4,3 +4,6 @@
 mod boxed;
 
 pub use boxed::Boxed;
+
+#[cfg(test)]
+mod tests;
