@@ -1,19 +1,22 @@
 -- What the calls of connections in memory leave of each of them.
-use Rattle.std.proofs.Common.{◌≡◌, ◌≢◌, ◌⊎◌, ◌≤◌, ◌<◌, ℕ, List, [], ◌∷◌, ◌++◌, Bool, true, false, inl, inr, Result, Ok, Err, Some, length, take, take_at, min, refl, sym, ap, subst, ◌∙◌, arith}
-use Rattle.std.specs.Prelude.{IfOk, OnOk, if◌then◌else◌}
+use Rattle.std.proofs.Common.{◌≡◌, ◌≢◌, ◌⊎◌, ◌≤◌, ◌<◌, ◌+◌, ◌-◌, ℕ, List, [], ◌∷◌, ◌++◌, Bool, true, false, inl, inr, Result, Ok, Err, Some, length, length-append, take, take_at, min, refl, sym, ap, subst, ◌∙◌, arith}
+use Rattle.std.specs.Prelude.{IfOk, OnOk, nat_lt, if◌then◌else◌}
 use Rattle.std.proofs.lemmas.Bool.{cases_eq}
 use Rattle.std.proofs.lemmas.Option.{same_Some}
 use Rattle.std.proofs.lemmas.Bool.Decides.{nat_tests}
 use Rattle.std.proofs.lemmas.List.{get_or-set_same, get_or-set_other, length-take, take_min}
+use Rattle.outside.specs.Connections.{brought, Lessens, IsOver}
 use Rattle.outside.specs.Pieces.{Piece, Came, End, Nothing, bytes_in, gave}
 use Rattle.outside.specs.Telling.{Shrinks}
 use Rattle.outside.specs.declared.faults.Failed.{Failed}
+use Rattle.outside.specs.declared.links.Come.{Come}
+use Rattle.outside.specs.declared.links.Come.TheVariants.{Conn, NotYet, Ended}
 use Rattle.outside.specs.declared.sources.Step.{Step}
 use Rattle.outside.specs.declared.sources.Step.TheVariants.{Bytes}
 use Rattle.outside.specs.declared.sources.Step.TheVariants.{NotYet as NoneYet, End as AtEnd}
 use Rattle.memory_outside.specs.Scripts.{waits_next}
 use Rattle.memory_outside.specs.Sources.{written_over}
-use Rattle.memory_outside.specs.Links.{Linking, fresh, state_of, with_state, left_of, bytes_left, without, first_from, taken_off, found, step_of, shut, after_read, after_step}
+use Rattle.memory_outside.specs.Links.{Linking, fresh, state_of, coming_of, next_come, after_accept, with_state, left_of, bytes_left, without, first_from, taken_off, found, step_of, shut, after_read, after_step}
 use Rattle.memory_outside.specs.declared.memory_links.ConnState.{ConnState}
 use Rattle.memory_outside.proofs.Pieces.{none_left, others_left, next_taken, others_taken}
 
@@ -106,3 +109,32 @@ read_states s conn other (Err e) differ = get_or-set_other s.came conn other _ f
 read_states s conn other (Ok NoneYet) differ = get_or-set_other s.came conn other _ fresh differ
 read_states s conn other (Ok AtEnd) differ = get_or-set_other s.came conn other _ fresh differ
 read_states s conn other (Ok (Bytes n)) differ = refl
+
+none_came : (rest : ℕ) → rest ≡ 0 + rest
+none_came rest = omega arith
+
+-- of the connections that are still to come a look brought what it says
+pub come_less : (s : Linking) (result : Result Come Failed) → IfOk result (λ come. come ≡ next_come s) → Lessens (Some (coming_of s)) (Some (coming_of (after_accept s result))) (brought result)
+come_less s (Err e) is = record { each = λ rest told. told ∙ ap Some (none_came rest) }
+come_less s (Ok NotYet) is = record { each = λ rest told. told ∙ ap Some (none_came rest) }
+come_less s (Ok Ended) is = record { each = λ rest told. told ∙ ap Some (none_came rest) }
+come_less s (Ok (Conn n)) is = record { each = λ rest told. ap Some (one_less rest (same_Some _ _ told)) }
+  where
+    more_come : (waits more : Bool) → nat_lt (length s.came) s.connections ≡ more → Conn n ≡ (if waits then NotYet else if more then Conn (length s.came) else Ended) → length s.came < s.connections
+    more_come true more same is = cc
+    more_come false true same is = grind (arith, nat_tests)
+    more_come false false same is = cc
+
+    one_less : (rest : ℕ) → s.connections - length (s.came ++ fresh ∷ []) ≡ rest → s.connections - length s.came ≡ 1 + rest
+    one_less rest told = omega (arith, more_come (waits_next s.script) (nat_lt (length s.came) s.connections) refl is, length-append s.came (fresh ∷ []), told)
+
+pub come_over : (s : Linking) (result : Result Come Failed) → IfOk result (λ come. come ≡ next_come s) → result ≡ Ok Ended → IsOver (Some (coming_of (after_accept s result)))
+come_over s (Err e) is ended = absurd cc
+come_over s (Ok (Conn n)) is ended = absurd cc
+come_over s (Ok NotYet) is ended = absurd cc
+come_over s (Ok Ended) is ended = record { none = λ rest told. omega (arith, all_came (waits_next s.script) (nat_lt (length s.came) s.connections) refl is, same_Some _ _ told) }
+  where
+    all_came : (waits more : Bool) → nat_lt (length s.came) s.connections ≡ more → Ended ≡ (if waits then NotYet else if more then Conn (length s.came) else Ended) → s.connections ≤ length s.came
+    all_came true more same is = cc
+    all_came false true same is = cc
+    all_came false false same is = grind (arith, nat_tests)

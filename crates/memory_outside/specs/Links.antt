@@ -1,5 +1,5 @@
 -- What connections in memory hold, and what their calls do.
-use Rattle.std.specs.Prelude.{◌≡◌, ℕ, min, Bool, true, false, List, [], ◌∷◌, ◌++◌, Result, Ok, Err, nat_eq, nat_lt, not, length, take, drop, filter, slice_index_or, slice_set, if◌then◌else◌}
+use Rattle.std.specs.Prelude.{◌≡◌, ℕ, ◌-◌, min, Bool, true, false, List, [], ◌∷◌, ◌++◌, Result, Ok, Err, nat_eq, nat_lt, not, length, take, drop, filter, slice_index_or, slice_set, if◌then◌else◌}
 use Rattle.outside.specs.Counts.{one_more}
 use Rattle.outside.specs.Pieces.{Piece, Came, End, Nothing, bytes_in}
 use Rattle.outside.specs.declared.faults.Failed.{Failed}
@@ -26,6 +26,10 @@ pub record Linking : Type 0 where
   pub accept_faults : ℕ
   pub accept_waits : ℕ
   pub script : Course
+
+-- how many connections are still to come
+abbrev pub coming_of : Linking → ℕ
+coming_of s = s.connections - length s.came
 
 -- a connection of which nothing was read
 abbrev pub fresh : ConnState

@@ -1,5 +1,5 @@
 ghost use Rattle.std.specs.Prelude.{◌≡◌, ℕ, ◌+◌, ◌≤◌, ◌<◌, Some, [], ◌∷◌, ◌++◌, Ok, IfOk, IsErr, OnOk, OnErr, IsTrue, map, filter, length, take};
-ghost use Rattle.outside.specs.Connections.{OnCome, pieces_from, SameBut};
+ghost use Rattle.outside.specs.Connections.{OnCome, brought, Lessens, IsOver, pieces_from, SameBut};
 ghost use Rattle.outside.specs.Counts.{HasCause, Rose, one_more};
 ghost use Rattle.outside.specs.Pieces.{Came, End, bytes_in, gave, IfBytes};
 ghost use Rattle.outside.specs.Telling.{Grows, Shrinks, IsAtEnd};
@@ -387,10 +387,12 @@ impl Sent {
 }
 
 impl Links for MemoryLinks {
-    ghost use Rattle.memory_outside.specs.Links.{state_of, left_of, step_of, found, next_come, shut, after_accept, after_read};
+    ghost use Rattle.memory_outside.specs.Links.{state_of, coming_of, left_of, step_of, found, next_come, shut, after_accept, after_read};
     ghost use Rattle.memory_outside.specs.Scripts.{fails_next};
 
     ghost came = { λ s. length s.came };
+
+    ghost coming = { λ s. Some (coming_of s) };
 
     ghost given = { λ s. Some s.given };
 
@@ -413,6 +415,8 @@ impl Links for MemoryLinks {
 
         // What all connections promise.
         ensures came { OnCome result (λ n. (n ≡ length self.old.came) × (length self.new.came ≡ length self.old.came + 1)) (length self.new.came ≡ length self.old.came) }
+        ensures coming { Lessens (Some (coming_of self.old)) (Some (coming_of self.new)) (brought result) }
+        ensures end { result ≡ Ok Come.Ended → IsOver (Some (coming_of self.new)) }
         ensures given { Grows (Some self.old.given) (Some self.new.given) [] }
         ensures left { (conn : ℕ) → Some (left_of self.new conn) ≡ Some (left_of self.old conn) }
         ensures cause { HasCause self.old.accept_faults self.new.accept_faults (IsErr result) }
@@ -443,7 +447,7 @@ impl Links for MemoryLinks {
         ensures cause { HasCause (state_of self.old conn).faults (state_of self.new conn).faults (IsErr result) }
         ensures waits { HasCause (state_of self.old conn).waits (state_of self.new conn).waits (result ≡ Ok Step.NotYet) }
         ensures others { SameBut conn (λ other. Some (left_of self.old other)) (λ other. Some (left_of self.new other)) × SameBut conn (λ other. (state_of self.old other).faults) (λ other. (state_of self.new other).faults) × SameBut conn (λ other. (state_of self.old other).waits) (λ other. (state_of self.new other).waits) }
-        ensures accepts { (length self.new.came ≡ length self.old.came) × (self.new.accept_faults ≡ self.old.accept_faults) × (self.new.accept_waits ≡ self.old.accept_waits) }
+        ensures accepts { (length self.new.came ≡ length self.old.came) × (Some (coming_of self.new) ≡ Some (coming_of self.old)) × (self.new.accept_faults ≡ self.old.accept_faults) × (self.new.accept_waits ≡ self.old.accept_waits) }
     {
         self.read_next(conn, into)
     }
@@ -459,7 +463,7 @@ impl Links for MemoryLinks {
         ensures others { SameBut conn (λ other. Some (left_of self.old other)) (λ other. Some (left_of self.new other)) }
         ensures counts { SameBut conn (λ other. (state_of self.old other).faults) (λ other. (state_of self.new other).faults) × SameBut conn (λ other. (state_of self.old other).waits) (λ other. (state_of self.new other).waits) }
         ensures later { ((state_of self.old conn).faults ≤ (state_of self.new conn).faults) × ((state_of self.old conn).waits ≤ (state_of self.new conn).waits) }
-        ensures accepts { (length self.new.came ≡ length self.old.came) × (self.new.accept_faults ≡ self.old.accept_faults) × (self.new.accept_waits ≡ self.old.accept_waits) }
+        ensures accepts { (length self.new.came ≡ length self.old.came) × (Some (coming_of self.new) ≡ Some (coming_of self.old)) × (self.new.accept_faults ≡ self.old.accept_faults) × (self.new.accept_waits ≡ self.old.accept_waits) }
     {
         self.shut(conn)
     }

@@ -11,6 +11,11 @@ pub record HasCause (before now : ℕ) (fault : Type 0) : Type 0 where
   pub rose : fault → Rose before now
   pub same : (fault → ⊥) → now ≡ before
 
+-- a count never falls, and it has its cause, but where something else stands in the place of its fault
+pub record HasCauseUnless (before now : ℕ) (instead fault : Type 0) : Type 0 where
+  pub later : before ≤ now
+  pub cause : (instead → ⊥) → HasCause before now fault
+
 -- one more, up to the last number of 64 bits
 abbrev pub one_more : ℕ → ℕ
 one_more n = min (n + 1) (2 ^ 64 - 1)

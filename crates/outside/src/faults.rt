@@ -14,9 +14,11 @@ pub enum ListFault {
 }
 
 impl From<Failed> for ListFault {
-    fn from(_failed: Failed) -> ListFault
-        ensures { result ≡ ListFault.Failed }
-    {
+    ghost use Rattle.outside.specs.declared.faults.ListFault.{ListFault};
+
+    ghost from_gives = { λ _ fault. fault ≡ ListFault.Failed };
+
+    fn from(_failed: Failed) -> ListFault {
         ListFault::Failed
     }
 }

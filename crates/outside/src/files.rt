@@ -42,6 +42,8 @@ pub trait Files {
 
     /// Reads into the front of `into` the bytes of a file from the place `at` on: as many as stand
     /// there, up to the room. A missing file has no bytes.
+    ///
+    /// What stands in the room behind the bytes, and after a failure, is not said.
     fn read(&mut self, path: &str, at: u64, into: &mut [u8]) -> Result<usize, Failed>
         ensures within { IfOk result (λ n. n ≤ length into.old) }
         ensures gives { IfOk result (λ n. IsTrue tells → Gives (shows self.old (calls self.old) path.now) at (length into.old) n into.new) }

@@ -1,5 +1,5 @@
 ghost use Rattle.std.specs.Prelude.{◌≡◌, ◌≤◌, ◌<◌, ◌+◌, ℕ, List, [], Option, Ok, IsErr, length};
-ghost use Rattle.outside.specs.Connections.{OnCome, pieces_from, SameBut};
+ghost use Rattle.outside.specs.Connections.{OnCome, brought, Lessens, IsOver, pieces_from, SameBut};
 ghost use Rattle.outside.specs.Counts.{HasCause};
 ghost use Rattle.outside.specs.Pieces.{Piece, bytes_in, gave, IfBytes};
 ghost use Rattle.outside.specs.Telling.{Grows, Shrinks, IsAtEnd};
@@ -24,6 +24,9 @@ pub trait Links {
     /// How many connections came.
     ghost came: { Self → ℕ };
 
+    /// How many are still to come, where it tells that.
+    ghost coming: { Self → Option ℕ };
+
     /// The pieces that its connections gave, each with the number of its connection, where it tells
     /// them: each read that found bytes or the end gave one.
     ghost given: { Self → Option (List (ℕ × Piece)) };
@@ -44,6 +47,8 @@ pub trait Links {
     /// Looks for a connection to this host and port. It begins to listen there if it doesn't yet.
     fn accept(&mut self, host: &str, port: u16) -> Result<Come, Failed>
         ensures came { OnCome result (λ n. (n ≡ came self.old) × (came self.new ≡ came self.old + 1)) (came self.new ≡ came self.old) }
+        ensures coming { Lessens (coming self.old) (coming self.new) (brought result) }
+        ensures end { result ≡ Ok Come.Ended → IsOver (coming self.new) }
         ensures given { Grows (given self.old) (given self.new) [] }
         ensures left { (conn : ℕ) → left self.new conn ≡ left self.old conn }
         ensures cause { HasCause (accept_faults self.old) (accept_faults self.new) (IsErr result) }
@@ -52,6 +57,9 @@ pub trait Links {
 
     /// Reads from a connection that came as a `Source` does: at least one byte into the front of
     /// `into`, unless the room is empty. No other connection changes.
+    ///
+    /// What stands in the room behind the bytes, and after another answer than `Step::Bytes`, is
+    /// not said.
     fn read(&mut self, conn: u32, into: &mut [u8]) -> Result<Step, Failed>
         requires { conn < came self.old }
         ensures within { IfBytes result (λ n. n ≤ length into.old) }
@@ -62,7 +70,7 @@ pub trait Links {
         ensures cause { HasCause (faults self.old conn) (faults self.new conn) (IsErr result) }
         ensures waits { HasCause (waits self.old conn) (waits self.new conn) (result ≡ Ok Step.NotYet) }
         ensures others { SameBut conn (left self.old) (left self.new) × SameBut conn (faults self.old) (faults self.new) × SameBut conn (waits self.old) (waits self.new) }
-        ensures accepts { (came self.new ≡ came self.old) × (accept_faults self.new ≡ accept_faults self.old) × (accept_waits self.new ≡ accept_waits self.old) };
+        ensures accepts { (came self.new ≡ came self.old) × (coming self.new ≡ coming self.old) × (accept_faults self.new ≡ accept_faults self.old) × (accept_waits self.new ≡ accept_waits self.old) };
 
     /// Closes a connection. Nothing more comes over it, and its counts may stand at any number from
     /// then on that isn't lower, so that nobody needs to keep them.
@@ -72,5 +80,5 @@ pub trait Links {
         ensures others { SameBut conn (left self.old) (left self.new) }
         ensures counts { SameBut conn (faults self.old) (faults self.new) × SameBut conn (waits self.old) (waits self.new) }
         ensures later { (faults self.old conn ≤ faults self.new conn) × (waits self.old conn ≤ waits self.new conn) }
-        ensures accepts { (came self.new ≡ came self.old) × (accept_faults self.new ≡ accept_faults self.old) × (accept_waits self.new ≡ accept_waits self.old) };
+        ensures accepts { (came self.new ≡ came self.old) × (coming self.new ≡ coming self.old) × (accept_faults self.new ≡ accept_faults self.old) × (accept_waits self.new ≡ accept_waits self.old) };
 }

@@ -90,6 +90,8 @@ impl<R: Net> Links for TcpLinks<R> {
 
     ghost came = { λ s. s.came };
 
+    ghost coming = { λ _. None };
+
     ghost given = { λ _. None };
 
     ghost left = { λ _ _. None };
