@@ -9,7 +9,7 @@ use Rattle.config_grammar.specs.declared.token.Conjunction.TheVariants as and
 use Rattle.config_grammar.specs.declared.token.Disjunction.TheVariants as or
 use Rattle.config_grammar.specs.declared.token.Section.TheVariants as kind
 use Rattle.config_grammar.specs.Words.{bareword, setting_name, plugin_name}
-use Rattle.config_grammar.specs.Lexemes.{word_of}
+use Rattle.config_grammar.specs.Lexemes.{word_of, other_word}
 use Rattle.config_again.specs.Tokens.{is_bare, name_token, plugin_token}
 
 -- one word of several
@@ -20,28 +20,14 @@ choose f s spelled a other h u = at (bytes_eq s spelled) refl
     at true is = h ∙ ap Some (sym ((bytes_eq-Decides s spelled).0 is))
     at false is = u
 
--- the words behind `if` and `else`
-abbrev others : List ℕ → Word
-others s =
-    if bytes_eq s (codes "in") then w.In
-    else (if bytes_eq s (codes "not") then w.Not
-    else (if bytes_eq s (codes "and") then w.Conjunction and.And
-    else (if bytes_eq s (codes "nand") then w.Conjunction and.Nand
-    else (if bytes_eq s (codes "or") then w.Disjunction or.Or
-    else (if bytes_eq s (codes "xor") then w.Disjunction or.Xor
-    else (if bytes_eq s (codes "input") then w.Section kind.Input
-    else (if bytes_eq s (codes "filter") then w.Section kind.Filter
-    else (if bytes_eq s (codes "output") then w.Section kind.Output
-    else w.Other s))))))))
-
 abbrev Spells : (Word → Option (List ℕ)) → Type 0
 Spells f =
     (f w.In ≡ Some (codes "in")) × (f w.Not ≡ Some (codes "not")) × (f (w.Conjunction and.And) ≡ Some (codes "and")) × (f (w.Conjunction and.Nand) ≡ Some (codes "nand"))
     × (f (w.Disjunction or.Or) ≡ Some (codes "or")) × (f (w.Disjunction or.Xor) ≡ Some (codes "xor")) × (f (w.Section kind.Input) ≡ Some (codes "input"))
     × (f (w.Section kind.Filter) ≡ Some (codes "filter")) × (f (w.Section kind.Output) ≡ Some (codes "output")) × ((s : List ℕ) → f (w.Other s) ≡ Some s)
 
-others_spell : (f : Word → Option (List ℕ)) (s : List ℕ) → Spells f → f (others s) ≡ Some s
-others_spell f s h =
+other_spells : (f : Word → Option (List ℕ)) (s : List ℕ) → Spells f → f (other_word s) ≡ Some s
+other_spells f s h =
     choose f s (codes "in") w.In _ h.0
     (choose f s (codes "not") w.Not _ h.1
     (choose f s (codes "and") (w.Conjunction and.And) _ h.2
@@ -61,8 +47,8 @@ plugin_word a = plugin_name (t.Word a)
 -- a word is spelled as it was
 pub word_spelled : (s : List ℕ) → bareword (t.Word (word_of s)) ≡ Some s
 word_spelled s =
-    choose bare_word s (codes "if") w.If (if bytes_eq s (codes "else") then w.Else else others s) refl
-    (choose bare_word s (codes "else") w.Else (others s) refl (others_spell bare_word s (refl, refl, refl, refl, refl, refl, refl, refl, refl, λ a. refl)))
+    choose bare_word s (codes "if") w.If (if bytes_eq s (codes "else") then w.Else else other_word s) refl
+    (choose bare_word s (codes "else") w.Else (other_word s) refl (other_spells bare_word s (refl, refl, refl, refl, refl, refl, refl, refl, refl, λ a. refl)))
 
 pub name_reads : (s : List ℕ) → setting_name (name_token s) ≡ Some s
 name_reads s = at (is_bare s) (list_any (λ b. nat_eq b 45) s)
@@ -75,9 +61,9 @@ name_reads s = at (is_bare s) (list_any (λ b. nat_eq b 45) s)
 pub plugin_reads : (s : List ℕ) → plugin_name (plugin_token s) ≡ Some s
 plugin_reads s = at (bytes_eq s (codes "if")) (bytes_eq s (codes "else")) (is_bare s) (list_any (λ b. nat_eq b 45) s)
   where
-    at : (i e b dash : Bool) → plugin_name (if i || e then t.Quoted s else (if b then (if dash then t.Dashed s else t.Word (if i then w.If else (if e then w.Else else others s))) else t.Quoted s)) ≡ Some s
+    at : (i e b dash : Bool) → plugin_name (if i || e then t.Quoted s else (if b then (if dash then t.Dashed s else t.Word (if i then w.If else (if e then w.Else else other_word s))) else t.Quoted s)) ≡ Some s
     at true e b dash = refl
     at false true b dash = refl
     at false false false dash = refl
     at false false true true = refl
-    at false false true false = others_spell plugin_word s (refl, refl, refl, refl, refl, refl, refl, refl, refl, λ a. refl)
+    at false false true false = other_spells plugin_word s (refl, refl, refl, refl, refl, refl, refl, refl, refl, λ a. refl)

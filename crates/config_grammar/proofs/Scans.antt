@@ -173,6 +173,3 @@ word_some dashes s i l h = run_some (is_in_word dashes) (drop i s) (get_or s i 0
 
 pub unsigned : (s : List ℕ) → begins 45 s ≡ false → begins_number s ≡ begins_digit s
 unsigned s h = ap (λ x. begins_digit (drop (if x then 1 else 0) s)) h
-
-pub with_sign : (s : List ℕ) → begins 45 s ≡ true → begins_number s ≡ begins_digit (drop 1 s)
-with_sign s h = ap (λ x. begins_digit (drop (if x then 1 else 0) s)) h

@@ -1,8 +1,7 @@
 -- The parts of a text of which tokens are made. Each length is a number of bytes.
-use Rattle.std.specs.Prelude.{ℕ, suc, ◌+◌, ◌==◌, ◌&&◌, ◌||◌, not, nat_le, Bool, true, false, if◌then◌else◌, List, [], ◌∷◌, length, take, drop, Option, Some, None, option_map, option_and_then}
-use Rattle.event_tree.specs.Number.{Num, least}
-use Rattle.event_tree.specs.Paths.{at_most}
-use Rattle.event_tree.specs.NumberTexts.{is_digit, number, signed, most}
+use Rattle.std.specs.Prelude.{ℕ, suc, ◌+◌, ◌==◌, ◌&&◌, ◌||◌, not, nat_le, Bool, true, false, if◌then◌else◌, List, [], ◌∷◌, take, drop, Option, Some, None, option_map}
+use Rattle.event_tree.specs.Number.{Num}
+use Rattle.event_tree.specs.NumberTexts.{is_digit, numeral}
 
 -- space, tab, carriage return and newline
 abbrev pub is_blank : ℕ → Bool
@@ -77,13 +76,7 @@ abbrev pub without_zeros : List ℕ → List ℕ
 without_zeros [] = []
 without_zeros (b ∷ s) = zeros_behind b (without_zeros s)
 
--- the number with these digits before the point and behind it; none with more than 18 places, or beyond 64 bits
-abbrev pub numeral : Bool → List ℕ → List ℕ → Option Num
-numeral negative whole places =
-    if nat_le (length places) 18 then option_and_then (λ k. least (signed negative k) (length places)) (at_most (most negative) (Some (number (number 0 whole) places)))
-    else None
-
--- the number that a spelling stands for: zeros in front, and those at the end behind a point, make no difference
+-- the number that a spelling stands for: zeros in front, and those at the end behind a point, make no difference; none with more than 18 other places, or beyond 64 bits
 abbrev pub number_of : List ℕ → Option Num
 number_of s =
     numeral (begins 45 s) (take (run is_digit (drop (sign_length s) s)) (drop (sign_length s) s)) (without_zeros (drop (suc (whole_length s)) s))

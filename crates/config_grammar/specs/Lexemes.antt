@@ -44,12 +44,10 @@ after_token x (t.Comparison j) = before_operand x.in_condition
 after_token x (t.Matching j) = before_operand x.in_condition
 after_token x y = plain x.in_condition
 
--- a word by its spelling
-abbrev pub word_of : List ℕ → Word
-word_of s =
-    if bytes_eq s (codes "if") then w.If
-    else (if bytes_eq s (codes "else") then w.Else
-    else (if bytes_eq s (codes "in") then w.In
+-- a word but `if` and `else`, by its spelling
+abbrev pub other_word : List ℕ → Word
+other_word s =
+    if bytes_eq s (codes "in") then w.In
     else (if bytes_eq s (codes "not") then w.Not
     else (if bytes_eq s (codes "and") then w.Conjunction and.And
     else (if bytes_eq s (codes "nand") then w.Conjunction and.Nand
@@ -58,7 +56,11 @@ word_of s =
     else (if bytes_eq s (codes "input") then w.Section kind.Input
     else (if bytes_eq s (codes "filter") then w.Section kind.Filter
     else (if bytes_eq s (codes "output") then w.Section kind.Output
-    else w.Other s))))))))))
+    else w.Other s))))))))
+
+-- a word by its spelling
+abbrev pub word_of : List ℕ → Word
+word_of s = if bytes_eq s (codes "if") then w.If else (if bytes_eq s (codes "else") then w.Else else other_word s)
 
 abbrev pub word_token : List ℕ → Token
 word_token s = if list_any (λ b. nat_eq b 45) s then t.Dashed s else t.Word (word_of s)

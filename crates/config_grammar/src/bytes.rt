@@ -1,9 +1,8 @@
 //! Lengths of the parts of which tokens are made.
 
-ghost use Rattle.std.specs.Prelude.{◌≡◌, ◌+◌, ◌-◌, ◌*◌, ◌≤◌, ◌<◌, false, true, drop, take, length, slice_index, suc, Some, IfSome};
+ghost use Rattle.std.specs.Prelude.{◌≡◌, ◌+◌, ◌-◌, ◌≤◌, ◌<◌, false, true, drop, length, slice_index, suc, IfSome};
 ghost use Rattle.config_grammar.specs.Bytes as spec;
 ghost use Rattle.event_tree.specs.NumberTexts as numbers;
-ghost use Rattle.event_tree.specs.Paths.{at_most};
 
 use event_tree::Number;
 
@@ -202,66 +201,6 @@ fn without_zeros(digits: &[u8]) -> &[u8]
     &digits[..end]
 }
 
-/// The number that the digits write behind those of `start`, if it is at most `limit`.
-fn number_behind(start: u128, digits: &[u8], limit: u128) -> Option<u128>
-    requires { start ≤ limit }
-    ensures { result ≡ at_most limit (Some (numbers.number start digits.now)) }
-{
-    let mut value = start;
-    for byte in digits {
-        let digit = byte.saturating_sub(b'0') as u128;
-        if value > limit / 10 || digit > limit - value * 10 {
-            return None;
-        }
-        value = value * 10 + digit;
-    }
-    Some(value)
-}
-
-/// The number that the digits write one behind the other, if it is at most `limit`.
-fn number_of_both(whole: &[u8], places: &[u8], limit: u128) -> Option<u128>
-    ensures { result ≡ at_most limit (Some (numbers.number (numbers.number 0 whole.now) places.now)) }
-{
-    match number_behind(0, whole, limit) {
-        Some(start) => number_behind(start, places, limit),
-        None => None,
-    }
-}
-
-/// How large the digits of a number may be.
-fn most_digits(negative: bool) -> u128
-    ensures { result ≡ numbers.most negative }
-{
-    if negative {
-        9_223_372_036_854_775_808
-    } else {
-        9_223_372_036_854_775_807
-    }
-}
-
-/// The number with a sign.
-fn signed(negative: bool, digits: u128) -> i64
-    requires { digits ≤ numbers.most negative }
-    ensures { result ≡ numbers.signed negative digits }
-{
-    let value = digits as i128;
-    let value = if negative { -value } else { value };
-    value as i64
-}
-
-/// The number with these digits before the point and behind it.
-fn numeral(negative: bool, whole: &[u8], places: &[u8]) -> Option<Number>
-    ensures { result ≡ spec.numeral negative whole.now places.now }
-{
-    if places.len() > 18 {
-        return None;
-    }
-    match number_of_both(whole, places, most_digits(negative)) {
-        Some(digits) => Number::new(signed(negative, digits), places.len() as u8),
-        None => None,
-    }
-}
-
 /// The length of the sign in front.
 fn sign_length(bytes: &[u8]) -> usize
     ensures value { result ≡ spec.sign_length bytes.now }
@@ -288,7 +227,7 @@ pub(crate) fn number_of(bytes: &[u8]) -> Option<Number>
     let from = sign_length(bytes);
     let end = digits_end(bytes, from);
     let whole = &bytes[from..end];
-    numeral(
+    Number::from_digits(
         begins(45, bytes, 0),
         whole,
         without_zeros(behind(bytes, end)),

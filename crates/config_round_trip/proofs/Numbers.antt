@@ -10,12 +10,12 @@ use Rattle.std.proofs.Math.Seq.{take-append_seam, drop-append_seam, take-length,
 use Rattle.std.proofs.lemmas.Fmt.{decimal_by_steps}
 use Rattle.event_tree.specs.Number.{Num, IsLeast, least}
 use Rattle.event_tree.specs.Paths.{at_most}
-use Rattle.event_tree.specs.NumberTexts.{is_digit, number, signed, most, IsI64}
+use Rattle.event_tree.specs.NumberTexts.{numeral, is_digit, number, signed, most, IsI64}
 use Rattle.event_tree.proofs.Tens.{number-append}
 use Rattle.event_tree.proofs.DecimalLemmas.{magnitude}
 use Rattle.event_tree.proofs.Least.{least_few}
 use Rattle.event_json.specs.Json.{zeros, padded, pointed, sign_of, number_text}
-use Rattle.config_grammar.specs.Bytes.{run, is_blank, is_letter, begins, begins_digit, sign_length, point_length, whole_length, number_length, begins_number, zeros_behind, without_zeros, numeral, number_of}
+use Rattle.config_grammar.specs.Bytes.{run, is_blank, is_letter, begins, begins_digit, sign_length, point_length, whole_length, number_length, begins_number, zeros_behind, without_zeros, number_of}
 use Rattle.config_round_trip.proofs.Strings.{is_plain, ArePlain}
 use Rattle.config_round_trip.proofs.Bools.{and_l, and_r, both_true}
 use Rattle.config_round_trip.proofs.Words.{Apart, blank_case, run_all, run_passes}
