@@ -1,5 +1,5 @@
 -- Bytes that are written behind others.
-use Rattle.std.specs.Prelude.{◌≡◌, ℕ, List, ◌++◌, Result, Ok, Err}
+use Rattle.std.specs.Prelude.{ℕ, List, Result, Ok, Err}
 use Rattle.event_tree.specs.Adds.{Adds, Keeps}
 
 -- The bytes are added; where memory runs out, those that were there are still in front.

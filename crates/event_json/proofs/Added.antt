@@ -1,5 +1,5 @@
 -- Text that is added to a string.
-use Rattle.std.proofs.Common.{◌≡◌, ℕ, ◌<◌, List, [], ◌∷◌, ◌++◌, length, drop, refl, sym, ap, ◌∙◌, arith, append_assoc, Some, Result, Ok, Err, OnOk, is_ok, if◌then◌else◌, length-drop, true, false}
+use Rattle.std.proofs.Common.{◌≡◌, ℕ, ◌<◌, List, [], ◌∷◌, ◌++◌, length, drop, refl, sym, ◌∙◌, arith, Some, Result, Ok, Err, OnOk, is_ok, if◌then◌else◌, length-drop, true, false}
 use Rattle.std.specs.Prelude.{encode_utf8}
 use lib.Utf8.{encode}
 use Rattle.json_grammar.specs.Strings.{replacement, is_high, is_low, alone, joined}

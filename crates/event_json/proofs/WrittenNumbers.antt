@@ -1,19 +1,18 @@
 -- A number as it is written is a number of the grammar, and its value is that number.
-use Rattle.std.proofs.Common.{◌≡◌, ℕ, zero, suc, ◌+◌, ◌-◌, ◌*◌, ◌/◌, ◌%◌, ◌^◌, ◌<◌, ◌≤◌, ◌==◌, ℤ, pos, negsuc, unsigned_abs, Bool, true, false, nat_le, nat_lt, List, [], ◌∷◌, ◌++◌, length, take, drop, Some, refl, sym, ap, ◌∙◌, arith, inl, inr, length-append, eqb-true}
+use Rattle.std.proofs.Common.{◌≡◌, ℕ, zero, suc, ◌+◌, ◌-◌, ◌^◌, ◌<◌, ◌≤◌, ◌==◌, ℤ, pos, negsuc, unsigned_abs, Bool, true, false, nat_le, nat_lt, List, [], ◌∷◌, ◌++◌, length, take, drop, Some, refl, sym, ap, ◌∙◌, arith, inl, inr, eqb-true}
 use Rattle.std.specs.Prelude.{decimal, slice_index}
 use Rattle.std.proofs.lemmas.Bool.Decides.{nat_tests}
 use Rattle.std.proofs.lemmas.Int.{ints}
 use Rattle.std.proofs.lemmas.List.{append-nil, take-append-drop, length-drop, length-take}
 use Rattle.std.proofs.Math.Seq.{take-length, drop-length}
-use Rattle.std.proofs.lemmas.Fmt.{decimal_digit, decimal_by_steps, first_decimal}
+use Rattle.std.proofs.lemmas.Fmt.{decimal_digit, first_decimal}
 use Rattle.event_tree.specs.Number.{Num, IsLeast}
 use Rattle.event_tree.specs.NumberTexts.{Decimal, is_digit, AreDigits, digits_front, digits_behind, is_whole, decimal_of, decimal_behind, split_minus, number, tens, signed, IsI64, NumberReads}
-use Rattle.event_tree.proofs.Tens.{number-append}
 use Rattle.json_grammar.specs.Grammar as g
 use Rattle.json_grammar.proofs.Tests.{bool_cases}
 use Rattle.json_grammar.specs.Numbers.{number_of}
 use Rattle.json_grammar.proofs.NumberLaws.{number_read_some}
-use Rattle.event_json.proofs.DecimalDigits.{Writes, decimal_writes, padded_writes, take_digits, drop_digits, length-padded}
+use Rattle.event_json.proofs.DecimalDigits.{padded_writes, take_digits, drop_digits, length-padded}
 use Rattle.event_json.specs.Json.{zeros, padded, pointed, sign_of, number_text}
 
 -- ---- scanning
