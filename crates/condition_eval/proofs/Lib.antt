@@ -2,6 +2,7 @@ pub mod Among
 pub mod EqualityLemmas
 pub mod Finding
 pub mod Holding
+pub mod Joints
 pub mod Lists
 pub mod Making
 pub mod Outs

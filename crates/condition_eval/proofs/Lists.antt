@@ -1,18 +1,10 @@
 -- Lists that are compared from the front.
-use Rattle.std.proofs.Common.{◌≡◌, ℕ, zero, suc, ◌+◌, ◌<◌, List, [], ◌∷◌, length, take, get_or, sym, subst, add-one, arith}
+use Rattle.std.proofs.Common.{◌≡◌, ℕ, ◌+◌, List, [], ◌∷◌, ◌++◌, take, slice_get, Some, sym, ap, ap₂, subst, ◌∙◌, add-one, rules}
+use Rattle.event_tree.proofs.ListLemmas.{take_more}
 
-take_suc : {A : Type 0} (xs ys : List A) (i : ℕ) (a b : A) → i < length xs → i < length ys → a ≡ get_or xs i a → b ≡ get_or ys i b → take i xs ≡ take i ys → a ≡ b → take (suc i) xs ≡ take (suc i) ys
-take_suc [] ys i a b l k p q t e = absurd (omega arith)
-take_suc (x ∷ xs) [] i a b l k p q t e = absurd (omega arith)
-take_suc (x ∷ xs) (y ∷ ys) zero a b l k p q t e = cc
-take_suc (x ∷ xs) (y ∷ ys) (suc i) a b l k p q t e = let f : x ≡ y = cc in let r : take i xs ≡ take i ys = cc in let s : take (suc i) xs ≡ take (suc i) ys = take_suc xs ys i a b (omega arith) (omega arith) p q r e in λ j. f j ∷ s j
-
-pub take_step : {A : Type 0} (xs ys : List A) (i : ℕ) (a b : A) → i < length xs → i < length ys → a ≡ get_or xs i a → b ≡ get_or ys i b → take i xs ≡ take i ys → a ≡ b → take (i + 1) xs ≡ take (i + 1) ys
-take_step xs ys i a b l k p q t e = subst (λ n. take n xs ≡ take n ys) (sym (add-one i)) (take_suc xs ys i a b l k p q t e)
+pub take_step : {A : Type 0} (xs ys : List A) (i : ℕ) (a b : A) → slice_get xs i ≡ Some a → slice_get ys i ≡ Some b → take i xs ≡ take i ys → a ≡ b → take (i + 1) xs ≡ take (i + 1) ys
+take_step xs ys i a b p q t e = subst (λ n. take n xs ≡ take n ys) (sym (add-one i)) (take_more xs i a p ∙ ap₂ (λ s c. s ++ c ∷ []) t e ∙ sym (take_more ys i b q))
 
 -- what stands at a place of equal lists is equal
-pub same_at : {A : Type 0} (xs ys : List A) (i : ℕ) (a b : A) → i < length xs → a ≡ get_or xs i a → b ≡ get_or ys i b → xs ≡ ys → a ≡ b
-same_at [] ys i a b l p q e = absurd (omega arith)
-same_at (x ∷ xs) [] i a b l p q e = absurd (cc)
-same_at (x ∷ xs) (y ∷ ys) zero a b l p q e = cc
-same_at (x ∷ xs) (y ∷ ys) (suc i) a b l p q e = let r : xs ≡ ys = cc in same_at xs ys i a b (omega arith) p q r
+pub same_at : {A : Type 0} (xs ys : List A) (i : ℕ) (a b : A) → slice_get xs i ≡ Some a → slice_get ys i ≡ Some b → xs ≡ ys → a ≡ b
+same_at xs ys i a b p q e = search (sym p ∙ ap (λ zs. slice_get zs i) e ∙ q, rules)

@@ -138,21 +138,6 @@ begins_length (s ∷ ss) (p ∷ ps) h = omega (arith, begins_length ss ps h.1)
 pub past_fits : (ss : List (List ℕ)) (at bound : ℕ) (ps : List box.Pattern) → BeginWith ss (drop at ps) → at < bound → length ps < bound → at + length ss < bound
 past_fits ss at bound ps h a l = let n : length ss ≤ length ps - at = subst (λ k. length ss ≤ k) (length-drop at ps) (begins_length ss (drop at ps) h) in omega (arith, n)
 
-pub first_within : (s : List ℕ) (at : ℕ) (ps : List box.Pattern) → BeginWith (s ∷ []) (drop at ps) → at < length ps
-first_within s at ps h = let n : 1 ≤ length ps - at = subst (λ k. 1 ≤ k) (length-drop at ps) (begins_length (s ∷ []) (drop at ps) h) in omega (arith, n)
-
-abbrev no_patterns : List box.Pattern
-no_patterns = []
-
-drop_nothing : (n : ℕ) → drop n no_patterns ≡ []
-drop_nothing zero = refl
-drop_nothing (suc n) = refl
-
-pub first_read : (s : List ℕ) (at : ℕ) (ps : List box.Pattern) (p d : box.Pattern) → BeginWith (s ∷ []) (drop at ps) → p ≡ get_or ps at d → IsReadFrom s p
-first_read s at [] p d h e = absurd (subst (BeginWith (s ∷ [])) (drop_nothing at) h)
-first_read s zero (q ∷ ps) p d h e = subst (IsReadFrom s) (sym e) h.0
-first_read s (suc at) (q ∷ ps) p d h e = first_read s at ps p d h e
-
 pub past_next : (a b : List (List ℕ)) (at next bound : ℕ) (ps : List box.Pattern) → BeginWith (a ++ b) (drop at ps) → at < bound → length ps < bound → next ≡ at + length a → next + length b < bound
 past_next a b at next bound ps h l k n = omega (arith, past_fits (a ++ b) at bound ps h l k, length-append a b)
 

@@ -20,6 +20,10 @@ use Rattle.condition_eval.specs.declared.truth.Truth.{Truth}
 use Rattle.condition_eval.specs.declared.truth.Truth.TheVariants as t
 use Rattle.condition_eval.specs.declared.compare.Order.{Order}
 use Rattle.condition_eval.specs.declared.compare.Order.TheVariants as o
+use Rattle.condition_eval.specs.declared.operators.Relation.{Relation}
+use Rattle.condition_eval.specs.declared.operators.Relation.TheVariants as relation
+use Rattle.condition_eval.specs.declared.walk.Joint.{Joint}
+use Rattle.condition_eval.specs.declared.walk.Joint.TheVariants as joint
 
 abbrev pub truth_of : Bool → Truth
 truth_of holds = if holds then t.Yes else t.No
@@ -47,6 +51,12 @@ different t.Yes right = negated right
 different t.No right = right
 different (t.Wrong reason) right = t.Wrong reason
 
+-- what two conditions say that are joined so
+abbrev pub joined : Joint → Truth → Truth → Truth
+joined joint.And left right = conjoined left right
+joined joint.Or left right = disjoined left right
+joined joint.Xor left right = different left right
+
 abbrev pub alone_in : Value-F Value → Truth
 alone_in Value-F.Null = t.No
 alone_in (Value-F.Bool b) = truth_of b
@@ -63,6 +73,13 @@ alone x = alone_in (out-Value x)
 -- `==`
 abbrev pub equal : Value → Value → Truth
 equal x y = truth_of (are_equal x y)
+
+-- the orders that `<`, `>`, `<=` and `>=` accept
+abbrev pub accepts : Relation → Ordering → Bool
+accepts relation.Less = is_lt
+accepts relation.Greater = is_gt
+accepts relation.AtMost = is_le
+accepts relation.AtLeast = is_ge
 
 -- `<`, `>`, `<=` and `>=`, by which orders they accept
 abbrev pub ordered : (Ordering → Bool) → Order → Truth

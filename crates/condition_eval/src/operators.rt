@@ -1,7 +1,6 @@
 //! The operators whose sides are operands, each by the rule of its own.
 
 ghost use Rattle.std.specs.Prelude.{◌≡◌};
-ghost use Rattle.std.specs.Ordering.{is_lt, is_gt, is_le, is_ge};
 ghost use Rattle.condition_eval.specs.Truths as spec;
 ghost use Rattle.condition_eval.specs.Values.{operand_value, order_of};
 
@@ -10,6 +9,7 @@ use crate::side::{Side, side_of};
 use crate::truth::{Reason, Truth};
 use config_grammar::Operand;
 use event_tree::Event;
+use std::cmp::Ordering;
 
 /// An operand alone: Yes unless it is null or false.
 #[tactic(auto, using(crate::proofs::Outs::outs))]
@@ -29,42 +29,35 @@ pub(crate) fn equal(left: &Operand, right: &Operand, event: &Event) -> Truth
     Truth::of(are_equal(side_of(left, event), side_of(right, event)))
 }
 
-pub(crate) fn less(left: &Operand, right: &Operand, event: &Event) -> Truth
-    ensures { result ≡ spec.ordered is_lt (order_of (operand_value event.now left.now) (operand_value event.now right.now)) }
-{
-    match compared(side_of(left, event), side_of(right, event)) {
-        Order::Null => Truth::No,
-        Order::Is(order) => Truth::of(order.is_lt()),
-        Order::Wrong(left, right) => Truth::Wrong(Reason::Order(left, right)),
+/// The operators that compare by order.
+#[derive(Clone, Copy)]
+pub(crate) enum Relation {
+    Less,
+    Greater,
+    AtMost,
+    AtLeast,
+}
+
+impl Relation {
+    fn accepts(self, order: Ordering) -> bool
+        ensures { result ≡ spec.accepts self order }
+    {
+        match self {
+            Relation::Less => order.is_lt(),
+            Relation::Greater => order.is_gt(),
+            Relation::AtMost => order.is_le(),
+            Relation::AtLeast => order.is_ge(),
+        }
     }
 }
 
-pub(crate) fn greater(left: &Operand, right: &Operand, event: &Event) -> Truth
-    ensures { result ≡ spec.ordered is_gt (order_of (operand_value event.now left.now) (operand_value event.now right.now)) }
+pub(crate) fn ordered(relation: Relation, left: &Operand, right: &Operand, event: &Event) -> Truth
+    ensures { result ≡ spec.ordered (spec.accepts relation)
+        (order_of (operand_value event.now left.now) (operand_value event.now right.now)) }
 {
     match compared(side_of(left, event), side_of(right, event)) {
         Order::Null => Truth::No,
-        Order::Is(order) => Truth::of(order.is_gt()),
-        Order::Wrong(left, right) => Truth::Wrong(Reason::Order(left, right)),
-    }
-}
-
-pub(crate) fn at_most(left: &Operand, right: &Operand, event: &Event) -> Truth
-    ensures { result ≡ spec.ordered is_le (order_of (operand_value event.now left.now) (operand_value event.now right.now)) }
-{
-    match compared(side_of(left, event), side_of(right, event)) {
-        Order::Null => Truth::No,
-        Order::Is(order) => Truth::of(order.is_le()),
-        Order::Wrong(left, right) => Truth::Wrong(Reason::Order(left, right)),
-    }
-}
-
-pub(crate) fn at_least(left: &Operand, right: &Operand, event: &Event) -> Truth
-    ensures { result ≡ spec.ordered is_ge (order_of (operand_value event.now left.now) (operand_value event.now right.now)) }
-{
-    match compared(side_of(left, event), side_of(right, event)) {
-        Order::Null => Truth::No,
-        Order::Is(order) => Truth::of(order.is_ge()),
+        Order::Is(order) => Truth::of(relation.accepts(order)),
         Order::Wrong(left, right) => Truth::Wrong(Reason::Order(left, right)),
     }
 }

@@ -1,4 +1,4 @@
-ghost use Rattle.std.specs.Prelude.{◌≡◌, ◌<◌, length, slice_index_or};
+ghost use Rattle.std.specs.Prelude.{◌≡◌, ◌<◌, length, slice_get, Some};
 ghost use Rattle.condition_eval.specs.Values as spec;
 ghost use Rattle.condition_eval.specs.Sides as sides;
 
@@ -47,8 +47,7 @@ impl<'a> Elements<'a> {
 
     pub(crate) fn at(self, index: usize) -> Element<'a>
         requires { index < length (sides.values_of self) }
-        ensures { sides.element_value result
-            ≡ slice_index_or (sides.values_of self.entry) index (sides.element_value result) }
+        ensures { slice_get (sides.values_of self.entry) index ≡ Some (sides.element_value result) }
     {
         match self {
             Elements::Values(values) => Element::Value(&values[index]),

@@ -5,7 +5,7 @@ ghost use Rattle.condition_eval.specs.Made.{AreMadeOf, BeginWith, texts, pattern
 ghost use Rattle.condition_eval.specs.Sides.{value_of};
 ghost use Rattle.condition_eval.specs.Values.{operand_value};
 
-use crate::operators::{alone, at_least, at_most, equal, greater, less, within};
+use crate::operators::{Relation, alone, equal, ordered, within};
 use crate::side::{Side, kind, side_of};
 use crate::truth::{Reason, Truth};
 use config_grammar::{Condition, Operand, Pattern as Written};
@@ -69,12 +69,18 @@ fn walk(
 {
     match condition {
         Condition::Not(part) => Ok(walk(part.get(), patterns, at, event)?.negated()),
-        Condition::And(left, right) => and(left.get(), right.get(), patterns, at, event),
-        Condition::Nand(left, right) => {
-            Ok(and(left.get(), right.get(), patterns, at, event)?.negated())
+        Condition::And(left, right) => {
+            joined(Joint::And, left.get(), right.get(), patterns, at, event)
         }
-        Condition::Or(left, right) => or(left.get(), right.get(), patterns, at, event),
-        Condition::Xor(left, right) => xor(left.get(), right.get(), patterns, at, event),
+        Condition::Nand(left, right) => {
+            Ok(joined(Joint::And, left.get(), right.get(), patterns, at, event)?.negated())
+        }
+        Condition::Or(left, right) => {
+            joined(Joint::Or, left.get(), right.get(), patterns, at, event)
+        }
+        Condition::Xor(left, right) => {
+            joined(Joint::Xor, left.get(), right.get(), patterns, at, event)
+        }
         Condition::Matches(operand, written) => search(operand, written, patterns, at, event),
         Condition::MatchesNot(operand, written) => {
             Ok(search(operand, written, patterns, at, event)?.negated())
@@ -82,43 +88,36 @@ fn walk(
         Condition::Operand(operand) => Ok(here(alone(operand, event), at)),
         Condition::Equal(left, right) => Ok(here(equal(left, right, event), at)),
         Condition::Unequal(left, right) => Ok(here(equal(left, right, event), at).negated()),
-        Condition::Less(left, right) => Ok(here(less(left, right, event), at)),
-        Condition::Greater(left, right) => Ok(here(greater(left, right, event), at)),
-        Condition::AtMost(left, right) => Ok(here(at_most(left, right, event), at)),
-        Condition::AtLeast(left, right) => Ok(here(at_least(left, right, event), at)),
+        Condition::Less(left, right) => Ok(here(ordered(Relation::Less, left, right, event), at)),
+        Condition::Greater(left, right) => Ok(here(
+            ordered(Relation::Greater, left, right, event),
+            at,
+        )),
+        Condition::AtMost(left, right) => Ok(here(
+            ordered(Relation::AtMost, left, right, event),
+            at,
+        )),
+        Condition::AtLeast(left, right) => Ok(here(
+            ordered(Relation::AtLeast, left, right, event),
+            at,
+        )),
         Condition::In(left, right) => Ok(here(within(left, right, event), at)),
         Condition::NotIn(left, right) => Ok(here(within(left, right, event), at).negated()),
     }
 }
 
-/// The right side is evaluated after Yes alone.
-#[cycle(walk)]
-fn and(
-    left: &Condition,
-    right: &Condition,
-    patterns: &mut [Pattern],
-    at: usize,
-    event: &Event,
-) -> Result<Passed, AllocError>
-    requires { BeginWith (texts left.now ++ texts right.now) (drop at patterns.old) }
-    ensures truth { IfOk result (λ passed. passed.truth
-        ≡ spec.conjoined (spec.truth left.now event.now) (spec.truth right.now event.now)) }
-    ensures next { IfOk result (λ passed. passed.next
-        ≡ at + length (texts left.now ++ texts right.now)) }
-    ensures without_patterns { texts left.now ++ texts right.now ≡ [] → IsOk result }
-    ensures same { meanings patterns.new ≡ meanings patterns.old }
-{
-    let Passed { truth, next } = walk(left, patterns, at, event)?;
-    match truth {
-        Truth::Yes => walk(right, patterns, next, event),
-        Truth::No => Ok(here(Truth::No, past(right, next))),
-        Truth::Wrong(reason) => Ok(here(Truth::Wrong(reason), past(right, next))),
-    }
+/// The operators that join two conditions.
+#[derive(Clone, Copy)]
+pub(crate) enum Joint {
+    And,
+    Or,
+    Xor,
 }
 
-/// The right side is evaluated after No alone.
+/// The right side is evaluated after Yes by `and`, after No by `or`, and after both by `xor`.
 #[cycle(walk)]
-fn or(
+fn joined(
+    joint: Joint,
     left: &Condition,
     right: &Condition,
     patterns: &mut [Pattern],
@@ -127,42 +126,19 @@ fn or(
 ) -> Result<Passed, AllocError>
     requires { BeginWith (texts left.now ++ texts right.now) (drop at patterns.old) }
     ensures truth { IfOk result (λ passed. passed.truth
-        ≡ spec.disjoined (spec.truth left.now event.now) (spec.truth right.now event.now)) }
+        ≡ spec.joined joint (spec.truth left.now event.now) (spec.truth right.now event.now)) }
     ensures next { IfOk result (λ passed. passed.next
         ≡ at + length (texts left.now ++ texts right.now)) }
     ensures without_patterns { texts left.now ++ texts right.now ≡ [] → IsOk result }
     ensures same { meanings patterns.new ≡ meanings patterns.old }
 {
     let Passed { truth, next } = walk(left, patterns, at, event)?;
-    match truth {
-        Truth::Yes => Ok(here(Truth::Yes, past(right, next))),
-        Truth::No => walk(right, patterns, next, event),
-        Truth::Wrong(reason) => Ok(here(Truth::Wrong(reason), past(right, next))),
-    }
-}
-
-/// The right side is evaluated after Yes and No.
-#[cycle(walk)]
-fn xor(
-    left: &Condition,
-    right: &Condition,
-    patterns: &mut [Pattern],
-    at: usize,
-    event: &Event,
-) -> Result<Passed, AllocError>
-    requires { BeginWith (texts left.now ++ texts right.now) (drop at patterns.old) }
-    ensures truth { IfOk result (λ passed. passed.truth
-        ≡ spec.different (spec.truth left.now event.now) (spec.truth right.now event.now)) }
-    ensures next { IfOk result (λ passed. passed.next
-        ≡ at + length (texts left.now ++ texts right.now)) }
-    ensures without_patterns { texts left.now ++ texts right.now ≡ [] → IsOk result }
-    ensures same { meanings patterns.new ≡ meanings patterns.old }
-{
-    let Passed { truth, next } = walk(left, patterns, at, event)?;
-    match truth {
-        Truth::Yes => Ok(walk(right, patterns, next, event)?.negated()),
-        Truth::No => walk(right, patterns, next, event),
-        Truth::Wrong(reason) => Ok(here(Truth::Wrong(reason), past(right, next))),
+    match (joint, truth) {
+        (Joint::And, Truth::Yes) | (Joint::Or, Truth::No) | (Joint::Xor, Truth::No) => {
+            walk(right, patterns, next, event)
+        }
+        (Joint::Xor, Truth::Yes) => Ok(walk(right, patterns, next, event)?.negated()),
+        (_, truth) => Ok(here(truth, past(right, next))),
     }
 }
 

@@ -1,19 +1,12 @@
-use Rattle.std.proofs.Common.{◌<◌, length, rules, sym, true≢false}
+use Rattle.std.proofs.Common.{rules, sym, true≢false}
 use Rattle.condition_eval.specs.Sides.{values_of, element_value}
 use Rattle.condition_eval.proofs.Lists.{take_step, same_at}
 use Rattle.condition_eval.proofs.compare.are_equal_elements.Goals as goal
 
 pub loop-i-preserved : goal.loop-i-preserved
 loop-i-preserved c =
-    let xs = values_of c.args.left in
-    let ys = values_of c.args.right in
-    let lx : c.loop-i.i < length xs = search rules in
-    let ly : c.loop-i.i < length ys = search rules in
-    take_step xs ys c.loop-i.i (element_value c.at.result) (element_value c.at-in-loop-i.result) lx ly c.at.ensures c.at-in-loop-i.ensures c.loop-i.invariant (search rules)
+    take_step (values_of c.args.left) (values_of c.args.right) c.loop-i.i (element_value c.at.result) (element_value c.at-in-loop-i.result) c.at.ensures c.at-in-loop-i.ensures c.loop-i.invariant (search rules)
 
 pub returns-then-not-are_same : goal.returns-then-not-are_same
 returns-then-not-are_same c =
-    let xs = values_of c.args.left in
-    let ys = values_of c.args.right in
-    let lx : c.loop-i.i < length xs = search rules in
-    (λ t. absurd (true≢false (sym t)), λ e. let s = same_at xs ys c.loop-i.i (element_value c.at.result) (element_value c.at-in-loop-i.result) lx c.at.ensures c.at-in-loop-i.ensures e in search (rules, s))
+    (λ t. absurd (true≢false (sym t)), λ e. let s = same_at (values_of c.args.left) (values_of c.args.right) c.loop-i.i (element_value c.at.result) (element_value c.at-in-loop-i.result) c.at.ensures c.at-in-loop-i.ensures e in search (rules, s))

@@ -5,11 +5,5 @@ use Rattle.condition_eval.proofs.walk.+walk.Given as goal
 abbrev pub decreases-walk : goal.decreases-walk
 decreases-walk l = 2 * weight l.condition.now + 1
 
-abbrev pub decreases-and : goal.decreases-and
-decreases-and l = 2 * (weight l.left.now + weight l.right.now) + 2
-
-abbrev pub decreases-or : goal.decreases-or
-decreases-or l = 2 * (weight l.left.now + weight l.right.now) + 2
-
-abbrev pub decreases-xor : goal.decreases-xor
-decreases-xor l = 2 * (weight l.left.now + weight l.right.now) + 2
+abbrev pub decreases-joined : goal.decreases-joined
+decreases-joined l = 2 * (weight l.left.now + weight l.right.now) + 2
