@@ -52,9 +52,6 @@ set_same name old before stood = record {
       (λ differ is. get_member-set_member-other name n differ before old);
 }
 
-pub same_refl : (old : Table) → IsSame old old
-same_refl old = record { each = λ n. refl }
-
 -- what stood there, changed in its place, by a call that may fail
 pub set_on : {E : Type 0} (name : List ℕ) (change : Option (List ℕ) → Option (List ℕ)) (old : Table) (before after : List ℕ) (result : Result (Unit {0}) E) → Some before ≡ content_of old name
     → OnOk result (change (Some before) ≡ Some after) → OnOk result (Changed name change old (set_member name after old))

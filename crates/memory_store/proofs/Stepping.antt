@@ -140,9 +140,6 @@ pub on_did : {E P : Type 0} (old new : Keeping) (call : Call) (result : Result (
 on_did old new call (Ok u) so is = so is
 on_did old new call (Err e) so is = tt
 
-pub when_ok : {T E : Type 0} (old new : Keeping) (call : Call) (result : Result T E) (x : T) → result ≡ Ok x → Answered old new call (is_ok result) → Answered old new call true
-when_ok old new call result x is state = subst (λ r. Answered old new call (is_ok r)) is state
-
 pub synced_or : (old new : Keeping) (call : Call) (did : Bool) → step_of call ≡ synced → Answered old new call did → (i : Image) → LeavesFrom new (moment_of new) i → LeavesFrom old (moment_of old) i ⊎ IsAtRest (reads_of old) i
 synced_or old new call true sync is i left = inr (synced_images old new call sync is i left)
 synced_or old new call false sync is i left = inl (failed_images old new call is i left)

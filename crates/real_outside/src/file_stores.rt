@@ -1,8 +1,9 @@
-ghost use Rattle.std.specs.Prelude.{◌≡◌, ◌≤◌, ◌||◌, true, false, None, Ok, Err, IfOk, IsErr, is_err, length};
+ghost use Rattle.std.specs.Prelude.{◌≡◌, ◌≤◌, ◌||◌, true, false, None, Err, IfOk, IsErr, is_err, length};
 ghost use Rattle.std.proofs.lemmas.Bool.{false≢true};
-ghost use Rattle.outside.specs.Counts.{HasCause, Rose, one_more};
+ghost use Rattle.outside.specs.Counts.{HasCause};
 ghost use Rattle.real_outside.specs.Adapters.{store_called, store_listed, store_synced};
 
+use crate::fault_counts::{counted, counted_list};
 use crate::folders::names_in;
 use crate::opened_files::OpenedFiles;
 use outside::{Failed, ListFault, Names};
@@ -58,31 +59,6 @@ impl<R> FileStore<R> {
     {
         self.faults
     }
-
-    // Counts a fault.
-    fn fail(&mut self) -> Failed
-        ensures state { self.new ≡ record self.old { faults = one_more self.old.faults } }
-        ensures later { self.old.faults ≤ self.new.faults }
-        ensures rose { Rose self.old.faults self.new.faults }
-    {
-        self.faults = self.faults.saturating_add(1);
-        Failed
-    }
-
-    // Counts a call that failed.
-    fn counted<T>(&mut self, outcome: io::Result<T>) -> Result<T, Failed>
-    where
-        T: Drop,
-        ensures counts { self.new ≡ store_called self.old result }
-        ensures same { IfOk result (λ value. outcome ≡ Ok value) }
-        ensures failed { is_err result ≡ is_err outcome }
-        ensures cause { HasCause self.old.faults self.new.faults (IsErr result) }
-    {
-        match outcome {
-            Ok(value) => Ok(value),
-            Err(_) => Err(self.fail()),
-        }
-    }
 }
 
 impl<R: Files<File = File> + AllocGlobal + Clone + Drop> FileStore<R> {
@@ -117,11 +93,8 @@ impl<R: Files<File = File> + AllocGlobal + Clone + Drop> Store for FileStore<R> 
         // What every store promises.
         ensures cause { HasCause self.old.faults self.new.faults (result ≡ Err ListFault.Failed) }
     {
-        match names_in(&self.rt, alloc, folder) {
-            Ok(names) => Ok(names),
-            Err(error) if error.kind() == ErrorKind::OutOfMemory => Err(ListFault::Memory),
-            Err(_) => Err(ListFault::from(self.fail())),
-        }
+        let outcome = names_in(&self.rt, alloc, folder);
+        counted_list(&mut self.faults, outcome)
     }
 
     fn length(&mut self, name: &str) -> Result<Option<u64>, Failed>
@@ -131,7 +104,7 @@ impl<R: Files<File = File> + AllocGlobal + Clone + Drop> Store for FileStore<R> 
         ensures cause { HasCause self.old.faults self.new.faults (IsErr result) }
     {
         let outcome = self.opened.length(&self.rt, name);
-        self.counted(outcome)
+        counted(&mut self.faults, outcome)
     }
 
     fn read(&mut self, name: &str, at: u64, into: &mut [u8]) -> Result<usize, Failed>
@@ -142,7 +115,7 @@ impl<R: Files<File = File> + AllocGlobal + Clone + Drop> Store for FileStore<R> 
         ensures cause { HasCause self.old.faults self.new.faults (IsErr result) }
     {
         let outcome = self.opened.read(&self.rt, name, at, into);
-        self.counted(outcome)
+        counted(&mut self.faults, outcome)
     }
 
     fn append(&mut self, name: &str, bytes: &[u8]) -> Result<(), Failed>
@@ -152,7 +125,7 @@ impl<R: Files<File = File> + AllocGlobal + Clone + Drop> Store for FileStore<R> 
         ensures cause { HasCause self.old.faults self.new.faults (IsErr result) }
     {
         let outcome = self.opened.append(&self.rt, name, bytes);
-        self.counted(outcome)
+        counted(&mut self.faults, outcome)
     }
 
     fn write_at(&mut self, name: &str, at: u64, bytes: &[u8]) -> Result<(), Failed>
@@ -162,7 +135,7 @@ impl<R: Files<File = File> + AllocGlobal + Clone + Drop> Store for FileStore<R> 
         ensures cause { HasCause self.old.faults self.new.faults (IsErr result) }
     {
         let outcome = self.opened.write_at(&self.rt, name, at, bytes);
-        self.counted(outcome)
+        counted(&mut self.faults, outcome)
     }
 
     fn cut(&mut self, name: &str, length: u64) -> Result<(), Failed>
@@ -172,7 +145,7 @@ impl<R: Files<File = File> + AllocGlobal + Clone + Drop> Store for FileStore<R> 
         ensures cause { HasCause self.old.faults self.new.faults (IsErr result) }
     {
         let outcome = self.opened.cut(&self.rt, name, length);
-        self.counted(outcome)
+        counted(&mut self.faults, outcome)
     }
 
     fn remove(&mut self, name: &str) -> Result<(), Failed>
@@ -182,7 +155,7 @@ impl<R: Files<File = File> + AllocGlobal + Clone + Drop> Store for FileStore<R> 
         ensures cause { HasCause self.old.faults self.new.faults (IsErr result) }
     {
         let outcome = self.opened.remove(&self.rt, name);
-        self.counted(outcome)
+        counted(&mut self.faults, outcome)
     }
 
     /// Once a sync failed, each later one fails too.
@@ -194,7 +167,7 @@ impl<R: Files<File = File> + AllocGlobal + Clone + Drop> Store for FileStore<R> 
         ensures cause { HasCause self.old.faults self.new.faults (IsErr result) }
     {
         let outcome = self.settle();
-        self.counted(outcome)
+        counted(&mut self.faults, outcome)
     }
 
     ghost images_tell = { λ s t i left. absurd left };

@@ -6,6 +6,7 @@
 #![tactic(auto)]
 
 mod connections;
+mod fault_counts;
 mod file_stores;
 mod folders;
 mod go_controls;

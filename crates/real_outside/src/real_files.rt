@@ -1,7 +1,8 @@
-ghost use Rattle.std.specs.Prelude.{◌≡◌, ◌≤◌, false, None, Err, Ok, IfOk, IsErr, length};
-ghost use Rattle.outside.specs.Counts.{HasCause, Rose, one_more};
+ghost use Rattle.std.specs.Prelude.{◌≡◌, ◌≤◌, false, None, Err, IfOk, IsErr, length};
+ghost use Rattle.outside.specs.Counts.{HasCause, one_more};
 ghost use Rattle.real_outside.specs.Adapters.{called, called_list};
 
+use crate::fault_counts::{counted, counted_list};
 use crate::folders::names_in;
 use crate::opened_files::read_from;
 use outside::{Failed, Files, ListFault, Names};
@@ -54,31 +55,6 @@ impl<R> RealFiles<R> {
     {
         self.faults
     }
-
-    // Counts a fault.
-    fn fail(&mut self) -> Failed
-        ensures state { self.new ≡ record self.old { faults = one_more self.old.faults } }
-        ensures later { self.old.faults ≤ self.new.faults }
-        ensures rose { Rose self.old.faults self.new.faults }
-    {
-        self.faults = self.faults.saturating_add(1);
-        Failed
-    }
-
-    // Counts a call, and its failure.
-    fn counted<T>(&mut self, outcome: io::Result<T>) -> Result<T, Failed>
-    where
-        T: Drop,
-        ensures counts { self.new ≡ called self.old result }
-        ensures same { IfOk result (λ value. outcome ≡ Ok value) }
-        ensures cause { HasCause self.old.faults self.new.faults (IsErr result) }
-    {
-        self.calls = self.calls.saturating_add(1);
-        match outcome {
-            Ok(value) => Ok(value),
-            Err(_) => Err(self.fail()),
-        }
-    }
 }
 
 // The length of a file; None where there is none, or a folder.
@@ -115,22 +91,40 @@ impl<R: RuntimeFiles<File = File> + AllocGlobal + Clone + Drop> Files for RealFi
 
     ghost faults = { λ s. s.faults };
 
-    fn list(&mut self, alloc: Global, folder: &str) -> Result<Names, ListFault> {
+    fn list(&mut self, alloc: Global, folder: &str) -> Result<Names, ListFault>
+        ensures state { self.new ≡ called_list self.old result }
+
+        // What all files promise.
+        ensures calls { self.new.calls ≡ one_more self.old.calls }
+        ensures cause { HasCause self.old.faults self.new.faults (result ≡ Err ListFault.Failed) }
+    {
         self.calls = self.calls.saturating_add(1);
-        match names_in(&self.rt, alloc, folder) {
-            Ok(names) => Ok(names),
-            Err(error) if error.kind() == ErrorKind::OutOfMemory => Err(ListFault::Memory),
-            Err(_) => Err(ListFault::from(self.fail())),
-        }
+        let outcome = names_in(&self.rt, alloc, folder);
+        counted_list(&mut self.faults, outcome)
     }
 
-    fn length(&mut self, path: &str) -> Result<Option<u64>, Failed> {
+    fn length(&mut self, path: &str) -> Result<Option<u64>, Failed>
+        ensures state { self.new ≡ called self.old result }
+
+        // What all files promise.
+        ensures calls { self.new.calls ≡ one_more self.old.calls }
+        ensures cause { HasCause self.old.faults self.new.faults (IsErr result) }
+    {
+        self.calls = self.calls.saturating_add(1);
         let outcome = length_of(&self.rt, path);
-        self.counted(outcome)
+        counted(&mut self.faults, outcome)
     }
 
-    fn read(&mut self, path: &str, at: u64, into: &mut [u8]) -> Result<usize, Failed> {
+    fn read(&mut self, path: &str, at: u64, into: &mut [u8]) -> Result<usize, Failed>
+        ensures state { self.new ≡ called self.old result }
+
+        // What all files promise.
+        ensures within { IfOk result (λ n. n ≤ length into.old) }
+        ensures calls { self.new.calls ≡ one_more self.old.calls }
+        ensures cause { HasCause self.old.faults self.new.faults (IsErr result) }
+    {
+        self.calls = self.calls.saturating_add(1);
         let outcome = read_path(&self.rt, path, at, into);
-        self.counted(outcome)
+        counted(&mut self.faults, outcome)
     }
 }

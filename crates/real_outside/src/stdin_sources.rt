@@ -4,6 +4,7 @@ ghost use Rattle.std.specs.Io.KnownBytes.{Consumes, IsAtEnd};
 ghost use Rattle.outside.specs.Pieces.{bytes_in, gave, IfBytes};
 ghost use Rattle.real_outside.specs.Adapters.{counts_after, no_counts};
 
+use crate::fault_counts::fail;
 use outside::{Failed, Source, Step};
 use std::io::{ErrorKind, Read};
 use std::marker::Model;
@@ -87,10 +88,7 @@ impl<R: Read> Source for StdinSource<R> {
                     self.waits = self.waits.saturating_add(1);
                     Ok(Step::NotYet)
                 }
-                _ => {
-                    self.faults = self.faults.saturating_add(1);
-                    Err(Failed)
-                }
+                _ => Err(fail(&mut self.faults)),
             },
         }
     }

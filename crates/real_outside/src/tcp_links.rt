@@ -4,6 +4,7 @@ ghost use Rattle.outside.specs.Counts.{HasCause};
 ghost use Rattle.outside.specs.Pieces.{IfBytes};
 
 use crate::connections::Connections;
+use crate::fault_counts::fail;
 use crate::listeners::Listeners;
 use outside::{Come, Failed, Links, Step};
 use std::alloc::Global;
@@ -127,10 +128,7 @@ impl<R: Net> Links for TcpLinks<R> {
                 self.waits = self.waits.saturating_add(1);
                 Ok(Come::NotYet)
             }
-            Err(_) => {
-                self.faults = self.faults.saturating_add(1);
-                Err(Failed)
-            }
+            Err(_) => Err(fail(&mut self.faults)),
         }
     }
 

@@ -3,6 +3,7 @@ ghost use Rattle.std.specs.Io.KnownBytes.{Keeps, WriteAppends};
 ghost use Rattle.outside.specs.Counts.{HasCause};
 ghost use Rattle.real_outside.specs.Adapters.{faults_after};
 
+use crate::fault_counts::{counted, fail};
 use outside::{Failed, Sink};
 use std::io::{ErrorKind, Write};
 use std::marker::Model;
@@ -66,8 +67,7 @@ impl<W: Write> Sink for WriteSink<W> {
                 _ => break,
             }
         }
-        self.faults = self.faults.saturating_add(1);
-        Err(Failed)
+        Err(fail(&mut self.faults))
     }
 
     /// Flushes the writer. With any error it failed.
@@ -78,13 +78,8 @@ impl<W: Write> Sink for WriteSink<W> {
         // What every sink promises.
         ensures cause { HasCause self.old.faults self.new.faults (IsErr result) }
     {
-        match self.output.flush() {
-            Ok(()) => Ok(()),
-            Err(_) => {
-                self.faults = self.faults.saturating_add(1);
-                Err(Failed)
-            }
-        }
+        let outcome = self.output.flush();
+        counted(&mut self.faults, outcome)
     }
 
     ghost flushed_within = { λ _. within_untold 0 };

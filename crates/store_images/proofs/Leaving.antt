@@ -6,7 +6,7 @@ use Rattle.plain_lists.proofs.ChangeLemmas.{same_key-decides}
 use Rattle.plain_lists.proofs.KeyLemmas.{same_key-other}
 use Rattle.outside.specs.Folders.{Content}
 use Rattle.outside.specs.Reads.{bytes_of, file_length}
-use Rattle.store_images.specs.Images.{FileImage, Image, at_rest, overlaid, TornFile, CutFile, RemovedFile, On, Follows}
+use Rattle.store_images.specs.Images.{FileImage, Image, at_rest, overlaid, TornFile, CutFile, RemovedFile, On}
 use Rattle.store_images.specs.Times.{Elapses}
 use Rattle.store_images.specs.Steps.{Step, appended, wrote, shortened, removed, synced, nothing, held, MayLeave, first_steps, LeavesAt}
 use Rattle.store_images.specs.Leftovers.{Fate, kept, write_left, cut_left, removal_left, left_by}
@@ -104,10 +104,6 @@ steps_past t step earlier le = let more : length (step ∷ earlier) - t ≡ suc 
 pub leaves_now : (base : Content) (steps : List Step) (i : Image) → LeavesAt base steps (length steps) i ↔ MayLeave base steps i
 leaves_now base steps i = (λ left. subst (λ l. MayLeave base l i) (steps_now steps) left, λ left. subst (λ l. MayLeave base l i) (sym (steps_now steps)) left)
 
--- at a moment it has the images of the steps up to it
-pub leaves_first : (base : Content) (steps : List Step) (t : ℕ) (left : Content) → IsLeft base (first_steps t steps) left → (i : Image) × LeavesAt base steps t i × ((n : List ℕ) → (i n).file ≡ left n)
-leaves_first base steps t left is = is
-
 -- where no step is made, time stands
 pub elapses_none : (base : Content) (steps : List Step) → Elapses (length steps) (length steps) (LeavesAt base steps) (LeavesAt base steps)
 elapses_none base steps = record { later = omega arith; past = λ t i le. (λ left. left, λ left. left); within = λ t i from to left. inl (at_moment t i from to left) }
@@ -133,13 +129,6 @@ elapses_step base steps step = record {
         → LeavesAt base steps (length steps) i ⊎ LeavesAt base (step ∷ steps) (length (step ∷ steps)) i
     ends t i from to left (inl late) = let same : t ≡ length (step ∷ steps) = omega arith in inr (subst (λ k. LeavesAt base (step ∷ steps) k i) same left)
     ends t i from to left (inr early) = let same : t ≡ length steps = omega arith in inl (back (length steps) i (omega arith) (subst (λ k. LeavesAt base (step ∷ steps) k i) same left))
-
--- a step of one file, by the moments before and after it
-pub follows_step : (base : Content) (steps : List Step) (step : Step) (change : Image → Image → Type 0) → ((i : Image) → MayLeave base (step ∷ steps) i → (d : Image) × MayLeave base steps d × change d i)
-    → Follows change (LeavesAt base steps (length steps)) (LeavesAt base (step ∷ steps) (length (step ∷ steps)))
-follows_step base steps step change is i left =
-    let d = is i ((leaves_now base (step ∷ steps) i).0 left) in
-    (d.0, (leaves_now base steps d.0).1 d.1, d.2)
 
 pub reads_as_now : (base : Content) (steps : List Step) → (i : Image) × LeavesAt base steps (length steps) i × ((n : List ℕ) → (i n).file ≡ held base steps n)
 reads_as_now base steps = let d = reads_as base steps in (d.0, (leaves_now base steps d.0).1 d.1, d.2)

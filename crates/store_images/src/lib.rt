@@ -7,6 +7,11 @@
 //! `proofs/Moments` and `proofs/Beside`.
 #![tactic(auto)]
 
+mod laws;
 mod stores;
 
+pub use laws::{
+    a_file_at_rest_has_no_frame_by_chance, moments_of_two_runs_join,
+    two_runs_leave_the_files_beside_both, what_was_written_stands_there,
+};
 pub use stores::Store;
