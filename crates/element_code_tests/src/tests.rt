@@ -1,6 +1,6 @@
 use crate::fault_place;
 use crate::tables::{FAULTS, SPELLINGS};
-use element_code::{decode, encode};
+use element_code::{ElementFault, decode, encode};
 use event_text::write_json;
 use event_tree::Event;
 use std::alloc::{AllocError, Global};
@@ -177,5 +177,36 @@ fn an_event_is_appended(rt: HostRuntime) -> Result<(), Fail> {
     bytes.extend_from_slice(b"before")?;
     encode(&Event::new(alloc), &mut bytes)?;
     assert_eq!(rt; bytes.as_slice(), b"before\0\0\0\0\0\0\0\0".as_slice());
+    Ok(())
+}
+
+/// What each fault says.
+const SAID: [(ElementFault, &str); 3] = [
+    (ElementFault::At(0), "no event: the fault stands at 0"),
+    (
+        ElementFault::At(16_777_216),
+        "no event: the fault stands at 16777216",
+    ),
+    (ElementFault::Memory, "out of memory"),
+];
+
+fn says(alloc: Global, fault: ElementFault, want: &str) -> Result<bool, AllocError> {
+    Ok(format!(in alloc; "{fault}")?.as_str() == want)
+}
+
+fn faults_say(
+    rt: &impl Abort,
+    alloc: Global,
+    faults: &[(ElementFault, &str)],
+) -> Result<(), AllocError> {
+    for (fault, want) in faults {
+        assert!(rt; says(alloc, *fault, want)?, "{want}");
+    }
+    Ok(())
+}
+
+#[test]
+fn faults_say_where_they_stand(rt: HostRuntime) -> Result<(), Fail> {
+    faults_say(&rt, rt.alloc(), &SAID)?;
     Ok(())
 }

@@ -148,14 +148,18 @@ fn dates_are_filled_in_their_formats(rt: HostRuntime) -> Result<(), Fail> {
     Ok(())
 }
 
+const WITHOUT_MOMENT: [(&str, &str); 2] = [
+    ("%{+yyyy}%{b}", "%{+yyyy}B"),
+    ("%{@timestamp}", "2024"),
+];
+
+const IN_EMPTY: [(&str, &str); 2] = [("%{+yyyy}%{b}", "%{+yyyy}%{b}"), ("%{@metadata}", "{}")];
+
 #[test]
 fn a_date_stays_as_written_without_a_moment(rt: HostRuntime) -> Result<(), Fail> {
-    let alloc = rt.alloc();
-    let word = event_at(alloc, text(alloc, "2024")?)?;
-    assert!(rt; is_filled(alloc, "%{+yyyy}%{b}", &word, "%{+yyyy}B")?);
-    let empty = Event::new(alloc);
-    assert!(rt; is_filled(alloc, "%{+yyyy}%{b}", &empty, "%{+yyyy}%{b}")?);
-    assert!(rt; is_filled(alloc, "%{@metadata}", &empty, "{}")?);
+    let word = event_at(rt.alloc(), text(rt.alloc(), "2024")?)?;
+    templates_are_filled(&rt, rt.alloc(), &word, &WITHOUT_MOMENT)?;
+    templates_are_filled(&rt, rt.alloc(), &Event::new(rt.alloc()), &IN_EMPTY)?;
     Ok(())
 }
 
@@ -202,17 +206,49 @@ fn shows(rt: &impl Abort, alloc: Global, value: &Value, want: &str) -> Result<()
     Ok(())
 }
 
+/// The value that has this JSON text, of the few in `SMALL`.
+fn small(alloc: Global, json: &str) -> Value {
+    match json {
+        "true" => Value::Bool(true),
+        "false" => Value::Bool(false),
+        "-0.05" => number(-5, 2),
+        "-9223372036854775808" => number(i64::MIN, 0),
+        "\"1970-01-01T00:00:00.000001Z\"" => time(1_000),
+        "[]" => Value::List(Items::new(alloc)),
+        "{}" => Value::Object(Fields::new(alloc)),
+        _ => Value::Null,
+    }
+}
+
+/// JSON texts of values, and the texts that the values are shown by.
+const SMALL: [(&str, &str); 8] = [
+    ("null", ""),
+    ("true", "true"),
+    ("false", "false"),
+    ("-0.05", "-0.05"),
+    ("-9223372036854775808", "-9223372036854775808"),
+    (
+        "\"1970-01-01T00:00:00.000001Z\"",
+        "1970-01-01T00:00:00.000001Z",
+    ),
+    ("[]", ""),
+    ("{}", "{}"),
+];
+
+fn small_values_are_shown(
+    rt: &impl Abort,
+    alloc: Global,
+    values: &[(&str, &str)],
+) -> Result<(), AllocError> {
+    for (json, want) in values {
+        shows(rt, alloc, &small(alloc, json), want)?;
+    }
+    Ok(())
+}
+
 #[test]
 fn values_are_shown_as_texts(rt: HostRuntime) -> Result<(), Fail> {
-    let alloc = rt.alloc();
-    shows(&rt, alloc, &Value::Null, "")?;
-    shows(&rt, alloc, &Value::Bool(true), "true")?;
-    shows(&rt, alloc, &Value::Bool(false), "false")?;
-    shows(&rt, alloc, &number(-5, 2), "-0.05")?;
-    shows(&rt, alloc, &number(i64::MIN, 0), "-9223372036854775808")?;
-    shows(&rt, alloc, &time(1_000), "1970-01-01T00:00:00.000001Z")?;
-    shows(&rt, alloc, &Value::List(Items::new(alloc)), "")?;
-    shows(&rt, alloc, &Value::Object(Fields::new(alloc)), "{}")?;
+    small_values_are_shown(&rt, rt.alloc(), &SMALL)?;
     Ok(())
 }
 

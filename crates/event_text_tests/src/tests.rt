@@ -71,14 +71,30 @@ fn short_object(alloc: Global, moment: Instant) -> Result<Value, AllocError> {
     )
 }
 
+/// The value that one of `SMALL` is the JSON text of.
+fn small(alloc: Global, name: &str) -> Value {
+    match name {
+        "true" => Value::Bool(true),
+        "false" => Value::Bool(false),
+        "[]" => Value::List(Items::new(alloc)),
+        "{}" => Value::Object(Fields::new(alloc)),
+        _ => Value::Null,
+    }
+}
+
+const SMALL: [&str; 5] = ["null", "true", "false", "[]", "{}"];
+
+fn small_values_are_json(rt: &impl Abort, alloc: Global, names: &[&str]) -> Result<(), AllocError> {
+    for name in names {
+        is_json(rt, alloc, &small(alloc, name), name)?;
+    }
+    Ok(())
+}
+
 #[test]
 fn values_are_written_as_compact_json(rt: HostRuntime) -> Result<(), Fail> {
     let alloc = rt.alloc();
-    is_json(&rt, alloc, &Value::Null, "null")?;
-    is_json(&rt, alloc, &Value::Bool(true), "true")?;
-    is_json(&rt, alloc, &Value::Bool(false), "false")?;
-    is_json(&rt, alloc, &Value::List(Items::new(alloc)), "[]")?;
-    is_json(&rt, alloc, &Value::Object(Fields::new(alloc)), "{}")?;
+    small_values_are_json(&rt, alloc, &SMALL)?;
     texts_are_json(&rt, alloc, &TEXTS)?;
     is_json(
         &rt,
@@ -142,7 +158,7 @@ fn numbers_are_written_as_decimals(rt: HostRuntime) -> Result<(), Fail> {
     Ok(())
 }
 
-const TIMES: [(i128, &str); 21] = [
+const TIMES: [(i128, &str); 26] = [
     (0, "1970-01-01T00:00:00.000Z"),
     (1, "1970-01-01T00:00:00.000000001Z"),
     (999_999_999, "1970-01-01T00:00:00.999999999Z"),
@@ -166,6 +182,12 @@ const TIMES: [(i128, &str); 21] = [
     (4_107_542_400_000_000_000, "2100-03-01T00:00:00.000Z"),
     (1_709_164_800_000_000_000, "2024-02-29T00:00:00.000Z"),
     (1_735_689_599_999_000_000, "2024-12-31T23:59:59.999Z"),
+    (13_574_649_599_000_000_000, "2400-02-29T23:59:59.000Z"),
+    (13_574_649_600_000_000_000, "2400-03-01T00:00:00.000Z"),
+    // Examples of RFC 3339, section 5.8, in UTC and with the decimals that are written.
+    (482_196_050_520_000_000, "1985-04-12T23:20:50.520Z"),
+    (851_042_397_000_000_000, "1996-12-20T00:39:57.000Z"),
+    (-1_041_337_172_130_000_000, "1937-01-01T11:40:27.870Z"),
     (
         253_402_300_799_999_999_999,
         "9999-12-31T23:59:59.999999999Z",

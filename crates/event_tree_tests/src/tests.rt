@@ -270,69 +270,40 @@ fn put_at(
     }
 }
 
-/// Puts a value at a path, which answers this.
-fn puts(
-    rt: &impl Abort,
-    alloc: Global,
-    event: &mut Event,
-    text: &str,
-    value: Value,
-    answer: &str,
-) -> Result<(), AllocError> {
-    assert!(rt; put_at(alloc, event, text, value)? == answer, "{text}");
-    Ok(())
-}
-
 /// A path of so many parts.
 fn parts_of(alloc: Global, count: usize) -> Result<String, AllocError> {
     "[k]".repeat(alloc, count)
 }
 
-fn puts_null(
-    rt: &impl Abort,
-    alloc: Global,
-    event: &mut Event,
-    count: usize,
-    answer: &str,
-) -> Result<(), AllocError> {
-    puts(
-        rt,
-        alloc,
-        event,
-        parts_of(alloc, count)?.as_str(),
-        Value::Null,
-        answer,
-    )
-}
+/// A value that is put at a path of so many parts, and the answer.
+const TOO_DEEP: [(&str, usize, &str); 2] = [("null", 129, "deep"), ("{}", 128, "deep")];
 
-fn puts_object(
+const DEEP: [(&str, usize, &str); 3] = [
+    ("{}", 127, "done"),
+    ("null", 128, "done"),
+    ("null", 129, "through scalar"),
+];
+
+fn deep_puts_answer(
     rt: &impl Abort,
     alloc: Global,
     event: &mut Event,
-    count: usize,
-    answer: &str,
+    puts: &[(&str, usize, &str)],
 ) -> Result<(), AllocError> {
-    let object = value_of(alloc, "{}")?;
-    puts(
-        rt,
-        alloc,
-        event,
-        parts_of(alloc, count)?.as_str(),
-        object,
-        answer,
-    )
+    for (value, count, want) in puts {
+        let path = parts_of(alloc, *count)?;
+        let answer = put_at(alloc, event, path.as_str(), value_of(alloc, value)?)?;
+        assert!(rt; answer == *want, "{value} {count}");
+    }
+    Ok(())
 }
 
 #[test]
 fn depth_is_limited(rt: HostRuntime) -> Result<(), Fail> {
-    let alloc = rt.alloc();
-    let mut event = Event::new(alloc);
-    puts_null(&rt, alloc, &mut event, 129, "deep")?;
-    puts_object(&rt, alloc, &mut event, 128, "deep")?;
-    assert!(rt; event.same(&Event::new(alloc)));
-    puts_object(&rt, alloc, &mut event, 127, "done")?;
-    puts_null(&rt, alloc, &mut event, 128, "done")?;
-    puts_null(&rt, alloc, &mut event, 129, "through scalar")?;
+    let mut event = Event::new(rt.alloc());
+    deep_puts_answer(&rt, rt.alloc(), &mut event, &TOO_DEEP)?;
+    assert!(rt; event.same(&Event::new(rt.alloc())));
+    deep_puts_answer(&rt, rt.alloc(), &mut event, &DEEP)?;
     assert!(rt; copy_is_same(&event)?);
     Ok(())
 }
@@ -342,45 +313,52 @@ fn long_text(alloc: Global, length: usize) -> Result<Value, AllocError> {
     Ok(Value::Text(Text::from_string("x".repeat(alloc, length)?)))
 }
 
-fn puts_text(
+/// The longest text at a key of one byte: one of n bytes makes an event of 18 + n bytes.
+const MOST: usize = 16_777_198;
+
+/// A text of so many bytes that is put at a path of so many parts, and the answer.
+const TOO_LARGE: [(usize, usize, &str); 2] = [(MOST + 1, 129, "deep"), (MOST + 1, 1, "large")];
+
+const LARGE: [(usize, usize, &str); 1] = [(MOST, 1, "done")];
+
+/// Where a null is put behind that, and the answer.
+const NULLS: [(&str, &str); 2] = [("l", "large"), ("[k][l]", "through scalar")];
+
+fn large_puts_answer(
     rt: &impl Abort,
     alloc: Global,
     event: &mut Event,
-    text: &str,
-    length: usize,
-    answer: &str,
+    puts: &[(usize, usize, &str)],
 ) -> Result<(), AllocError> {
-    puts(rt, alloc, event, text, long_text(alloc, length)?, answer)
+    for (length, count, want) in puts {
+        let path = parts_of(alloc, *count)?;
+        let answer = put_at(alloc, event, path.as_str(), long_text(alloc, *length)?)?;
+        assert!(rt; answer == *want, "{length} {count}");
+    }
+    Ok(())
+}
+
+fn null_puts_answer(
+    rt: &impl Abort,
+    alloc: Global,
+    event: &mut Event,
+    puts: &[(&str, &str)],
+) -> Result<(), AllocError> {
+    for (path, want) in puts {
+        assert!(rt; put_at(alloc, event, path, Value::Null)? == *want, "{path}");
+    }
+    Ok(())
 }
 
 #[test]
 fn size_is_limited(rt: HostRuntime) -> Result<(), Fail> {
-    let alloc = rt.alloc();
-    // A text of n bytes at a key of one byte makes an event of 18 + n bytes.
-    let most = 16_777_198;
-    let mut event = Event::new(alloc);
-    puts_text(
-        &rt,
-        alloc,
-        &mut event,
-        parts_of(alloc, 129)?.as_str(),
-        most + 1,
-        "deep",
-    )?;
-    puts_text(&rt, alloc, &mut event, "k", most + 1, "large")?;
-    assert!(rt; event.same(&Event::new(alloc)));
-    puts_text(&rt, alloc, &mut event, "k", most, "done")?;
-    puts(&rt, alloc, &mut event, "l", Value::Null, "large")?;
-    puts(
-        &rt,
-        alloc,
-        &mut event,
-        "[k][l]",
-        Value::Null,
-        "through scalar",
-    )?;
-    assert_eq!(rt; taken_length(alloc, &mut event, "k")?, most);
-    assert!(rt; event.same(&Event::new(alloc)));
+    let mut event = Event::new(rt.alloc());
+    large_puts_answer(&rt, rt.alloc(), &mut event, &TOO_LARGE)?;
+    assert!(rt; event.same(&Event::new(rt.alloc())));
+    large_puts_answer(&rt, rt.alloc(), &mut event, &LARGE)?;
+    null_puts_answer(&rt, rt.alloc(), &mut event, &NULLS)?;
+    assert_eq!(rt; taken_length(rt.alloc(), &mut event, "k")?, MOST);
+    assert!(rt; event.same(&Event::new(rt.alloc())));
     Ok(())
 }
 
@@ -443,6 +421,19 @@ const NUMBER_TEXTS: [(&str, Option<(i64, u8)>); 31] = [
     ("-122.026020", Some((-12_202_602, 5))),
 ];
 
+/// Digits with a sign, before the point and behind it, and the number that they write.
+const DIGITS: [(bool, &str, &str, Option<(i64, u8)>); 9] = [
+    (false, "", "", Some((0, 0))),
+    (true, "0122", "026020", Some((-12_202_602, 5))),
+    (false, "12", "00", Some((12, 0))),
+    (false, "0", "000000000000000001", Some((1, 18))),
+    (false, "1", "0000000000000000000", None),
+    (false, "9223372036854775807", "", Some((i64::MAX, 0))),
+    (false, "9223372036854775808", "", None),
+    (true, "9223372036854775808", "", Some((i64::MIN, 0))),
+    (true, "922337203685477580", "9", None),
+];
+
 fn numbers_are_least(rt: &impl Abort, numbers: &[(i64, u8, Option<(i64, u8)>)]) {
     for (mantissa, scale, least) in numbers {
         assert!(rt;
@@ -458,8 +449,18 @@ fn numbers_are_read(rt: &impl Abort, texts: &[(&str, Option<(i64, u8)>)]) {
     }
 }
 
+fn numbers_are_of_their_digits(rt: &impl Abort, digits: &[(bool, &str, &str, Option<(i64, u8)>)]) {
+    for (negative, whole, places, least) in digits {
+        assert!(rt;
+            parts(Number::from_digits(*negative, whole.as_bytes(), places.as_bytes())) == *least,
+            "{whole}.{places}"
+        );
+    }
+}
+
 #[test]
 fn numbers_have_one_least_form(rt: HostRuntime) {
+    numbers_are_of_their_digits(&rt, &DIGITS);
     numbers_are_least(&rt, &NUMBERS);
     numbers_are_read(&rt, &NUMBER_TEXTS);
 }
