@@ -8,7 +8,7 @@ ghost use Rattle.config_reading.specs.Seen.{seen};
 
 use crate::names::{compared, conjoined, disjoined, literal, matched, operand_token, pattern};
 use config_grammar::{Condition, Lexeme, Literal, Operand, Pattern, Token, Word};
-use config_reading::{ReadError, below, first, refuse};
+use config_reading::{ReadError, below, first, next, refuse};
 use plain_boxes::Boxed;
 use plain_lists::Items;
 use std::alloc::Global;
@@ -17,9 +17,7 @@ use std::alloc::Global;
 fn one_literal(tokens: &[Lexeme]) -> Result<(Literal, &[Lexeme]), ReadError>
     ensures { Gives (λ x. (x.0, seen x.1.now)) result (spec.one words.literal (seen tokens.now)) }
 {
-    let Some((token, rest)) = first(tokens) else {
-        return Err(refuse(tokens));
-    };
+    let (token, rest) = next(tokens)?;
     match literal(token)? {
         Some(found) => Ok((found, rest)),
         None => Err(refuse(tokens)),
@@ -57,9 +55,7 @@ fn more_literals(
 fn literals(alloc: Global, tokens: &[Lexeme]) -> Result<(Items<Literal>, &[Lexeme]), ReadError>
     ensures { Gives (λ x. (x.0, seen x.1.now)) result (spec.members (spec.one words.literal) (seen tokens.now)) }
 {
-    let Some((token, rest)) = first(tokens) else {
-        return Err(refuse(tokens));
-    };
+    let (token, rest) = next(tokens)?;
     let mut found = Items::new(alloc);
     match token {
         Token::CloseBracket => Ok((found, rest)),
@@ -79,9 +75,7 @@ fn operand(
 ) -> Result<(Operand, &[Lexeme]), ReadError>
     ensures { Gives (λ x. (x.0, seen x.1.now)) result (spec.operand depth (seen tokens.now)) }
 {
-    let Some((token, rest)) = first(tokens) else {
-        return Err(refuse(tokens));
-    };
+    let (token, rest) = next(tokens)?;
     match token {
         Token::OpenBracket => {
             below(depth, tokens)?;
@@ -99,9 +93,7 @@ fn operand(
 fn one_pattern(tokens: &[Lexeme]) -> Result<(Pattern, &[Lexeme]), ReadError>
     ensures { Gives (λ x. (x.0, seen x.1.now)) result (spec.one words.pattern (seen tokens.now)) }
 {
-    let Some((token, rest)) = first(tokens) else {
-        return Err(refuse(tokens));
-    };
+    let (token, rest) = next(tokens)?;
     match pattern(token)? {
         Some(found) => Ok((found, rest)),
         None => Err(refuse(tokens)),
@@ -112,9 +104,7 @@ fn one_pattern(tokens: &[Lexeme]) -> Result<(Pattern, &[Lexeme]), ReadError>
 fn in_word(tokens: &[Lexeme]) -> Result<&[Lexeme], ReadError>
     ensures { Gives (λ x. (tt, seen x.now)) result (spec.one spec.is_in (seen tokens.now)) }
 {
-    let Some((token, rest)) = first(tokens) else {
-        return Err(refuse(tokens));
-    };
+    let (token, rest) = next(tokens)?;
     match token {
         Token::Word(Word::In) => Ok(rest),
         _ => Err(refuse(tokens)),
@@ -124,9 +114,7 @@ fn in_word(tokens: &[Lexeme]) -> Result<&[Lexeme], ReadError>
 fn close_paren(tokens: &[Lexeme]) -> Result<&[Lexeme], ReadError>
     ensures { Gives (λ x. (tt, seen x.now)) result (spec.one spec.is_close_paren (seen tokens.now)) }
 {
-    let Some((token, rest)) = first(tokens) else {
-        return Err(refuse(tokens));
-    };
+    let (token, rest) = next(tokens)?;
     match token {
         Token::CloseParen => Ok(rest),
         _ => Err(refuse(tokens)),
@@ -190,9 +178,7 @@ fn unary(
 ) -> Result<(Condition, &[Lexeme]), ReadError>
     ensures { Gives (λ x. (x.0, seen x.1.now)) result (spec.unary depth (seen tokens.now)) }
 {
-    let Some((token, rest)) = first(tokens) else {
-        return Err(refuse(tokens));
-    };
+    let (token, rest) = next(tokens)?;
     match token {
         Token::Exclamation => {
             let depth = below(depth, tokens)?;

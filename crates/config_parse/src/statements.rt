@@ -11,7 +11,7 @@ ghost use Rattle.config_reading.specs.Seen.{seen};
 use crate::conditions::condition;
 use crate::values::plugin;
 use config_grammar::{Arm, Config, Lexeme, Plugin, Section, Statement, Token, Word};
-use config_reading::{ReadError, below, first, refuse};
+use config_reading::{ReadError, below, first, next, refuse};
 use plain_lists::Items;
 use std::alloc::{AllocError, Global};
 
@@ -50,9 +50,7 @@ fn plugins_block(
 ) -> Result<(Items<Plugin>, &[Lexeme]), ReadError>
     ensures { Gives (λ x. (x.0, seen x.1.now)) result (spec.plugins_block depth (seen tokens.now)) }
 {
-    let Some((token, rest)) = first(tokens) else {
-        return Err(refuse(tokens));
-    };
+    let (token, rest) = next(tokens)?;
     match token {
         Token::OpenBrace => {
             let depth = below(depth, tokens)?;
@@ -184,9 +182,7 @@ fn block(
 ) -> Result<(Items<Statement>, &[Lexeme]), ReadError>
     ensures { Gives (λ x. (x.0, seen x.1.now)) result (spec.block depth (seen tokens.now)) }
 {
-    let Some((token, rest)) = first(tokens) else {
-        return Err(refuse(tokens));
-    };
+    let (token, rest) = next(tokens)?;
     match token {
         Token::OpenBrace => {
             let depth = below(depth, tokens)?;

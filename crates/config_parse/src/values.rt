@@ -10,7 +10,7 @@ ghost use Rattle.config_reading.specs.Seen.{seen};
 use crate::joining::{Entries, find, with_setting};
 use crate::names::{key, plugin_name, scalar, setting_name, spelling};
 use config_grammar::{Lexeme, Plugin, SettingValue, Settings, Token};
-use config_reading::{ReadError, below, first, refuse};
+use config_reading::{ReadError, below, first, next, refuse};
 use plain_lists::{Items, Text};
 use std::alloc::{AllocError, Global};
 
@@ -80,9 +80,7 @@ fn members(
 ) -> Result<(Items<SettingValue>, &[Lexeme]), ReadError>
     ensures { Gives (λ x. (x.0, seen x.1.now)) result (spec.members (spec.value depth) (seen tokens.now)) }
 {
-    let Some((token, rest)) = first(tokens) else {
-        return Err(refuse(tokens));
-    };
+    let (token, rest) = next(tokens)?;
     let mut found = Items::new(alloc);
     match token {
         Token::CloseBracket => Ok((found, rest)),
@@ -146,9 +144,7 @@ fn fresh(
 fn arrow(tokens: &[Lexeme]) -> Result<&[Lexeme], ReadError>
     ensures { Gives (λ x. (tt, seen x.now)) result (spec.one spec.is_arrow (seen tokens.now)) }
 {
-    let Some((token, rest)) = first(tokens) else {
-        return Err(refuse(tokens));
-    };
+    let (token, rest) = next(tokens)?;
     match token {
         Token::Arrow => Ok(rest),
         _ => Err(refuse(tokens)),
@@ -243,9 +239,7 @@ fn settings_block(
 ) -> Result<(Entries, &[Lexeme]), ReadError>
     ensures { Gives (λ x. (x.0, seen x.1.now)) result (spec.settings_block depth (seen tokens.now)) }
 {
-    let Some((token, rest)) = first(tokens) else {
-        return Err(refuse(tokens));
-    };
+    let (token, rest) = next(tokens)?;
     match token {
         Token::OpenBrace => {
             let depth = below(depth, tokens)?;
@@ -274,9 +268,7 @@ pub fn plugin(
 ) -> Result<(Plugin, &[Lexeme]), ReadError>
     ensures { Gives (λ x. (x.0, seen x.1.now)) result (spec.plugin depth (seen tokens.now)) }
 {
-    let Some((token, rest)) = first(tokens) else {
-        return Err(refuse(tokens));
-    };
+    let (token, rest) = next(tokens)?;
     let Some(name) = own_plugin_name(alloc, token)? else {
         return Err(refuse(tokens));
     };

@@ -8,4 +8,4 @@ mod tokens;
 
 pub use error::ReadError;
 pub use laws::reading_is_right;
-pub use tokens::{below, first, refuse, too_deep};
+pub use tokens::{below, first, next, refuse, too_deep};

@@ -34,6 +34,16 @@ pub fn too_deep(found: &[Lexeme]) -> ReadError
     ReadError::Deep(found.len())
 }
 
+/// The first token, and what is behind it; the end is a fault.
+pub fn next(found: &[Lexeme]) -> Result<(&Token, &[Lexeme]), ReadError>
+    ensures { MatchResult result (λ p. seen found.now ≡ p.0.now ∷ seen p.1.now) (λ e. (seen found.now ≡ []) × (e ≡ errors.Syntax 0)) }
+{
+    match first(found) {
+        Some(front) => Ok(front),
+        None => Err(refuse(found)),
+    }
+}
+
 /// The number of levels that are left in the one that the first token opens, where there is room for it.
 pub fn below(depth: usize, found: &[Lexeme]) -> Result<usize, ReadError>
     ensures { MatchResult result (λ d. depth ≡ suc d) (λ e. (depth ≡ 0) × (e ≡ errors.Deep (length (seen found.now)))) }
