@@ -31,20 +31,35 @@ fn a_memory_source_answers_by_its_script(rt: HostRuntime) -> Result<(), AllocErr
     Ok(())
 }
 
+// Each call of a sink stands in a helper, of which a test sees the answer alone.
+fn writes(sink: &mut MemorySink, bytes: &[u8], want: Result<usize, Failed>) -> bool {
+    sink.write(bytes) == want
+}
+
+fn writes_all(sink: &mut MemorySink, bytes: &[u8], want: Result<(), Failed>) -> bool {
+    write_all(sink, bytes) == want
+}
+
+fn flushes(sink: &mut MemorySink, flushed: usize) -> bool {
+    sink.flushed() == 0 && sink.flush() == Ok(()) && sink.flushed() == flushed
+}
+
+// It takes two bytes at most by a write, and its calls 1 and 7 fail.
+fn takes_two_by_two(sink: &mut MemorySink) -> bool {
+    writes(sink, b"abc", Ok(2))
+        && writes(sink, b"c", Err(Failed))
+        && writes_all(sink, b"cde", Ok(()))
+        && flushes(sink, 5)
+        && writes_all(sink, b"fghijkl", Err(Failed))
+}
+
 #[test]
 fn a_memory_sink_keeps_what_it_takes(rt: HostRuntime) -> Result<(), AllocError> {
     let alloc = rt.alloc();
     let mut sink = MemorySink::new(alloc, 2, Script::new(alloc, &[1, 7], &[])?);
-    assert_eq!(rt; sink.write(b"abc"), Ok(2));
-    assert_eq!(rt; sink.write(b"c"), Err(Failed));
-    assert_eq!(rt; write_all(&mut sink, b"cde"), Ok(()));
-    assert_eq!(rt; sink.flushed(), 0);
-    assert_eq!(rt; sink.flush(), Ok(()));
-    assert_eq!(rt; sink.flushed(), 5);
-    assert_eq!(rt; write_all(&mut sink, b"fghijkl"), Err(Failed));
+    assert!(rt; takes_two_by_two(&mut sink));
     assert_eq!(rt; sink.taken(), b"abcdefghi".as_slice());
-    assert_eq!(rt; sink.flushed(), 5);
-    assert_eq!(rt; sink.script().faults(), 2);
+    assert_eq!(rt; (sink.flushed(), sink.script().faults()), (5, 2));
     Ok(())
 }
 
@@ -83,24 +98,34 @@ impl Write for Broken {
     }
 }
 
+fn reads<R: Read>(
+    source: &mut StdinSource<R>,
+    room: &mut [u8],
+    want: Result<Step, Failed>,
+) -> bool {
+    source.read(room) == want
+}
+
+// The counts of a source are these after a read that answers so.
+fn counts(kind: ErrorKind, want: Result<Step, Failed>, faults: u64, waits: u64) -> bool {
+    let mut source = StdinSource::new(Broken(kind));
+    reads(&mut source, &mut [b'-'; 2], want) && (source.faults(), source.waits()) == (faults, waits)
+}
+
 #[test]
 fn a_stdin_source_reads_its_reader(rt: HostRuntime) {
     let mut source = StdinSource::new(b"abc".as_slice());
     let mut room = [b'-'; 2];
-    assert_eq!(rt; source.read(&mut []), Ok(Step::Bytes(0)));
-    assert_eq!(rt; source.read(&mut room), Ok(Step::Bytes(2)));
-    assert_eq!(rt; source.read(&mut room), Ok(Step::Bytes(1)));
+    assert!(rt;
+        reads(&mut source, &mut [], Ok(Step::Bytes(0)))
+            && reads(&mut source, &mut room, Ok(Step::Bytes(2)))
+            && reads(&mut source, &mut room, Ok(Step::Bytes(1)))
+    );
     assert_eq!(rt; &room, b"cb");
-    assert_eq!(rt; source.read(&mut room), Ok(Step::End));
-    for (kind, answer, faults, waits) in [
-        (ErrorKind::WouldBlock, Ok(Step::NotYet), 0, 1),
-        (ErrorKind::Interrupted, Ok(Step::NotYet), 0, 1),
-        (ErrorKind::NotConnected, Err(Failed), 1, 0),
-    ] {
-        let mut source = StdinSource::new(Broken(kind));
-        assert_eq!(rt; source.read(&mut room), answer);
-        assert_eq!(rt; (source.faults(), source.waits()), (faults, waits));
-    }
+    assert!(rt; reads(&mut source, &mut room, Ok(Step::End)));
+    assert!(rt; counts(ErrorKind::WouldBlock, Ok(Step::NotYet), 0, 1));
+    assert!(rt; counts(ErrorKind::Interrupted, Ok(Step::NotYet), 0, 1));
+    assert!(rt; counts(ErrorKind::NotConnected, Err(Failed), 1, 0));
 }
 
 // A writer that counts the bytes that reached it.
@@ -118,18 +143,23 @@ impl Write for Counting<'_> {
     }
 }
 
+fn hands_on<W: Write>(sink: &mut WriteSink<W>, want: Result<usize, Failed>) -> bool {
+    sink.write(b"abc") == want
+}
+
+fn empties<W: Write>(sink: &mut WriteSink<W>, want: Result<(), Failed>) -> bool {
+    sink.flush() == want
+}
+
 #[test]
 fn a_write_sink_writes_and_flushes_its_writer(rt: HostRuntime) -> Result<(), Fail> {
     let reached = Cell::new(0);
     let mut sink = WriteSink::new(BufWriter::new(rt.alloc(), Counting(&reached))?);
-    assert_eq!(rt; sink.write(b"abc"), Ok(3));
-    assert_eq!(rt; reached.get(), 0);
-    assert_eq!(rt; sink.flush(), Ok(()));
-    assert_eq!(rt; reached.get(), 3);
+    assert!(rt; hands_on(&mut sink, Ok(3)) && reached.get() == 0);
+    assert!(rt; empties(&mut sink, Ok(())) && reached.get() == 3);
     assert_eq!(rt; sink.faults(), 0);
     let mut sink = WriteSink::new(Broken(ErrorKind::StorageFull));
-    assert_eq!(rt; sink.write(b"abc"), Err(Failed));
-    assert_eq!(rt; sink.flush(), Err(Failed));
+    assert!(rt; hands_on(&mut sink, Err(Failed)) && empties(&mut sink, Err(Failed)));
     assert_eq!(rt; sink.faults(), 2);
     Ok(())
 }
