@@ -1,5 +1,5 @@
 -- One poll after another.
-use Rattle.std.proofs.Common.{◌≡◌, ◌<◌, ℕ, ℤ, true, false, List, [], ◌∷◌, ◌++◌, map, length, take, drop, Result, Ok, Err, IsOk, IsErr, OnOk, refl, sym, ap, ◌∙◌, subst, arith, append-nil}
+use Rattle.std.proofs.Common.{◌≡◌, ◌<◌, ℕ, ℤ, Bool, true, false, List, [], ◌∷◌, ◌++◌, map, length, take, drop, Result, Ok, Err, IsOk, IsErr, OnOk, refl, sym, ap, ◌∙◌, subst, arith, append-nil}
 use Rattle.std.proofs.lemmas.List.{map-append}
 use Rattle.std.proofs.Math.Seq.{take-append_seam}
 use Rattle.std.proofs.lemmas.List.Concat.{flat_map-append}
@@ -19,7 +19,7 @@ use Rattle.in_lines.specs.Rows.{out_bytes}
 use Rattle.in_lines.proofs.Receiving.{joined-append, is_ended-append, received-nil, received-lines, received-more, rest_through-nil, rest_through-more, rest_through-nothing}
 use Rattle.logstash_top.specs.declared.world.ThinWorld.{ThinWorld}
 use Rattle.logstash_top.specs.Rows.{rows_at}
-use Rattle.logstash_top.specs.Runs.{line_limit, pieces_in, Polled, Ran}
+use Rattle.logstash_top.specs.Runs.{line_limit, pieces_in, StopsAtEnd, Polled, Ran}
 use Rattle.logstash_top.proofs.RowLemmas.{out_bytes-append}
 
 abbrev pub poll_of : ℤ → Piece → Poll
@@ -48,6 +48,18 @@ not_both (Err e) ok err = cc
 
 pub still_more : (polls : List Poll) (moment : ℤ) (piece : Piece) → is_ended polls ≡ false → ended_with piece false ≡ false → is_ended (polls ++ poll_of moment piece ∷ []) ≡ false
 still_more polls moment piece still other = is_ended-append polls (poll_of moment piece ∷ []) still ∙ other
+
+-- the poll behind others that met no end is the last one
+not_ended : (piece : Piece) (later : Bool) → ended_with piece later ≡ false → (piece ≡ End → ⊥) × (later ≡ false)
+not_ended (Came bytes) later is = (λ end. cc, is)
+not_ended End later is = absurd cc
+not_ended Nothing later is = (λ end. cc, is)
+
+pub stops_there : (polls : List Poll) (poll : Poll) → is_ended polls ≡ false → StopsAtEnd (polls ++ poll ∷ [])
+stops_there [] poll still = (λ end. refl, tt)
+stops_there (first ∷ polls) poll still =
+    let each = not_ended first.piece (is_ended polls) still in
+    (λ end. absurd (each.0 end), stops_there polls poll each.1)
 
 joined_one : (piece : Piece) → joined_with piece [] ≡ bytes_in piece
 joined_one (Came bytes) = append-nil bytes
@@ -114,33 +126,39 @@ module _ {I O K : Type 0} (source : SourceWords I) (sink : SinkWords O) (clock :
   polled_waited old mid new polls moment still so_far asked came left = polled_more old mid new polls moment Nothing still so_far asked came left
 
   -- a run that isn't done
-  pub stopped : (old new : ThinWorld I O K) (is_done : Type 0) (polls : List Poll) → Polled source sink clock old new polls
-      → GrowsInPart (sink.taken old.stdout) (sink.taken new.stdout) (out_bytes (events_of line_limit polls)) → (is_done → ⊥) → Ran source sink clock old new is_done
-  stopped old new is_done polls polled wrote other = record { polls = polls; polled = polled; wrote = wrote; done = λ is. absurd (other is) }
+  pub stopped : (old new : ThinWorld I O K) (is_done is_cut_off : Type 0) (polls : List Poll) → Polled source sink clock old new polls → StopsAtEnd polls
+      → GrowsInPart (sink.taken old.stdout) (sink.taken new.stdout) (out_bytes (events_of line_limit polls))
+      → (is_cut_off → Grows (sink.taken old.stdout) (sink.taken new.stdout) (out_bytes (events_of line_limit polls))) → (is_done → ⊥)
+      → Ran source sink clock old new is_done is_cut_off
+  stopped old new is_done is_cut_off polls polled stops wrote whole other = record { polls = polls; polled = polled; stops = stops; wrote = wrote; cut_off = whole; done = λ is. absurd (other is) }
 
   -- with a part of the rows of one more poll
-  pub stopped_in_part : (old mid new : ThinWorld I O K) (is_done : Type 0) (polls : List Poll) (moment : ℤ) (piece : Piece) (lines : List (List ℕ)) → is_ended polls ≡ false
+  pub stopped_in_part : (old mid new : ThinWorld I O K) (is_done is_cut_off : Type 0) (polls : List Poll) (moment : ℤ) (piece : Piece) (lines : List (List ℕ)) → is_ended polls ≡ false
       → Polled source sink clock old new (polls ++ poll_of moment piece ∷ []) → lines ≡ lines_by line_limit (rest_through line_limit polls) piece
-      → Grows (sink.taken old.stdout) (sink.taken mid.stdout) (out_bytes (events_of line_limit polls)) → GrowsInPart (sink.taken mid.stdout) (sink.taken new.stdout) (rows_at moment lines) → (is_done → ⊥)
-      → Ran source sink clock old new is_done
-  stopped_in_part old mid new is_done polls moment piece lines still polled are before part other =
-      stopped old new is_done (polls ++ poll_of moment piece ∷ []) polled
-      (subst (GrowsInPart (sink.taken old.stdout) (sink.taken new.stdout)) (ap (λ l. out_bytes (events_of line_limit polls) ++ rows_at moment l) are ∙ sym (rows_more polls moment piece still)) (in_part_then before part)) other
+      → Grows (sink.taken old.stdout) (sink.taken mid.stdout) (out_bytes (events_of line_limit polls)) → GrowsInPart (sink.taken mid.stdout) (sink.taken new.stdout) (rows_at moment lines)
+      → (is_cut_off → Grows (sink.taken mid.stdout) (sink.taken new.stdout) (rows_at moment lines)) → (is_done → ⊥)
+      → Ran source sink clock old new is_done is_cut_off
+  stopped_in_part old mid new is_done is_cut_off polls moment piece lines still polled are before part whole other =
+      let rows = ap (λ l. out_bytes (events_of line_limit polls) ++ rows_at moment l) are ∙ sym (rows_more polls moment piece still) in
+      stopped old new is_done is_cut_off (polls ++ poll_of moment piece ∷ []) polled (stops_there polls (poll_of moment piece) still)
+      (subst (GrowsInPart (sink.taken old.stdout) (sink.taken new.stdout)) rows (in_part_then before part)) (λ is. grows_by rows (grows_then before (whole is))) other
 
   -- a run whose last poll met the end, and whose last rows were written, or not
-  pub ended : {E : Type 0} (old mid new : ThinWorld I O K) (result : Result (Unit {0}) E) (polls : List Poll) (moment : ℤ) (lines : List (List ℕ)) → is_ended polls ≡ false
+  pub ended : {E : Type 0} (old mid new : ThinWorld I O K) (result : Result (Unit {0}) E) (is_cut_off : Type 0) (polls : List Poll) (moment : ℤ) (lines : List (List ℕ)) → is_ended polls ≡ false
       → Polled source sink clock old new (polls ++ poll_of moment End ∷ []) → IsAtEnd (source.left new.stdin) → lines ≡ lines_by line_limit (rest_through line_limit polls) End
       → Grows (sink.taken old.stdout) (sink.taken mid.stdout) (out_bytes (events_of line_limit polls))
-      → OnOk result (Grows (sink.taken mid.stdout) (sink.taken new.stdout) (rows_at moment lines)) → GrowsInPart (sink.taken mid.stdout) (sink.taken new.stdout) (rows_at moment lines)
-      → Ran source sink clock old new (IsOk result)
-  ended old mid new result polls moment lines still polled at_end are before whole part =
+      → OnOk result (Grows (sink.taken mid.stdout) (sink.taken new.stdout) (rows_at moment lines)) → GrowsInPart (sink.taken mid.stdout) (sink.taken new.stdout) (rows_at moment lines) → (is_cut_off → ⊥)
+      → Ran source sink clock old new (IsOk result) is_cut_off
+  ended old mid new result is_cut_off polls moment lines still polled at_end are before whole part other =
       let all = polls ++ poll_of moment End ∷ [] in
       let rows = ap (λ l. out_bytes (events_of line_limit polls) ++ rows_at moment l) are ∙ sym (rows_more polls moment End still) in
       let end : is_ended all ≡ true = is_ended-append polls (poll_of moment End ∷ []) still in
       record {
         polls = all;
         polled = polled;
+        stops = stops_there polls (poll_of moment End) still;
         wrote = subst (GrowsInPart (sink.taken old.stdout) (sink.taken new.stdout)) rows (in_part_then before part);
+        cut_off = λ is. absurd (other is);
         done = λ ok. record {
           ended = end;
           at_end = at_end;
@@ -150,5 +168,5 @@ module _ {I O K : Type 0} (source : SourceWords I) (sink : SinkWords O) (clock :
       }
 
   -- nothing was done
-  pub unmoved : (world : ThinWorld I O K) (is_done : Type 0) → (is_done → ⊥) → Ran source sink clock world world is_done
-  unmoved world is_done other = stopped world world is_done [] (polled_none world) (in_part_none _ (grows_same _)) other
+  pub unmoved : (world : ThinWorld I O K) (is_done is_cut_off : Type 0) → (is_done → ⊥) → Ran source sink clock world world is_done is_cut_off
+  unmoved world is_done is_cut_off other = stopped world world is_done is_cut_off [] (polled_none world) tt (in_part_none _ (grows_same _)) (λ is. grows_by (sym no_rows) (grows_same _)) other

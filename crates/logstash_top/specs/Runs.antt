@@ -1,7 +1,7 @@
 -- What a run does to the outside.
-use Rattle.std.specs.Prelude.{◌≡◌, ℕ, List, true, map}
+use Rattle.std.specs.Prelude.{◌≡◌, ℕ, List, [], ◌∷◌, true, map}
 use Rattle.std.specs.List.{flat_map}
-use Rattle.outside.specs.Pieces.{Piece, piece_list}
+use Rattle.outside.specs.Pieces.{Piece, End, piece_list}
 use Rattle.outside.specs.Telling.{Grows, GrowsInPart, Shrinks, IsAtEnd}
 use Rattle.outside.specs.declared.sources.Source.{Ghosts as SourceWords}
 use Rattle.outside.specs.declared.sinks.Sink.{Ghosts as SinkWords}
@@ -20,6 +20,11 @@ line_limit = 1048576
 abbrev pub pieces_in : List Poll → List Piece
 pieces_in polls = flat_map (λ poll. piece_list poll.piece) polls
 
+-- nothing was read behind the end
+abbrev pub StopsAtEnd : List Poll → Type 0
+StopsAtEnd [] = Unit {0}
+StopsAtEnd (poll ∷ polls) = (poll.piece ≡ End → polls ≡ []) × StopsAtEnd polls
+
 module _ {I O K : Type 0} (source : SourceWords I) (sink : SinkWords O) (clock : ClockWords K) where
   -- these polls were made: each asked the clock, and took its piece from stdin
   pub record Polled (old new : ThinWorld I O K) (polls : List Poll) : Type 0 where
@@ -34,11 +39,15 @@ module _ {I O K : Type 0} (source : SourceWords I) (sink : SinkWords O) (clock :
     pub lines : map (λ r. r.line) (received line_limit polls) ≡ lines_left (record { limit = line_limit; bytes = joined polls; ended = true })
     pub wrote : Grows (sink.taken old.stdout) (sink.taken new.stdout) (out_bytes (events_of line_limit polls))
 
-  -- a run, which is done or not: stdout got rows of the events of what was polled, from the first on, and nothing else
-  pub record Ran (old new : ThinWorld I O K) (is_done : Type 0) : Type 0 where
+  -- a run, which is done, or which a read that failed ended, or neither: stdout got rows of the events of what was polled, from the first
+  -- on, and nothing else
+  pub record Ran (old new : ThinWorld I O K) (is_done is_cut_off : Type 0) : Type 0 where
     pub polls : List Poll
     pub polled : Polled old new polls
+    pub stops : StopsAtEnd polls
     pub wrote : GrowsInPart (sink.taken old.stdout) (sink.taken new.stdout) (out_bytes (events_of line_limit polls))
+    -- where a read failed, all rows of what came before it were written
+    pub cut_off : is_cut_off → Grows (sink.taken old.stdout) (sink.taken new.stdout) (out_bytes (events_of line_limit polls))
     pub done : is_done → Finished old new polls
 
 -- worlds, whatever their objects tell

@@ -1,5 +1,5 @@
 -- The statuses, their numbers and their lines on stderr.
-use Rattle.std.specs.Prelude.{◌≡◌, ◌≤◌, ◌⊎◌, ℕ, List, [], ◌++◌, codes, decimal}
+use Rattle.std.specs.Prelude.{◌≡◌, ◌⊎◌, ℕ, List, [], ◌++◌, codes, decimal}
 use Rattle.logstash_top.specs.declared.status.Status.{Status}
 use Rattle.logstash_top.specs.declared.status.Status.TheVariants.{Done, BadWords, BadConfig, InputFault, OutputFault, NoMemory}
 use Rattle.logstash_top.specs.declared.status.WordsFault.{WordsFault}
@@ -10,7 +10,6 @@ use Rattle.logstash_top.specs.declared.config.Refusal.{Refusal}
 use Rattle.logstash_top.specs.declared.config.Refusal.TheVariants as refusal
 use Rattle.logstash_top.specs.declared.stop.Stop.{Stop}
 use Rattle.logstash_top.specs.declared.stop.Stop.TheVariants.{Input, Output, Memory}
-use Rattle.outside.specs.Counts.{Rose}
 use Rattle.logstash_top.specs.Words.{IsCommand}
 use Rattle.logstash_top.specs.Refused.{IsRun, IsRefusedFor}
 
@@ -78,13 +77,6 @@ pub record Answers (words : List (List ℕ)) (status : Status) : Type 0 where
   pub runs : (text : List ℕ) → IsCommand words text → IsRun text → (status ≡ Done) ⊎ ((status ≡ input_fault) ⊎ ((status ≡ output_fault) ⊎ (status ≡ NoMemory)))
   pub words_cause : (fault : WordsFault) → status ≡ BadWords fault → (text : List ℕ) → ¬ (IsCommand words text)
   pub config_cause : (pipeline : List ℕ) (fault : ConfigFault) → status ≡ BadConfig pipeline fault → (pipeline ≡ main_id) × ((text : List ℕ) × IsCommand words text × IsRefusedFor text fault)
-
--- what a status tells of an object's count of faults: the count never falls, it rose where the status is this object's fault, and it stands
--- as it was where the status is neither that nor one that may come in its place
-pub record FaultTold (before now : ℕ) (told instead : Type 0) : Type 0 where
-  pub later : before ≤ now
-  pub rose : told → Rose before now
-  pub same : (told → ⊥) → (instead → ⊥) → now ≡ before
 
 -- the words, or the text of the configuration, are refused
 abbrev pub IsRefused : Status → Type 0

@@ -1,10 +1,9 @@
 ghost use Rattle.std.specs.Prelude.{◌≡◌, ◌++◌, ◌⊎◌, [], false, Ok, Err, IsOk, OnOk};
 ghost use Rattle.byte_lines.specs.Unread.{lines_left, rest_of};
-ghost use Rattle.outside.specs.Counts.{HasCause, Rose};
+ghost use Rattle.outside.specs.Counts.{HasCause, HasCauseUnless, Rose};
 ghost use Rattle.outside.specs.Telling.{Grows, GrowsInPart, IsFlushed};
 ghost use Rattle.logstash_top.specs.Rows.{rows_at};
 ghost use Rattle.logstash_top.specs.Runs.{Ran};
-ghost use Rattle.logstash_top.specs.Status.{FaultTold};
 
 use crate::rows::write_lines;
 use crate::stop::Stop;
@@ -26,10 +25,10 @@ pub(crate) fn run<R: Wait, I: Source, O: Sink, K: Clock>(
     alloc: Global,
     world: &mut ThinWorld<I, O, K>,
 ) -> Result<(), Stop>
-    ensures ran { Ran I.Source O.Sink K.Clock world.old world.new (IsOk result) }
+    ensures ran { Ran I.Source O.Sink K.Clock world.old world.new (IsOk result) (result ≡ Err Stop.Input) }
     ensures flushed { Rose (O.faults world.old.stdout) (O.faults world.new.stdout) ⊎ IsFlushed (O.taken world.new.stdout) (O.flushed world.new.stdout) }
     ensures done_flushed { OnOk result (IsFlushed (O.taken world.new.stdout) (O.flushed world.new.stdout)) }
-    ensures read_cause { FaultTold (I.faults world.old.stdin) (I.faults world.new.stdin) (result ≡ Err Stop.Input) (result ≡ Err Stop.Output) }
+    ensures read_cause { HasCauseUnless (I.faults world.old.stdin) (I.faults world.new.stdin) (result ≡ Err Stop.Output) (result ≡ Err Stop.Input) }
     ensures write_cause { HasCause (O.faults world.old.stdout) (O.faults world.new.stdout) (result ≡ Err Stop.Output) }
     ensures stderr { world.new.stderr ≡ world.old.stderr }
 {
@@ -46,7 +45,7 @@ fn pump<R: Wait, I: Source, O: Sink, K: Clock>(
     alloc: Global,
     world: &mut ThinWorld<I, O, K>,
 ) -> Result<(), Stop>
-    ensures ran { Ran I.Source O.Sink K.Clock world.old world.new (IsOk result) }
+    ensures ran { Ran I.Source O.Sink K.Clock world.old world.new (IsOk result) (result ≡ Err Stop.Input) }
     ensures read_cause { HasCause (I.faults world.old.stdin) (I.faults world.new.stdin) (result ≡ Err Stop.Input) }
     ensures write_cause { HasCause (O.faults world.old.stdout) (O.faults world.new.stdout) (result ≡ Err Stop.Output) }
     ensures stderr { world.new.stderr ≡ world.old.stderr }

@@ -1,7 +1,7 @@
 ghost use Rattle.std.specs.Prelude.{◌≡◌, ◌≤◌, ◌⊎◌, IsErr, IfOk, OnOk, map, string_bytes};
-ghost use Rattle.outside.specs.Counts.{HasCause, Rose};
+ghost use Rattle.outside.specs.Counts.{HasCause, HasCauseUnless, Rose};
 ghost use Rattle.outside.specs.Telling.{Grows, GrowsInPart, IsFlushed};
-ghost use Rattle.logstash_top.specs.Status.{Answers, Completes, FaultTold, IsRefused, input_fault, output_fault, status_of, status_of_refusal, config_line, placed_line, line_of};
+ghost use Rattle.logstash_top.specs.Status.{Answers, Completes, IsRefused, input_fault, output_fault, status_of, status_of_refusal, config_line, placed_line, line_of};
 ghost use Rattle.logstash_top.specs.Runs.{Ran, IsUntouched};
 
 use crate::config::{Refusal, check};
@@ -37,7 +37,10 @@ use std::sync::Wait;
 ///   was counted: but for a fault of stdin where the last flush of stdout failed too, which ends in
 ///   `OutputFault`, and for any fault where memory for its status ran out.
 /// - `Status::NoMemory` may come anywhere. At each status stdout holds what stood there and then
-///   rows of the events of stdin's lines, from the first on.
+///   rows of the events of stdin's lines, from the first on. At `Status::InputFault` these are all
+///   rows of the lines that the reads before made whole.
+///
+/// Nothing is read behind the end of stdin.
 pub fn logstash<R: Wait, I: Source, O: Sink, K: Clock>(
     rt: &R,
     alloc: Global,
@@ -48,14 +51,14 @@ pub fn logstash<R: Wait, I: Source, O: Sink, K: Clock>(
     ensures refused { IsRefused result → IsUntouched world.old world.new }
 
     // What stdout holds.
-    ensures ran { Ran I.Source O.Sink K.Clock world.old world.new (result ≡ Status.Done) }
+    ensures ran { Ran I.Source O.Sink K.Clock world.old world.new (result ≡ Status.Done) (result ≡ input_fault) }
     ensures flushed { Rose (O.faults world.old.stdout) (O.faults world.new.stdout)
         ⊎ IsFlushed (O.taken world.new.stdout) (O.flushed world.new.stdout) ⊎ (world.new.stdout ≡ world.old.stdout) }
     ensures done_flushed { result ≡ Status.Done → IsFlushed (O.taken world.new.stdout) (O.flushed world.new.stdout) }
 
     // When a fault comes.
-    ensures input_fault { FaultTold (I.faults world.old.stdin) (I.faults world.new.stdin) (result ≡ input_fault) ((result ≡ output_fault) ⊎ (result ≡ Status.NoMemory)) }
-    ensures output_fault { FaultTold (O.faults world.old.stdout) (O.faults world.new.stdout) (result ≡ output_fault) (result ≡ Status.NoMemory) }
+    ensures input_fault { HasCauseUnless (I.faults world.old.stdin) (I.faults world.new.stdin) ((result ≡ output_fault) ⊎ (result ≡ Status.NoMemory)) (result ≡ input_fault) }
+    ensures output_fault { HasCauseUnless (O.faults world.old.stdout) (O.faults world.new.stdout) (result ≡ Status.NoMemory) (result ≡ output_fault) }
     ensures complete { ¬ (Rose (I.faults world.old.stdin) (I.faults world.new.stdin)) → ¬ (Rose (O.faults world.old.stdout) (O.faults world.new.stdout))
         → Completes (map string_bytes words.now) result }
 
@@ -80,12 +83,12 @@ fn outcome<R: Wait, I: Source, O: Sink, K: Clock>(
 ) -> Status
     ensures answers { Answers (map string_bytes words.now) result }
     ensures refused { IsRefused result → IsUntouched world.old world.new }
-    ensures ran { Ran I.Source O.Sink K.Clock world.old world.new (result ≡ Status.Done) }
+    ensures ran { Ran I.Source O.Sink K.Clock world.old world.new (result ≡ Status.Done) (result ≡ input_fault) }
     ensures flushed { Rose (O.faults world.old.stdout) (O.faults world.new.stdout)
         ⊎ IsFlushed (O.taken world.new.stdout) (O.flushed world.new.stdout) ⊎ (world.new.stdout ≡ world.old.stdout) }
     ensures done_flushed { result ≡ Status.Done → IsFlushed (O.taken world.new.stdout) (O.flushed world.new.stdout) }
-    ensures input_fault { FaultTold (I.faults world.old.stdin) (I.faults world.new.stdin) (result ≡ input_fault) ((result ≡ output_fault) ⊎ (result ≡ Status.NoMemory)) }
-    ensures output_fault { FaultTold (O.faults world.old.stdout) (O.faults world.new.stdout) (result ≡ output_fault) (result ≡ Status.NoMemory) }
+    ensures input_fault { HasCauseUnless (I.faults world.old.stdin) (I.faults world.new.stdin) ((result ≡ output_fault) ⊎ (result ≡ Status.NoMemory)) (result ≡ input_fault) }
+    ensures output_fault { HasCauseUnless (O.faults world.old.stdout) (O.faults world.new.stdout) (result ≡ Status.NoMemory) (result ≡ output_fault) }
     ensures stderr { world.new.stderr ≡ world.old.stderr }
 {
     let Some(text) = config_text(words) else {

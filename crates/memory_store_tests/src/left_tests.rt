@@ -15,6 +15,14 @@ struct Left {
     choices: [&'static [u8]; 4],
 }
 
+fn row(moment: u64, name: &'static str, choices: [&'static [u8]; 4]) -> Left {
+    Left {
+        moment,
+        name,
+        choices,
+    }
+}
+
 fn holds(store: &MemoryStore, name: &str, want: &[u8]) -> bool {
     match store.bytes(name) {
         Some(bytes) => bytes == want,
@@ -65,31 +73,11 @@ fn a_file_cut_and_appended_to_is_stopped_at_every_call(rt: HostRuntime) -> Resul
         && append(&mut store, "f", b"Z")
         && sync(&mut store);
     let rows = [
-        Left {
-            moment: 0,
-            name: "f",
-            choices: [b"abcdef", b"abcdef", b"abcdef", b"abcdef"],
-        },
-        Left {
-            moment: 1,
-            name: "f",
-            choices: [b"abcd", b"abcdef", b"abcde", b"abcdef"],
-        },
-        Left {
-            moment: 2,
-            name: "f",
-            choices: [b"abcdXY", b"abcdef", b"abcdX", b"abcdef"],
-        },
-        Left {
-            moment: 3,
-            name: "f",
-            choices: [b"abcdXYZ", b"abcdef", b"abcdXY", b"abcdef\xa5"],
-        },
-        Left {
-            moment: 4,
-            name: "f",
-            choices: [b"abcdXYZ", b"abcdXYZ", b"abcdXYZ", b"abcdXYZ"],
-        },
+        row(0, "f", [b"abcdef", b"abcdef", b"abcdef", b"abcdef"]),
+        row(1, "f", [b"abcd", b"abcdef", b"abcde", b"abcdef"]),
+        row(2, "f", [b"abcdXY", b"abcdef", b"abcdX", b"abcdef"]),
+        row(3, "f", [b"abcdXYZ", b"abcdef", b"abcdXY", b"abcdef\xa5"]),
+        row(4, "f", [b"abcdXYZ", b"abcdXYZ", b"abcdXYZ", b"abcdXYZ"]),
     ];
     assert!(rt; done);
     assert_eq!(rt; first_wrong(&store, &rows)?, None);
@@ -104,21 +92,9 @@ fn a_removal_may_be_undone(rt: HostRuntime) -> Result<(), Fail> {
         && remove(&mut store, "missing")
         && holds(&store, "g", NO_FILE);
     let rows = [
-        Left {
-            moment: 1,
-            name: "g",
-            choices: [NO_FILE, b"1", b"1", b"1"],
-        },
-        Left {
-            moment: 2,
-            name: "g",
-            choices: [NO_FILE, b"1", NO_FILE, b"1"],
-        },
-        Left {
-            moment: 3,
-            name: "g",
-            choices: [NO_FILE, NO_FILE, NO_FILE, NO_FILE],
-        },
+        row(1, "g", [NO_FILE, b"1", b"1", b"1"]),
+        row(2, "g", [NO_FILE, b"1", NO_FILE, b"1"]),
+        row(3, "g", [NO_FILE, NO_FILE, NO_FILE, NO_FILE]),
     ];
     assert!(rt; done && sync(&mut store));
     assert_eq!(rt; first_wrong(&store, &rows)?, None);
@@ -134,36 +110,12 @@ fn a_sync_settles_both_files(rt: HostRuntime) -> Result<(), Fail> {
         && sync(&mut store)
         && append(&mut store, "a", b"34");
     let rows = [
-        Left {
-            moment: 2,
-            name: "a",
-            choices: [b"1", NO_FILE, b"1", b"\xa5"],
-        },
-        Left {
-            moment: 2,
-            name: "b",
-            choices: [b"2", NO_FILE, b"", b"\xa5"],
-        },
-        Left {
-            moment: 3,
-            name: "a",
-            choices: [b"1", b"1", b"1", b"1"],
-        },
-        Left {
-            moment: 3,
-            name: "b",
-            choices: [b"2", b"2", b"2", b"2"],
-        },
-        Left {
-            moment: 4,
-            name: "a",
-            choices: [b"134", b"1", b"13", b"1\xa5\xa5"],
-        },
-        Left {
-            moment: 4,
-            name: "b",
-            choices: [b"2", b"2", b"2", b"2"],
-        },
+        row(2, "a", [b"1", NO_FILE, b"1", b"\xa5"]),
+        row(2, "b", [b"2", NO_FILE, b"", b"\xa5"]),
+        row(3, "a", [b"1", b"1", b"1", b"1"]),
+        row(3, "b", [b"2", b"2", b"2", b"2"]),
+        row(4, "a", [b"134", b"1", b"13", b"1\xa5\xa5"]),
+        row(4, "b", [b"2", b"2", b"2", b"2"]),
     ];
     assert!(rt; done);
     assert_eq!(rt; first_wrong(&store, &rows)?, None);
@@ -175,11 +127,7 @@ fn a_stopped_store_leaves_what_was_written(rt: HostRuntime) -> Result<(), Fail> 
     let mut store = stopped_after(rt.alloc(), 2)?;
     let done = append(&mut store, "a", b"1") && append(&mut store, "a", b"2");
     assert!(rt; done && !append(&mut store, "a", b"3") && !sync(&mut store));
-    let rows = [Left {
-        moment: 4,
-        name: "a",
-        choices: [b"12", NO_FILE, b"12", b"\xa5\xa5"],
-    }];
+    let rows = [row(4, "a", [b"12", NO_FILE, b"12", b"\xa5\xa5"])];
     assert_eq!(rt; first_wrong(&store, &rows)?, None);
     Ok(())
 }

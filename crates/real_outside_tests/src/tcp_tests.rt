@@ -57,6 +57,33 @@ fn reads_soon(
     false
 }
 
+// Two connections came, and nothing was sent over the first so far.
+fn both_came(links: &mut TcpLinks<&HostRuntime>, port: u16) -> bool {
+    looks(links, port, Ok(Come::Conn(0)))
+        && looks(links, port, Ok(Come::Conn(1)))
+        && looks(links, port, Ok(Come::NotYet))
+        && reads_now(links, 0, Ok(Step::NotYet))
+}
+
+// Five bytes come over the first, by two reads.
+fn reads_both(rt: &HostRuntime, links: &mut TcpLinks<&HostRuntime>) -> bool {
+    reads_soon(rt, links, 0, Ok(Step::Bytes(4)), b"hell")
+        && reads_soon(rt, links, 0, Ok(Step::Bytes(1)), b"o---")
+}
+
+// The first is at its end, and the second once it is closed.
+fn both_end(rt: &HostRuntime, links: &mut TcpLinks<&HostRuntime>) -> bool {
+    let ended = reads_soon(rt, links, 0, Ok(Step::End), b"----")
+        && reads_now(links, 1, Ok(Step::NotYet));
+    links.close(1);
+    ended && reads_now(links, 1, Ok(Step::End))
+}
+
+// How many connections came, and how many looks failed and found none.
+fn counts(links: &TcpLinks<&HostRuntime>) -> (u64, u64, u64) {
+    (links.came(), links.accept_faults(), links.accept_waits())
+}
+
 #[test]
 fn tcp_links_read_what_another_program_sends(rt: HostRuntime) -> Result<(), Fail> {
     let port = free_port(&rt)?;
@@ -64,23 +91,13 @@ fn tcp_links_read_what_another_program_sends(rt: HostRuntime) -> Result<(), Fail
     assert!(rt; looks(&mut links, port, Ok(Come::NotYet)));
     let mut first = TcpStream::connect(&rt, (HOST, port))?;
     let second = TcpStream::connect(&rt, (HOST, port))?;
-    assert!(rt; looks(&mut links, port, Ok(Come::Conn(0))));
-    assert!(rt; looks(&mut links, port, Ok(Come::Conn(1))));
-    assert!(rt; looks(&mut links, port, Ok(Come::NotYet)));
-    assert!(rt; reads_now(&mut links, 0, Ok(Step::NotYet)));
+    assert!(rt; both_came(&mut links, port));
     first.write_all(b"hello")?;
-    assert!(rt; reads_soon(&rt, &mut links, 0, Ok(Step::Bytes(4)), b"hell"));
-    assert!(rt; reads_soon(&rt, &mut links, 0, Ok(Step::Bytes(1)), b"o---"));
+    assert!(rt; reads_both(&rt, &mut links));
     drop(first);
-    assert!(rt; reads_soon(&rt, &mut links, 0, Ok(Step::End), b"----"));
-    assert!(rt; reads_now(&mut links, 1, Ok(Step::NotYet)));
-    links.close(1);
-    assert!(rt; reads_now(&mut links, 1, Ok(Step::End)));
+    assert!(rt; both_end(&rt, &mut links));
     drop(second);
-    assert_eq!(rt;
-        (links.came(), links.accept_faults(), links.accept_waits()),
-        (2, 0, 2)
-    );
+    assert_eq!(rt; counts(&links), (2, 0, 2));
     Ok(())
 }
 
@@ -90,9 +107,6 @@ fn tcp_links_tell_that_a_port_is_taken(rt: HostRuntime) -> Result<(), Fail> {
     let port = taken.local_addr()?.port();
     let mut links = TcpLinks::new(rt.alloc(), &rt);
     assert!(rt; looks(&mut links, port, Err(Failed)));
-    assert_eq!(rt;
-        (links.came(), links.accept_faults(), links.accept_waits()),
-        (0, 1, 0)
-    );
+    assert_eq!(rt; counts(&links), (0, 1, 0));
     Ok(())
 }

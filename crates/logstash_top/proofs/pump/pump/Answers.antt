@@ -14,7 +14,7 @@ use Rattle.logstash_top.proofs.pump.pump.Goals as goal
 
 pub returns-in_err-room-clause-ran : goal.returns-in_err-room-clause-ran
 returns-in_err-room-clause-ran g c =
-    stopped g.I.Source g.O.Sink g.K.Clock _ _ _ [] (polled_none g.I.Source g.O.Sink g.K.Clock _) (in_part_none _ (grows_same _)) (λ ok. not_both c.from_residual.result ok c.from_residual.ensures.0)
+    stopped g.I.Source g.O.Sink g.K.Clock _ _ _ _ [] (polled_none g.I.Source g.O.Sink g.K.Clock _) tt (in_part_none _ (grows_same _)) (λ is. grows_by (sym no_rows) (grows_same _)) (λ ok. not_both c.from_residual.result ok c.from_residual.ensures.0)
 
 pub loop-init : goal.loop-init
 loop-init g c = record {
@@ -36,8 +36,8 @@ returns-in-Err-clause-ran g c =
     let i = c.loop.invariant in
     let e = c.in-Err.ensures in
     let m = c.now-moment.result in
-    stopped_in_part g.I.Source g.O.Sink g.K.Clock _ c.loop.world _ _ i.polls m Nothing [] i.still
-    (polled_more g.I.Source g.O.Sink g.K.Clock _ c.loop.world _ i.polls m Nothing i.still i.polled c.now-moment.ensures e.given e.left) refl i.wrote (in_part_none [] (grows_same _)) (λ is. cc)
+    stopped_in_part g.I.Source g.O.Sink g.K.Clock _ c.loop.world _ _ _ i.polls m Nothing [] i.still
+    (polled_more g.I.Source g.O.Sink g.K.Clock _ c.loop.world _ i.polls m Nothing i.still i.polled c.now-moment.ensures e.given e.left) refl i.wrote (in_part_none [] (grows_same _)) (λ is. grows_same _) (λ is. cc)
 
 pub returns-in-Err-clause-read_cause : goal.returns-in-Err-clause-read_cause
 returns-in-Err-clause-read_cause g c = cause_from c.loop.invariant.read_same (cause_of (λ _. refl) (λ _. refl) c.in-Err.ensures.cause)
@@ -92,9 +92,9 @@ returns-in-Err-take_piece-clause-ran g c =
     let m = c.now-moment.result in
     let same : c.read.new.into ≡ c.deref.result.now = sym (c.deref.ensures.value ∙ whole_room _ _ _ (omega (arith, c.read.auto.into, c.deref_mut.ensures.len))) in
     let bytes = take c.in-Ok-Bytes.count c.deref.result.now in
-    stopped_in_part g.I.Source g.O.Sink g.K.Clock _ c.loop.world _ _ i.polls m (Came bytes) _ i.still
+    stopped_in_part g.I.Source g.O.Sink g.K.Clock _ c.loop.world _ _ _ i.polls m (Came bytes) _ i.still
     (polled_more g.I.Source g.O.Sink g.K.Clock _ c.loop.world _ i.polls m (Came bytes) i.still i.polled c.now-moment.ensures (grows_by (ap (λ t. Came (take c.in-Ok-Bytes.count t) ∷ []) same) e.given) (shrinks_by (ap (take c.in-Ok-Bytes.count) same) e.left))
-    (fed_lines (rest_through line_limit i.polls) bytes c.loop.reader i.reader) i.wrote c.in-Err-take_piece.ensures.part (λ is. cc)
+    (fed_lines (rest_through line_limit i.polls) bytes c.loop.reader i.reader) i.wrote c.in-Err-take_piece.ensures.part (λ is. absurd (c.in-Err-take_piece.ensures.not_input is)) (λ is. cc)
 
 pub returns-in-Err-take_piece-clause-read_cause : goal.returns-in-Err-take_piece-clause-read_cause
 returns-in-Err-take_piece-clause-read_cause g c =
@@ -111,9 +111,9 @@ returns-in-Ok-End-clause-ran g c =
     let e = rw c.in-Ok-End.field-0-is at c.in-Ok-End.ensures in
     let m = c.now-moment.result in
     let lines = ap lines_left c.end.ensures ∙ ended_lines i.polls c.loop.reader i.reader in
-    ended g.I.Source g.O.Sink g.K.Clock _ c.loop.world _ c.write_lines.result i.polls m _ i.still
+    ended g.I.Source g.O.Sink g.K.Clock _ c.loop.world _ c.write_lines.result _ i.polls m _ i.still
     (polled_more g.I.Source g.O.Sink g.K.Clock _ c.loop.world _ i.polls m End i.still i.polled c.now-moment.ensures e.given e.left)
-    (e.end refl) lines i.wrote c.write_lines.ensures.ok c.write_lines.ensures.part
+    (e.end refl) lines i.wrote c.write_lines.ensures.ok c.write_lines.ensures.part c.write_lines.ensures.not_input
 
 pub returns-in-Ok-End-clause-read_cause : goal.returns-in-Ok-End-clause-read_cause
 returns-in-Ok-End-clause-read_cause g c =
