@@ -157,8 +157,13 @@ const IN_EMPTY: [(&str, &str); 2] = [("%{+yyyy}%{b}", "%{+yyyy}%{b}"), ("%{@meta
 
 #[test]
 fn a_date_stays_as_written_without_a_moment(rt: HostRuntime) -> Result<(), Fail> {
-    let word = event_at(rt.alloc(), text(rt.alloc(), "2024")?)?;
-    templates_are_filled(&rt, rt.alloc(), &word, &WITHOUT_MOMENT)?;
+    let event = event_at(rt.alloc(), text(rt.alloc(), "2024")?)?;
+    templates_are_filled(&rt, rt.alloc(), &event, &WITHOUT_MOMENT)?;
+    Ok(())
+}
+
+#[test]
+fn an_empty_event_fills_no_field(rt: HostRuntime) -> Result<(), Fail> {
     templates_are_filled(&rt, rt.alloc(), &Event::new(rt.alloc()), &IN_EMPTY)?;
     Ok(())
 }
@@ -178,15 +183,18 @@ const DAYS: [(i128, &str); 12] = [
     (1_709_251_200_000_000_000, "2024-03-01 00:00:00.000"),
 ];
 
+fn is_day(alloc: Global, nanos: i128, want: &str) -> Result<bool, AllocError> {
+    let event = event_at(alloc, time(nanos))?;
+    is_filled(alloc, "%{+yyyy-MM-dd HH:mm:ss.SSS}", &event, want)
+}
+
 fn days_are_filled(
     rt: &impl Abort,
     alloc: Global,
     days: &[(i128, &str)],
 ) -> Result<(), AllocError> {
     for (nanos, want) in days {
-        let event = event_at(alloc, time(*nanos))?;
-        let format = "%{+yyyy-MM-dd HH:mm:ss.SSS}";
-        assert!(rt; is_filled(alloc, format, &event, want)?, "{want}");
+        assert!(rt; is_day(alloc, *nanos, want)?, "{want}");
     }
     Ok(())
 }
@@ -267,13 +275,34 @@ fn nested(alloc: Global) -> Result<Value, AllocError> {
     list(alloc, [number(1, 0), inner, keyed])
 }
 
+/// One of the values that hold others.
+fn holding(alloc: Global, name: &str) -> Result<Value, AllocError> {
+    match name {
+        "letters" => letters(alloc),
+        "nested" => nested(alloc),
+        _ => object(alloc, "é", time(0)),
+    }
+}
+
+const HOLDING: [(&str, &str); 3] = [
+    ("letters", "x,y,"),
+    ("nested", "1,true,,-0.05,{\"k\":[\"x\",\"y\",null]}"),
+    ("object", "{\"é\":\"1970-01-01T00:00:00.000Z\"}"),
+];
+
+fn holding_values_are_shown(
+    rt: &impl Abort,
+    alloc: Global,
+    values: &[(&str, &str)],
+) -> Result<(), AllocError> {
+    for (name, want) in values {
+        shows(rt, alloc, &holding(alloc, name)?, want)?;
+    }
+    Ok(())
+}
+
 #[test]
 fn lists_and_objects_are_shown_as_texts(rt: HostRuntime) -> Result<(), Fail> {
-    let alloc = rt.alloc();
-    shows(&rt, alloc, &letters(alloc)?, "x,y,")?;
-    let shown = "1,true,,-0.05,{\"k\":[\"x\",\"y\",null]}";
-    shows(&rt, alloc, &nested(alloc)?, shown)?;
-    let shown = "{\"é\":\"1970-01-01T00:00:00.000Z\"}";
-    shows(&rt, alloc, &object(alloc, "é", time(0))?, shown)?;
+    holding_values_are_shown(&rt, rt.alloc(), &HOLDING)?;
     Ok(())
 }

@@ -59,6 +59,13 @@ fn call(
     }
 }
 
+/// What a call answered, and the two objects that it left.
+fn with_left(alloc: Global, answer: &str, event: &Event) -> Result<String, AllocError> {
+    let fields = json(alloc, event.fields())?;
+    let meta = json(alloc, event.meta())?;
+    format!(in alloc; "{answer}|{fields}|{meta}")
+}
+
 /// Makes one call on the event, and says what it answered and what it left.
 fn step(
     alloc: Global,
@@ -70,12 +77,8 @@ fn step(
     let Ok(path) = Path::read(alloc, text) else {
         return String::from_str(alloc, "no path");
     };
-    let mut shown = call(alloc, event, name, &path, value)?;
-    shown.push('|')?;
-    shown.push_str(json(alloc, event.fields())?.as_str())?;
-    shown.push('|')?;
-    shown.push_str(json(alloc, event.meta())?.as_str())?;
-    Ok(shown)
+    let answer = call(alloc, event, name, &path, value)?;
+    with_left(alloc, answer.as_str(), event)
 }
 
 /// Calls on one event, one after another: the call, its path, the value that is put, and what it answers and leaves.
@@ -299,10 +302,16 @@ fn deep_puts_answer(
 }
 
 #[test]
-fn depth_is_limited(rt: HostRuntime) -> Result<(), Fail> {
+fn what_is_too_deep_changes_nothing(rt: HostRuntime) -> Result<(), Fail> {
     let mut event = Event::new(rt.alloc());
     deep_puts_answer(&rt, rt.alloc(), &mut event, &TOO_DEEP)?;
     assert!(rt; event.same(&Event::new(rt.alloc())));
+    Ok(())
+}
+
+#[test]
+fn events_have_at_most_128_levels(rt: HostRuntime) -> Result<(), Fail> {
+    let mut event = Event::new(rt.alloc());
     deep_puts_answer(&rt, rt.alloc(), &mut event, &DEEP)?;
     assert!(rt; copy_is_same(&event)?);
     Ok(())
@@ -497,17 +506,25 @@ fn instants_end_with_the_year_9999(rt: HostRuntime) {
     assert!(rt; Instant::from_nanos(-62_135_596_800_000_000_001).is_none());
 }
 
-#[test]
-fn letters_are_copied(rt: HostRuntime) -> Result<(), Fail> {
-    let alloc = rt.alloc();
-    let mut letters = DeadList::new(alloc);
-    letters.push(DeadLetter {
+fn letter(alloc: Global) -> Result<DeadLetter, AllocError> {
+    Ok(DeadLetter {
         kind: Text::of(alloc, "if")?,
         id: Text::of(alloc, "filter_1")?,
         reason: Text::of(alloc, "order")?,
         event: Event::new(alloc),
-    })?;
-    assert_eq!(rt; letters.clone()?.len(), 1);
+    })
+}
+
+/// How many letters a copy of a list of one has.
+fn copied_letters(alloc: Global) -> Result<usize, AllocError> {
+    let mut letters = DeadList::new(alloc);
+    letters.push(letter(alloc)?)?;
+    Ok(letters.clone()?.len())
+}
+
+#[test]
+fn letters_are_copied(rt: HostRuntime) -> Result<(), Fail> {
+    assert_eq!(rt; copied_letters(rt.alloc())?, 1);
     Ok(())
 }
 
