@@ -81,7 +81,6 @@ pub enum Condition {
 }
 
 /// What a condition compares.
-#[derive(Drop)]
 pub enum Operand {
     /// The field that a selector names.
     Field(Path),
@@ -91,17 +90,47 @@ pub enum Operand {
 }
 
 /// A member of a list in a condition.
-#[derive(Drop)]
 pub enum Literal {
     Text(Text),
     Number(Number),
 }
 
 /// The right side of `=~` and `!~`.
-#[derive(Drop)]
 pub enum Pattern {
     /// Between two `/`.
     Regexp(Text),
     /// Between quotes.
     Text(Text),
+}
+
+// The drops of what conditions are made of are written out, so that where a condition is dropped a proof sees one call
+// for each of its parts, and not the drop of each of their variants.
+
+impl Drop for Operand {
+    fn drop(self) {
+        match self {
+            Operand::Field(_path) => {}
+            Operand::Text(_text) => {}
+            Operand::Number(_number) => {}
+            Operand::List(_literals) => {}
+        }
+    }
+}
+
+impl Drop for Literal {
+    fn drop(self) {
+        match self {
+            Literal::Text(_text) => {}
+            Literal::Number(_number) => {}
+        }
+    }
+}
+
+impl Drop for Pattern {
+    fn drop(self) {
+        match self {
+            Pattern::Regexp(_text) => {}
+            Pattern::Text(_text) => {}
+        }
+    }
 }
