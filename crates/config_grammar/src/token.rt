@@ -4,7 +4,6 @@ use event_tree::Number;
 use plain_lists::{Items, Text};
 
 /// A token.
-#[derive(Drop)]
 pub enum Token {
     /// A word without a dash: a bareword.
     Word(Word),
@@ -42,8 +41,23 @@ pub enum Token {
     Unreadable,
 }
 
+// The drops of tokens and words are written out, so that each is one call where an error is handed on.
+impl Drop for Token {
+    fn drop(self) {
+        match self {
+            Token::Word(_word) => {}
+            Token::Dashed(_text) | Token::Quoted(_text) | Token::Regexp(_text) => {}
+            Token::Number(_number, _spelling) => {}
+            Token::Selector(_parts) => {}
+            Token::OpenBrace | Token::CloseBrace | Token::OpenBracket | Token::CloseBracket => {}
+            Token::OpenParen | Token::CloseParen => {}
+            Token::Comma | Token::Arrow | Token::Exclamation => {}
+            Token::Comparison(_) | Token::Matching(_) | Token::Unreadable => {}
+        }
+    }
+}
+
 /// A word without a dash. Those with a meaning of their own are told apart.
-#[derive(Drop)]
 pub enum Word {
     If,
     Else,
@@ -53,6 +67,16 @@ pub enum Word {
     Disjunction(Disjunction),
     Section(Section),
     Other(Text),
+}
+
+impl Drop for Word {
+    fn drop(self) {
+        match self {
+            Word::Other(_text) => {}
+            Word::If | Word::Else | Word::In | Word::Not => {}
+            Word::Conjunction(_) | Word::Disjunction(_) | Word::Section(_) => {}
+        }
+    }
 }
 
 /// The joints that bind more tightly.

@@ -20,11 +20,20 @@ pub struct Showing {
 }
 
 /// Files in memory that change between calls as others would change them, which it tells.
-#[derive(Drop)]
 pub struct MemoryFiles {
     empty: Table,
     contents: Vec<Showing>,
     script: Script,
+}
+
+impl Drop for MemoryFiles {
+    fn drop(self) {
+        let MemoryFiles {
+            empty: _empty,
+            contents: _contents,
+            script: _script,
+        } = self;
+    }
 }
 
 impl Model for MemoryFiles {

@@ -36,7 +36,6 @@ pub struct ConnState {
 ///
 /// Their pieces stand in one list, and a connection gives a piece once it is the first that is left.
 /// Nothing is left of a connection whose end was read, and of one that was closed.
-#[derive(Drop)]
 pub struct MemoryLinks {
     connections: u32,
     came: Vec<ConnState>,
@@ -45,6 +44,20 @@ pub struct MemoryLinks {
     accept_faults: u64,
     accept_waits: u64,
     script: Script,
+}
+
+impl Drop for MemoryLinks {
+    fn drop(self) {
+        let MemoryLinks {
+            connections: _,
+            came: _came,
+            given: _given,
+            left: _left,
+            accept_faults: _,
+            accept_waits: _,
+            script: _script,
+        } = self;
+    }
 }
 
 impl Model for MemoryLinks {

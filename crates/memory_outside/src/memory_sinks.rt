@@ -8,12 +8,22 @@ use std::alloc::Global;
 use std::marker::Model;
 
 /// A sink that keeps the bytes that it takes, and tells them.
-#[derive(Drop)]
 pub struct MemorySink {
     taken: Vec<u8>,
     flushed: usize,
     most: usize,
     script: Script,
+}
+
+impl Drop for MemorySink {
+    fn drop(self) {
+        let MemorySink {
+            taken: _taken,
+            flushed: _,
+            most: _,
+            script: _script,
+        } = self;
+    }
 }
 
 impl Model for MemorySink {

@@ -16,13 +16,24 @@ pub enum Gave {
 }
 
 /// A source of given bytes, which tells what it holds.
-#[derive(Drop)]
 pub struct MemorySource {
     bytes: Vec<u8>,
     at: usize,
     most: usize,
     given: Vec<Gave>,
     script: Script,
+}
+
+impl Drop for MemorySource {
+    fn drop(self) {
+        let MemorySource {
+            bytes: _bytes,
+            at: _,
+            most: _,
+            given: _given,
+            script: _script,
+        } = self;
+    }
 }
 
 impl Model for MemorySource {

@@ -8,13 +8,24 @@ use std::marker::Model;
 /// Which calls of an object in memory fail, and which reads find nothing yet, by their numbers among
 /// the calls of that object, from 0. It also counts the calls, the failures and the reads that found
 /// nothing, each up to the last value of u64.
-#[derive(Drop)]
 pub struct Script {
     failing: Vec<u64>,
     waiting: Vec<u64>,
     made: u64,
     faults: u64,
     waits: u64,
+}
+
+impl Drop for Script {
+    fn drop(self) {
+        let Script {
+            failing: _failing,
+            waiting: _waiting,
+            made: _,
+            faults: _,
+            waits: _,
+        } = self;
+    }
 }
 
 impl Model for Script {
@@ -56,15 +67,13 @@ impl Script {
     }
 
     /// The same script, with counts that stand at these numbers.
-    pub fn counting_from(self, made: u64, faults: u64, waits: u64) -> Script
+    pub fn counting_from(mut self, made: u64, faults: u64, waits: u64) -> Script
         ensures { result ≡ record self { made = made; faults = faults; waits = waits } }
     {
-        Script {
-            made,
-            faults,
-            waits,
-            ..self
-        }
+        self.made = made;
+        self.faults = faults;
+        self.waits = waits;
+        self
     }
 
     /// Begins a call, which fails where the script names it.

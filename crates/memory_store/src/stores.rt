@@ -17,13 +17,24 @@ use store_images::Store;
 ///
 /// It keeps the files that it held at first and a log of all its calls. Its moment is the number of
 /// calls in the log. A call that fails changes nothing; one that found no memory is not in the log.
-#[derive(Drop)]
 pub struct MemoryStore {
     base: Table,
     files: Table,
     calls: Vec<Logged>,
     script: Script,
     stop: u64,
+}
+
+impl Drop for MemoryStore {
+    fn drop(self) {
+        let MemoryStore {
+            base: _base,
+            files: _files,
+            calls: _calls,
+            script: _script,
+            stop: _,
+        } = self;
+    }
 }
 
 impl Model for MemoryStore {

@@ -24,12 +24,22 @@ use store_images::Store;
 ///
 /// Once a sync failed, each later one fails too: the machine may have dropped what it could not
 /// write, and a sync that came after would not say so.
-#[derive(Drop)]
 pub struct FileStore<R> {
     rt: R,
     opened: OpenedFiles,
     is_lost: bool,
     faults: u64,
+}
+
+impl<R: Drop> Drop for FileStore<R> {
+    fn drop(self) {
+        let FileStore {
+            rt: _rt,
+            opened: _opened,
+            is_lost: _,
+            faults: _,
+        } = self;
+    }
 }
 
 impl<R> Model for FileStore<R> {

@@ -16,13 +16,24 @@ use std::net::Net;
 /// counts of faults and waits: those of the looks, and those of each connection that is open.
 ///
 /// No call waits for another program, but that the first look on a host may wait for its address.
-#[derive(Drop)]
 pub struct TcpLinks<R: Net> {
     listeners: Listeners<R>,
     connections: Connections<R::Stream>,
     came: u64,
     faults: u64,
     waits: u64,
+}
+
+impl<R: Net + Drop> Drop for TcpLinks<R> {
+    fn drop(self) {
+        let TcpLinks {
+            listeners: _listeners,
+            connections: _connections,
+            came: _,
+            faults: _,
+            waits: _,
+        } = self;
+    }
 }
 
 impl<R: Net> Model for TcpLinks<R> {
