@@ -34,23 +34,46 @@ fn nested(alloc: Global, name: &str) -> Result<SettingValue, AllocError> {
     }))
 }
 
+fn array(alloc: Global) -> Result<SettingValue, AllocError> {
+    let mut values = Items::new(alloc);
+    values.push(text(alloc, "a")?)?;
+    values.push(number(alloc, 2, 0)?)?;
+    Ok(SettingValue::Array(values))
+}
+
+fn hash(alloc: Global) -> Result<SettingValue, AllocError> {
+    Ok(SettingValue::Hash(one_entry(alloc, "k", text(alloc, "v")?)?))
+}
+
+fn add(
+    list: &mut Items<(Text, SettingValue)>,
+    name: &str,
+    value: SettingValue,
+) -> Result<(), AllocError> {
+    let name = Text::of(list.allocator(), name)?;
+    list.push((name, value))
+}
+
+/// Texts, two of them of one name.
+const TEXTS: [(&str, &str); 6] = [
+    ("word", "json"),
+    ("yes", "true"),
+    ("no", "false"),
+    ("digits", "-1.50e1"),
+    ("zeros", "007"),
+    ("word", "line"),
+];
+
 /// Settings with each kind of value, and two of one name.
 fn settings(alloc: Global) -> Result<Settings, AllocError> {
     let mut list = Items::new(alloc);
-    let mut array = Items::new(alloc);
-    array.push(text(alloc, "a")?)?;
-    array.push(number(alloc, 2, 0)?)?;
-    let hash = one_entry(alloc, "k", text(alloc, "v")?)?;
-    list.push((Text::of(alloc, "word")?, text(alloc, "json")?))?;
-    list.push((Text::of(alloc, "yes")?, text(alloc, "true")?))?;
-    list.push((Text::of(alloc, "no")?, text(alloc, "false")?))?;
-    list.push((Text::of(alloc, "digits")?, text(alloc, "-1.50e1")?))?;
-    list.push((Text::of(alloc, "zeros")?, text(alloc, "007")?))?;
-    list.push((Text::of(alloc, "number")?, number(alloc, -25, 1)?))?;
-    list.push((Text::of(alloc, "array")?, SettingValue::Array(array)))?;
-    list.push((Text::of(alloc, "hash")?, SettingValue::Hash(hash)))?;
-    list.push((Text::of(alloc, "plugin")?, nested(alloc, "json")?))?;
-    list.push((Text::of(alloc, "word")?, text(alloc, "line")?))?;
+    for (name, written) in TEXTS {
+        add(&mut list, name, text(alloc, written)?)?;
+    }
+    add(&mut list, "number", number(alloc, -25, 1)?)?;
+    add(&mut list, "array", array(alloc)?)?;
+    add(&mut list, "hash", hash(alloc)?)?;
+    add(&mut list, "plugin", nested(alloc, "json")?)?;
     Ok(Settings { list })
 }
 
@@ -133,85 +156,86 @@ fn answers(
     }
 }
 
+/// A reader, the name that it is given, and what it answers.
+const ROWS: [(char, &str, &str); 24] = [
+    ('t', "absent", "none"),
+    ('t', "word", "json"),
+    (
+        't',
+        "number",
+        "the setting number has a value of another kind",
+    ),
+    (
+        't',
+        "plugin",
+        "the setting plugin has a value of another kind",
+    ),
+    ('f', "absent", "none"),
+    ('f', "yes", "true"),
+    ('f', "no", "false"),
+    ('f', "word", "the setting word has a value of another kind"),
+    (
+        'f',
+        "number",
+        "the setting number has a value of another kind",
+    ),
+    ('n', "absent", "none"),
+    ('n', "number", "-25e-1"),
+    ('n', "digits", "-15e-0"),
+    (
+        'n',
+        "zeros",
+        "the setting zeros has a value of another kind",
+    ),
+    (
+        'n',
+        "array",
+        "the setting array has a value of another kind",
+    ),
+    ('l', "absent", "none"),
+    ('l', "array", "list a 2e-0"),
+    ('l', "word", "list json"),
+    ('l', "number", "list -25e-1"),
+    ('l', "hash", "the setting hash has a value of another kind"),
+    (
+        'l',
+        "plugin",
+        "the setting plugin has a value of another kind",
+    ),
+    ('h', "absent", "none"),
+    ('h', "hash", "hash k=v"),
+    (
+        'h',
+        "array",
+        "the setting array has a value of another kind",
+    ),
+    ('h', "wor", "none"),
+];
+
 #[test]
 fn readers_take_their_kinds_alone(rt: HostRuntime) -> Result<(), Fail> {
     let alloc = rt.alloc();
     let settings = settings(alloc)?;
-    let rows = [
-        ('t', "absent", "none"),
-        ('t', "word", "json"),
-        (
-            't',
-            "number",
-            "the setting number has a value of another kind",
-        ),
-        (
-            't',
-            "plugin",
-            "the setting plugin has a value of another kind",
-        ),
-        ('f', "absent", "none"),
-        ('f', "yes", "true"),
-        ('f', "no", "false"),
-        ('f', "word", "the setting word has a value of another kind"),
-        (
-            'f',
-            "number",
-            "the setting number has a value of another kind",
-        ),
-        ('n', "absent", "none"),
-        ('n', "number", "-25e-1"),
-        ('n', "digits", "-15e-0"),
-        (
-            'n',
-            "zeros",
-            "the setting zeros has a value of another kind",
-        ),
-        (
-            'n',
-            "array",
-            "the setting array has a value of another kind",
-        ),
-        ('l', "absent", "none"),
-        ('l', "array", "list a 2e-0"),
-        ('l', "word", "list json"),
-        ('l', "number", "list -25e-1"),
-        ('l', "hash", "the setting hash has a value of another kind"),
-        (
-            'l',
-            "plugin",
-            "the setting plugin has a value of another kind",
-        ),
-        ('h', "absent", "none"),
-        ('h', "hash", "hash k=v"),
-        (
-            'h',
-            "array",
-            "the setting array has a value of another kind",
-        ),
-        ('h', "wor", "none"),
-    ];
-    for (reader, name, want) in rows {
+    for (reader, name, want) in ROWS {
         assert!(rt; answers(alloc, &settings, reader, name, want)?);
     }
     Ok(())
 }
 
-fn told(alloc: Global, fault: FromFault, want: &str) -> Result<bool, AllocError> {
-    Ok(format!(in alloc; "{fault}")?.as_str() == want)
+fn told(alloc: Global, fault: SettingFault, want: &str) -> Result<bool, AllocError> {
+    Ok(format!(in alloc; "{}", FromFault::Bad(fault))?.as_str() == want)
 }
 
 /// Whether each fault that no reader answers has its text.
 fn are_told(alloc: Global) -> Result<bool, AllocError> {
-    let missing = FromFault::Bad(SettingFault::Missing(Text::of(alloc, "port")?));
-    let unknown = FromFault::Bad(SettingFault::Unknown(Text::of(alloc, "prot")?));
-    let pattern = FromFault::Bad(SettingFault::BadPattern(Text::of(alloc, "match")?));
-    Ok(
-        told(alloc, missing, "the setting port is missing")?
-            && told(alloc, unknown, "the setting prot is unknown")?
-            && told(alloc, pattern, "the setting match has a bad pattern")?
-            && told(alloc, FromFault::Memory, "out of memory")?,
-    )
+    let missing = SettingFault::Missing(Text::of(alloc, "port")?);
+    let first = told(alloc, missing, "the setting port is missing")?;
+    let unknown = SettingFault::Unknown(Text::of(alloc, "prot")?);
+    let second = told(alloc, unknown, "the setting prot is unknown")?;
+    let pattern = SettingFault::BadPattern(Text::of(alloc, "match")?);
+    let third = told(alloc, pattern, "the setting match has a bad pattern")?;
+    let memory = format!(in alloc; "{}", FromFault::Memory)?.as_str() == "out of memory";
+    Ok(first && second && third && memory)
 }
 
 #[test]
