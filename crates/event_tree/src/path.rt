@@ -79,7 +79,8 @@ impl Path {
 
     /// The parts, without `@metadata` in front: at least one where the path leads into `fields`.
     pub fn parts(&self) -> &[Text]
-        ensures { result.now ≡ self.now.parts }
+        ensures given { result.now ≡ self.now.parts }
+        ensures some { self.now.meta ≡ false → 0 < length result.now }
     {
         self.parts.as_slice()
     }
