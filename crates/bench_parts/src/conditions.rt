@@ -52,15 +52,23 @@ fn condition(config: &Config) -> Result<&Condition> {
 fn event(alloc: Global) -> Result<Event> {
     let mut event = Event::new(alloc);
     for i in 0..FIELDS {
-        let path = format!(in alloc; "field{i:02}")?;
-        let value = if i % 2 == 0 {
-            Value::Text(Text::of(alloc, "a value of some bytes")?)
-        } else {
-            Value::Num(Number::new(i64::from(i), 0).context("number")?)
-        };
-        event.put(&Path::read(alloc, path.as_str())?, value)?;
+        let path = path(alloc, i)?;
+        event.put(&path, value(alloc, i)?)?;
     }
     Ok(event)
+}
+
+fn path(alloc: Global, i: u8) -> Result<Path> {
+    let name = format!(in alloc; "field{i:02}")?;
+    Ok(Path::read(alloc, name.as_str())?)
+}
+
+fn value(alloc: Global, i: u8) -> Result<Value> {
+    if i % 2 == 0 {
+        Ok(Value::Text(Text::of(alloc, "a value of some bytes")?))
+    } else {
+        Ok(Value::Num(Number::new(i64::from(i), 0).context("number")?))
+    }
 }
 
 /// The same, with the patterns that were made of the condition.

@@ -24,10 +24,22 @@ pub fn run(alloc: Global, words: &[String]) -> Result<u64> {
 /// An event like that of a line of an access log.
 fn event(alloc: Global) -> Result<Event> {
     let mut event = Event::new(alloc);
+    put_texts(alloc, &mut event)?;
+    put_numbers(alloc, &mut event)?;
+    put_moment(alloc, &mut event)?;
+    Ok(event)
+}
+
+fn put_texts(alloc: Global, event: &mut Event) -> Result<()> {
     for (path, text) in texts() {
-        let text = Value::Text(Text::of(alloc, text)?);
-        event.put(&Path::read(alloc, path)?, text)?;
+        let path = Path::read(alloc, path)?;
+        let text = Text::of(alloc, text)?;
+        event.put(&path, Value::Text(text))?;
     }
+    Ok(())
+}
+
+fn put_numbers(alloc: Global, event: &mut Event) -> Result<()> {
     for (path, mantissa, scale) in [
         ("[http][response][status]", 200, 0),
         ("[http][response][bytes]", 48_213, 0),
@@ -38,9 +50,13 @@ fn event(alloc: Global) -> Result<Event> {
         let number = Number::new(mantissa, scale).context("a number")?;
         event.put(&Path::read(alloc, path)?, Value::Num(number))?;
     }
+    Ok(())
+}
+
+fn put_moment(alloc: Global, event: &mut Event) -> Result<()> {
     let moment = Instant::from_nanos(1_709_596_800_123_000_000).context("2024")?;
     event.put(&Path::read(alloc, "@timestamp")?, Value::Time(moment))?;
-    Ok(event)
+    Ok(())
 }
 
 fn texts() -> [(&'static str, &'static str); 13] {
