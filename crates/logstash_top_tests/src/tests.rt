@@ -52,27 +52,36 @@ impl<'a> Case<'a> {
     }
 }
 
+fn owned(alloc: Global, words: &[&str]) -> Result<Vec<String>, AllocError> {
+    let mut owned = Vec::new(alloc);
+    for word in words {
+        owned.push(String::from_str(alloc, word)?)?;
+    }
+    Ok(owned)
+}
+
+fn world(alloc: Global, case: &Case<'_>) -> Result<World, Fail> {
+    let moment = Instant::from_nanos(NEW_YEAR).ok_or("2024")?;
+    let reads = Script::new(alloc, case.failing_reads, case.waiting_reads)?;
+    let writes = Script::new(alloc, case.failing_writes, &[])?;
+    let told = Script::new(alloc, case.failing_stderr, &[])?;
+    Ok(ThinWorld {
+        stdin: MemorySource::new(alloc, case.stdin, case.read_most, reads)?,
+        stdout: MemorySink::new(alloc, case.write_most, writes),
+        stderr: MemorySink::new(alloc, usize::MAX, told),
+        clock: ListClock::new(alloc, &[moment])?,
+    })
+}
+
 fn run<R: Wait>(
     rt: &R,
     alloc: Global,
     words: &[&str],
     case: &Case<'_>,
 ) -> Result<(Status, World), Fail> {
-    let mut owned = Vec::new(alloc);
-    for word in words {
-        owned.push(String::from_str(alloc, word)?)?;
-    }
-    let reads = Script::new(alloc, case.failing_reads, case.waiting_reads)?;
-    let writes = Script::new(alloc, case.failing_writes, &[])?;
-    let told = Script::new(alloc, case.failing_stderr, &[])?;
-    let moment = Instant::from_nanos(NEW_YEAR).ok_or("2024")?;
-    let mut world = ThinWorld {
-        stdin: MemorySource::new(alloc, case.stdin, case.read_most, reads)?,
-        stdout: MemorySink::new(alloc, case.write_most, writes),
-        stderr: MemorySink::new(alloc, usize::MAX, told),
-        clock: ListClock::new(alloc, &[moment])?,
-    };
-    let status = logstash(rt, alloc, &owned, &mut world);
+    let words = owned(alloc, words)?;
+    let mut world = world(alloc, case)?;
+    let status = logstash(rt, alloc, &words, &mut world);
     Ok((status, world))
 }
 
@@ -237,50 +246,57 @@ fn other_words_are_refused(rt: HostRuntime) -> Result<(), Fail> {
     Ok(())
 }
 
+// Texts, and why each is refused.
+const REFUSED: [(&str, &str); 14] = [
+    ("", "not built"),
+    ("input { stdin {} }", "not built"),
+    (
+        "input { stdin {} stdin {} } output { stdout {} }",
+        "not built",
+    ),
+    (
+        "input { stdin { id => a } } output { stdout {} }",
+        "not built",
+    ),
+    (
+        "input { stdin {} } filter { drop {} } output { stdout {} }",
+        "not built",
+    ),
+    (
+        "input { stdin {} } output { if [a] { stdout {} } }",
+        "not built",
+    ),
+    (
+        "input { stdin {} } output { stdout { codec => line } }",
+        "not built",
+    ),
+    (
+        "input { stdin {} } output { stdout { codec => json_lines {} } }",
+        "not built",
+    ),
+    ("input { stdin {} } output { stdout {} } }", "syntax at 40"),
+    ("input { stdin {} ", "syntax at 17"),
+    ("inputs { stdin {} }", "syntax at 0"),
+    ("input { if [a] { stdin {} } }", "syntax at 8"),
+    ("filter { if [#] == 1 {} }", "syntax at 12"),
+    (
+        "filter { if ((((((((((((((((((((((((((((((((((((((((((((((((((((((((((((((((",
+        "deep at 75",
+    ),
+];
+
+// The line that tells why a text is refused.
+fn refusal(alloc: Global, reason: &str) -> Result<Vec<u8>, AllocError> {
+    let mut line = Vec::from_slice(alloc, b"logstash: pipeline main: ")?;
+    line.extend_from_slice(reason.as_bytes())?;
+    line.push(b'\n')?;
+    Ok(line)
+}
+
 #[test]
 fn other_texts_are_refused(rt: HostRuntime) -> Result<(), Fail> {
-    // why each text is refused
-    let texts: [(&str, &[u8]); 14] = [
-        ("", b"not built"),
-        ("input { stdin {} }", b"not built"),
-        (
-            "input { stdin {} stdin {} } output { stdout {} }",
-            b"not built",
-        ),
-        (
-            "input { stdin { id => a } } output { stdout {} }",
-            b"not built",
-        ),
-        (
-            "input { stdin {} } filter { drop {} } output { stdout {} }",
-            b"not built",
-        ),
-        (
-            "input { stdin {} } output { if [a] { stdout {} } }",
-            b"not built",
-        ),
-        (
-            "input { stdin {} } output { stdout { codec => line } }",
-            b"not built",
-        ),
-        (
-            "input { stdin {} } output { stdout { codec => json_lines {} } }",
-            b"not built",
-        ),
-        ("input { stdin {} } output { stdout {} } }", b"syntax at 40"),
-        ("input { stdin {} ", b"syntax at 17"),
-        ("inputs { stdin {} }", b"syntax at 0"),
-        ("input { if [a] { stdin {} } }", b"syntax at 8"),
-        ("filter { if [#] == 1 {} }", b"syntax at 12"),
-        (
-            "filter { if ((((((((((((((((((((((((((((((((((((((((((((((((((((((((((((((((",
-            b"deep at 75",
-        ),
-    ];
-    for (text, reason) in texts {
-        let mut line = Vec::from_slice(rt.alloc(), b"logstash: pipeline main: ")?;
-        line.extend_from_slice(reason)?;
-        line.push(b'\n')?;
+    for (text, reason) in REFUSED {
+        let line = refusal(rt.alloc(), reason)?;
         for call in [0, 1, 3, NEVER] {
             assert!(rt;
                 is_refused(&rt, rt.alloc(), &["-e", text], call, 3, &line)?,
@@ -291,17 +307,22 @@ fn other_texts_are_refused(rt: HostRuntime) -> Result<(), Fail> {
     Ok(())
 }
 
-#[test]
-fn a_text_of_more_than_a_megabyte_is_refused(rt: HostRuntime) -> Result<(), Fail> {
-    let mut text = String::from_str(rt.alloc(), BUILT)?;
-    for _ in text.len()..1_048_576 {
+// The text that is built, with blanks behind it up to so many bytes.
+fn padded(alloc: Global, length: usize) -> Result<String, AllocError> {
+    let mut text = String::from_str(alloc, BUILT)?;
+    for _ in text.len()..length {
         text.push(' ')?;
     }
-    let (status, _) = run(&rt, rt.alloc(), &["-e", text.as_str()], &Case::of(b""))?;
-    assert_eq!(rt; status.number(), 0);
-    text.push(' ')?;
+    Ok(text)
+}
+
+#[test]
+fn a_text_of_more_than_a_megabyte_is_refused(rt: HostRuntime) -> Result<(), Fail> {
+    let longest = padded(rt.alloc(), 1_048_576)?;
+    assert!(rt; says_the_same(&rt, rt.alloc(), longest.as_str())?);
+    let longer = padded(rt.alloc(), 1_048_577)?;
     let line = b"logstash: pipeline main: long\n";
-    assert!(rt; is_refused(&rt, rt.alloc(), &["-e", text.as_str()], NEVER, 3, line)?);
+    assert!(rt; is_refused(&rt, rt.alloc(), &["-e", longer.as_str()], NEVER, 3, line)?);
     Ok(())
 }
 
@@ -443,48 +464,55 @@ fn the_clock_is_paused_where_nothing_came(rt: HostRuntime) -> Result<(), Fail> {
     Ok(())
 }
 
+fn paused_world(
+    alloc: Global,
+    waiting_reads: &[u64],
+) -> Result<ThinWorld<MemorySource, MemorySink, PausedClock>, Fail> {
+    let moment = Instant::from_nanos(NEW_YEAR).ok_or("2024")?;
+    let reads = Script::new(alloc, &[], waiting_reads)?;
+    Ok(ThinWorld {
+        stdin: MemorySource::new(alloc, LINES, 1, reads)?,
+        stdout: MemorySink::new(alloc, usize::MAX, Script::empty(alloc)),
+        stderr: MemorySink::new(alloc, usize::MAX, Script::empty(alloc)),
+        clock: PausedClock { moment, pauses: 0 },
+    })
+}
+
 fn pauses_as_often<R: Wait>(
     rt: &R,
     alloc: Global,
     waiting_reads: &[u64],
     pauses: u64,
 ) -> Result<bool, Fail> {
-    let words = vec![in alloc;
-        String::from_str(alloc, "-e")?,
-        String::from_str(alloc, BUILT)?,
-    ]?;
-    let reads = Script::new(alloc, &[], waiting_reads)?;
-    let moment = Instant::from_nanos(NEW_YEAR).ok_or("2024")?;
-    let mut world = ThinWorld {
-        stdin: MemorySource::new(alloc, LINES, 1, reads)?,
-        stdout: MemorySink::new(alloc, usize::MAX, Script::empty(alloc)),
-        stderr: MemorySink::new(alloc, usize::MAX, Script::empty(alloc)),
-        clock: PausedClock { moment, pauses: 0 },
-    };
+    let words = owned(alloc, &["-e", BUILT])?;
+    let mut world = paused_world(alloc, waiting_reads)?;
     let status = logstash(rt, alloc, &words, &mut world);
     Ok(status.number() == 0 && world.clock.pauses == pauses)
+}
+
+// So many letters, and these bytes behind them.
+fn letters(alloc: Global, count: usize, behind: &[u8]) -> Result<Vec<u8>, AllocError> {
+    let mut line = vec![in alloc; b'a'; count]?;
+    line.extend_from_slice(behind)?;
+    Ok(line)
+}
+
+// Whether these bytes, behind letters up to one byte before the limit, leave these messages.
+fn is_cut<R: Wait>(rt: &R, alloc: Global, behind: &[u8], messages: &[&[u8]]) -> Result<bool, Fail> {
+    let stdin = letters(alloc, LINE_LIMIT - 1, behind)?;
+    let wanted = rows(alloc, messages)?;
+    let words = ["-e", BUILT];
+    ends_as(rt, alloc, &words, &Case::of(&stdin), &Wanted::done(&wanted))
 }
 
 #[test]
 fn a_line_is_cut_at_its_limit(rt: HostRuntime) -> Result<(), Fail> {
     let alloc = rt.alloc();
-    let mut longest = vec![in alloc; b'a'; LINE_LIMIT]?;
-    let whole = rows(alloc, &[&longest, b""])?;
-    let one_more = rows(alloc, &[&longest, b"a"])?;
-    longest.truncate(LINE_LIMIT - 1);
-    longest.extend_from_slice(b"\xef\xbf\xbd")?;
-    let in_a_character = rows(alloc, &[&longest, b"\xef\xbf\xbd"])?;
-    longest.truncate(LINE_LIMIT - 1);
-    for (behind, wanted) in [
-        (b"a\n".as_slice(), &whole),
-        (b"aa\n", &one_more),
-        (b"\xc3\xa9\n", &in_a_character),
-    ] {
-        let mut stdin = longest.clone()?;
-        stdin.extend_from_slice(behind)?;
-        let wanted = Wanted::done(wanted);
-        assert!(rt; ends_as(&rt, alloc, &["-e", BUILT], &Case::of(&stdin), &wanted)?);
-    }
+    let whole = letters(alloc, LINE_LIMIT, b"")?;
+    assert!(rt; is_cut(&rt, alloc, b"a\n", &[&whole, b""])?);
+    assert!(rt; is_cut(&rt, alloc, b"aa\n", &[&whole, b"a"])?);
+    let cut = letters(alloc, LINE_LIMIT - 1, b"\xef\xbf\xbd")?;
+    assert!(rt; is_cut(&rt, alloc, b"\xc3\xa9\n", &[&cut, b"\xef\xbf\xbd"])?);
     Ok(())
 }
 
