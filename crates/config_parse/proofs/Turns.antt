@@ -121,12 +121,8 @@ chained : {A B C : Type 0} (q : Read A) (f : A × List Token → Read B) (g : B 
 chained (Ok x) f g = refl
 chained (Err e) f g = refl
 
-bound : {A B : Type 0} (q : Read A) (f : A × List Token → Read B) (n : ℕ) → short.Short q n → ((x : A × List Token) → short.Short (f x) (length x.1)) → short.Short (q >>= f) n
-bound (Ok x) f n su u y h = let a = su x refl in let b = u x y h in omega (arith, a, b)
-bound (Err e) f n su u y h = absurd (cc)
-
 pub arms_short : (test : Reader Condition) (block : Reader (List Statement)) → Shrinks test → Shrinks block → Shrinks (arms_of test block)
-arms_short test block st sb ts = bound (r.arm test block ts) (λ x. r.otherwise test block (length x.1) (x.0 ∷ []) x.1) (length ts) (short.arm_short test block st sb ts) (λ x. short.otherwise_short test block st sb (length x.1) (x.0 ∷ []) x.1)
+arms_short test block st sb ts = short.bound (r.arm test block ts) (λ x. r.otherwise test block (length x.1) (x.0 ∷ []) x.1) (length ts) (short.arm_short test block st sb ts) (λ x. short.otherwise_short test block st sb (length x.1) (x.0 ∷ []) x.1)
 
 no_close : (d : ℕ) (ts : List Token) (x : Plugin × List Token) → r.plugin d (t.CloseBrace ∷ ts) ≡ Ok x → ⊥
 unfolding r.plugin

@@ -37,7 +37,7 @@ ok a ts x h = let q : (a, ts) ≡ x = cc in let l = ap (λ p. length p.1) q in o
 later : {A : Type 0} (q : Read A) (n : ℕ) → Short q n → Short q (suc n)
 later q n s x h = let l = s x h in omega (arith, l)
 
-bound : {A B : Type 0} (q : Read A) (f : A × List Token → Read B) (n : ℕ) → Short q n → ((x : A × List Token) → Short (f x) (length x.1)) → Short (q >>= f) n
+pub bound : {A B : Type 0} (q : Read A) (f : A × List Token → Read B) (n : ℕ) → Short q n → ((x : A × List Token) → Short (f x) (length x.1)) → Short (q >>= f) n
 bound (Ok x) f n s u y h = let a = s x refl in let b = u x y h in omega (arith, a, b)
 bound (Err e) f n s u y h = absurd (cc)
 

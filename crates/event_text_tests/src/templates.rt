@@ -55,10 +55,14 @@ fn event_at(alloc: Global, moment: Value) -> Result<Event, AllocError> {
     let mut event = Event::new(alloc);
     put(alloc, &mut event, "@timestamp", moment);
     put(alloc, &mut event, "a", letters(alloc)?);
-    put_text(alloc, &mut event, "b", "B")?;
-    put_text(alloc, &mut event, "+x", "plus")?;
-    put_text(alloc, &mut event, "[o][p]", "é\"")?;
-    put_text(alloc, &mut event, "[@metadata][m]", "M")?;
+    for (path, value) in [
+        ("b", "B"),
+        ("+x", "plus"),
+        ("[o][p]", "é\""),
+        ("[@metadata][m]", "M"),
+    ] {
+        put_text(alloc, &mut event, path, value)?;
+    }
     Ok(event)
 }
 
