@@ -27,12 +27,23 @@ const MOST_BYTES: u64 = 16_777_216;
 /// Each event keeps these: in every object the keys rise strictly in byte order; lists and objects
 /// nest at most 128 deep, `fields` and `meta` themselves being the first level; and its encoding has
 /// at most 16,777,216 bytes.
-#[derive(Drop)]
 pub struct Event {
     fields: Value,
     meta: Value,
     size: u64,
     alloc: Global,
+}
+
+// Written out, so that it is one call wherever an error is handed on while an event is held.
+impl Drop for Event {
+    fn drop(self) {
+        let Event {
+            fields: _fields,
+            meta: _meta,
+            size: _,
+            alloc: _,
+        } = self;
+    }
 }
 
 impl Model for Event {

@@ -26,6 +26,7 @@ pub struct MemoryFiles {
     script: Script,
 }
 
+// Written out, so that it is one call wherever an error is handed on.
 impl Drop for MemoryFiles {
     fn drop(self) {
         let MemoryFiles {

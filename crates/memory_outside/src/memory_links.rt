@@ -46,6 +46,7 @@ pub struct MemoryLinks {
     script: Script,
 }
 
+// Written out, so that it is one call wherever an error is handed on.
 impl Drop for MemoryLinks {
     fn drop(self) {
         let MemoryLinks {

@@ -15,6 +15,7 @@ pub struct MemorySink {
     script: Script,
 }
 
+// Written out, so that it is one call wherever an error is handed on.
 impl Drop for MemorySink {
     fn drop(self) {
         let MemorySink {

@@ -24,6 +24,7 @@ pub struct MemorySource {
     script: Script,
 }
 
+// Written out, so that it is one call wherever an error is handed on.
 impl Drop for MemorySource {
     fn drop(self) {
         let MemorySource {

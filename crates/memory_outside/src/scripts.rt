@@ -16,6 +16,7 @@ pub struct Script {
     waits: u64,
 }
 
+// Written out, so that it is one call wherever an error is handed on.
 impl Drop for Script {
     fn drop(self) {
         let Script {

@@ -25,6 +25,7 @@ pub struct MemoryStore {
     stop: u64,
 }
 
+// Written out, so that it is one call wherever an error is handed on.
 impl Drop for MemoryStore {
     fn drop(self) {
         let MemoryStore {

@@ -31,6 +31,7 @@ pub struct FileStore<R> {
     faults: u64,
 }
 
+// Written out, so that it is one call wherever an error is handed on.
 impl<R: Drop> Drop for FileStore<R> {
     fn drop(self) {
         let FileStore {

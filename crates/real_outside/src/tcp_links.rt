@@ -24,6 +24,7 @@ pub struct TcpLinks<R: Net> {
     waits: u64,
 }
 
+// Written out, so that it is one call wherever an error is handed on.
 impl<R: Net + Drop> Drop for TcpLinks<R> {
     fn drop(self) {
         let TcpLinks {
