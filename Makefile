@@ -1,5 +1,5 @@
-# The program goes to bin/logstash. Proving all that it stands on takes some minutes of processor time
-# the first time, and seconds after that.
+# The program goes to bin/logstash. Proving all that it stands on takes some twenty minutes the first time, and
+# seconds after that.
 
 PROGRAM = crates/logstash_cli
 RUNS = 'input { stdin {} } output { stdout {} }'
