@@ -15,16 +15,6 @@ fn number(alloc: Global, mantissa: i64, scale: u8) -> Result<SettingValue, Alloc
     }
 }
 
-fn one_entry(
-    alloc: Global,
-    key: &str,
-    value: SettingValue,
-) -> Result<Items<(Text, SettingValue)>, AllocError> {
-    let mut entries = Items::new(alloc);
-    entries.push((Text::of(alloc, key)?, value))?;
-    Ok(entries)
-}
-
 fn nested(alloc: Global, name: &str) -> Result<SettingValue, AllocError> {
     Ok(SettingValue::Nested(Plugin {
         name: Text::of(alloc, name)?,
@@ -42,7 +32,9 @@ fn array(alloc: Global) -> Result<SettingValue, AllocError> {
 }
 
 fn hash(alloc: Global) -> Result<SettingValue, AllocError> {
-    Ok(SettingValue::Hash(one_entry(alloc, "k", text(alloc, "v")?)?))
+    let mut entries = Items::new(alloc);
+    add(&mut entries, "k", text(alloc, "v")?)?;
+    Ok(SettingValue::Hash(entries))
 }
 
 fn add(
