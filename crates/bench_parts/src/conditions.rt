@@ -2,7 +2,6 @@
 
 ghost use Rattle.condition_eval.specs.Made.{AreMadeOf};
 
-use anyhow::{Context, Result, bail};
 use condition_eval::{Truth, eval, patterns_of};
 use config_grammar::{Condition, Config, Statement};
 use config_parse::parse;
@@ -14,60 +13,60 @@ use std::alloc::Global;
 const FIELDS: u8 = 30;
 
 /// In how many of so many rounds a condition is Yes.
-pub fn run(alloc: Global, words: &[String]) -> Result<u64> {
+pub fn run(alloc: Global, words: &[String]) -> Option<u64> {
     let [text, rounds] = words else {
-        bail!("usage: conditions CONDITION ROUNDS");
+        return None;
     };
-    let rounds = rounds.as_str().parse::<u32>().context("ROUNDS")?;
+    let rounds = rounds.as_str().parse::<u32>().ok()?;
     evaluated(alloc, text.as_str(), rounds)
 }
 
 /// In how many rounds the condition of this text is Yes.
-fn evaluated(alloc: Global, text: &str, rounds: u32) -> Result<u64> {
+fn evaluated(alloc: Global, text: &str, rounds: u32) -> Option<u64> {
     let config = config(alloc, text)?;
     let condition = condition(&config)?;
-    let mut patterns = patterns_of(alloc, condition)?;
+    let mut patterns = patterns_of(alloc, condition).ok()?;
     let event = event(alloc)?;
     rounds_that_hold(condition, &mut patterns, &event, rounds)
 }
 
-fn config(alloc: Global, text: &str) -> Result<Config> {
-    let source = format!(in alloc; "filter {{ if {text} {{ }} }}")?;
-    Ok(parse(alloc, source.as_str())?)
+fn config(alloc: Global, text: &str) -> Option<Config> {
+    let source = format!(in alloc; "filter {{ if {text} {{ }} }}").ok()?;
+    parse(alloc, source.as_str()).ok()
 }
 
 /// The condition of the one branch.
-fn condition(config: &Config) -> Result<&Condition> {
+fn condition(config: &Config) -> Option<&Condition> {
     if let Some(Statement::Branch(arms)) = config.filters.get(0) {
         if let Some(arm) = arms.get(0) {
             if let Some(condition) = &arm.condition {
-                return Ok(condition);
+                return Some(condition);
             }
         }
     }
-    bail!("no condition")
+    None
 }
 
 /// Fields `field00` to `field29`, texts and numbers in turn.
-fn event(alloc: Global) -> Result<Event> {
+fn event(alloc: Global) -> Option<Event> {
     let mut event = Event::new(alloc);
     for i in 0..FIELDS {
         let path = path(alloc, i)?;
-        event.put(&path, value(alloc, i)?)?;
+        event.put(&path, value(alloc, i)?).ok()?;
     }
-    Ok(event)
+    Some(event)
 }
 
-fn path(alloc: Global, i: u8) -> Result<Path> {
-    let name = format!(in alloc; "field{i:02}")?;
-    Ok(Path::read(alloc, name.as_str())?)
+fn path(alloc: Global, i: u8) -> Option<Path> {
+    let name = format!(in alloc; "field{i:02}").ok()?;
+    Path::read(alloc, name.as_str()).ok()
 }
 
-fn value(alloc: Global, i: u8) -> Result<Value> {
+fn value(alloc: Global, i: u8) -> Option<Value> {
     if i % 2 == 0 {
-        Ok(Value::Text(Text::of(alloc, "a value of some bytes")?))
+        Some(Value::Text(Text::of(alloc, "a value of some bytes").ok()?))
     } else {
-        Ok(Value::Num(Number::new(i64::from(i), 0).context("number")?))
+        Some(Value::Num(Number::new(i64::from(i), 0)?))
     }
 }
 
@@ -77,14 +76,14 @@ fn rounds_that_hold(
     patterns: &mut Patterns,
     event: &Event,
     rounds: u32,
-) -> Result<u64>
+) -> Option<u64>
     requires { AreMadeOf condition.now patterns.old }
 {
     let mut found = 0u64;
     for _ in 0..rounds {
-        if eval(condition, patterns, event)? == Truth::Yes {
+        if eval(condition, patterns, event).ok()? == Truth::Yes {
             found = found.wrapping_add(1);
         }
     }
-    Ok(found)
+    Some(found)
 }

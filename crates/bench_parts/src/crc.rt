@@ -1,17 +1,16 @@
 //! Computes the CRC-32 of a file several times over (bench/crc.sh).
 
-use anyhow::{Context, Result, bail};
 use crc_frame::crc32;
 use std::fs;
 
 /// The sum of the CRCs of a file, over so many passes.
-pub fn run(rt: &HostRuntime, words: &[String]) -> Result<u64> {
+pub fn run(rt: &HostRuntime, words: &[String]) -> Option<u64> {
     let [file, passes] = words else {
-        bail!("usage: crc FILE PASSES");
+        return None;
     };
-    let passes = passes.as_str().parse::<usize>().context("PASSES")?;
-    let bytes = fs::read(rt, file.as_str())?;
-    Ok(u64::from(sum_of_passes(&bytes, passes)))
+    let passes = passes.as_str().parse::<usize>().ok()?;
+    let bytes = fs::read(rt, file.as_str()).ok()?;
+    Some(u64::from(sum_of_passes(&bytes, passes)))
 }
 
 /// The sum modulo 2 of the CRCs of the bytes from place 0 on, from place 1 on, and so forth. No two

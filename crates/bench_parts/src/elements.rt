@@ -1,45 +1,44 @@
 //! Encodes or decodes an event of nineteen fields (bench/elements.sh).
 
-use anyhow::{Context, Result, bail};
 use element_code::{decode, encode};
 use event_tree::{Event, Instant, Number, Path, Text, Value};
 use std::alloc::Global;
 
 /// The size of the event, or how many bytes so many rounds encode or decode.
-pub fn run(alloc: Global, words: &[String]) -> Result<u64> {
+pub fn run(alloc: Global, words: &[String]) -> Option<u64> {
     let [call, rounds] = words else {
-        bail!("usage: elements size|encode|decode ROUNDS");
+        return None;
     };
-    let rounds = rounds.as_str().parse::<u32>().context("ROUNDS")?;
+    let rounds = rounds.as_str().parse::<u32>().ok()?;
     let event = event(alloc)?;
     let mut bytes = Vec::new(alloc);
-    encode(&event, &mut bytes)?;
+    encode(&event, &mut bytes).ok()?;
     match call.as_str() {
-        "size" => Ok(event.size()),
+        "size" => Some(event.size()),
         "encode" => encodes(&event, &mut bytes, rounds),
         _ => decodes(alloc, &bytes, rounds),
     }
 }
 
 /// An event like that of a line of an access log.
-fn event(alloc: Global) -> Result<Event> {
+fn event(alloc: Global) -> Option<Event> {
     let mut event = Event::new(alloc);
     put_texts(alloc, &mut event)?;
     put_numbers(alloc, &mut event)?;
     put_moment(alloc, &mut event)?;
-    Ok(event)
+    Some(event)
 }
 
-fn put_texts(alloc: Global, event: &mut Event) -> Result<()> {
+fn put_texts(alloc: Global, event: &mut Event) -> Option<()> {
     for (path, text) in texts() {
-        let path = Path::read(alloc, path)?;
-        let text = Text::of(alloc, text)?;
-        event.put(&path, Value::Text(text))?;
+        let path = Path::read(alloc, path).ok()?;
+        let text = Text::of(alloc, text).ok()?;
+        event.put(&path, Value::Text(text)).ok()?;
     }
-    Ok(())
+    Some(())
 }
 
-fn put_numbers(alloc: Global, event: &mut Event) -> Result<()> {
+fn put_numbers(alloc: Global, event: &mut Event) -> Option<()> {
     for (path, mantissa, scale) in [
         ("[http][response][status]", 200, 0),
         ("[http][response][bytes]", 48_213, 0),
@@ -47,16 +46,18 @@ fn put_numbers(alloc: Global, event: &mut Event) -> Result<()> {
         ("[geo][latitude]", 5_221_437, 5),
         ("[geo][longitude]", -174_412, 5),
     ] {
-        let number = Number::new(mantissa, scale).context("a number")?;
-        event.put(&Path::read(alloc, path)?, Value::Num(number))?;
+        let number = Number::new(mantissa, scale)?;
+        let path = Path::read(alloc, path).ok()?;
+        event.put(&path, Value::Num(number)).ok()?;
     }
-    Ok(())
+    Some(())
 }
 
-fn put_moment(alloc: Global, event: &mut Event) -> Result<()> {
-    let moment = Instant::from_nanos(1_709_596_800_123_000_000).context("2024")?;
-    event.put(&Path::read(alloc, "@timestamp")?, Value::Time(moment))?;
-    Ok(())
+fn put_moment(alloc: Global, event: &mut Event) -> Option<()> {
+    let moment = Instant::from_nanos(1_709_596_800_123_000_000)?;
+    let path = Path::read(alloc, "@timestamp").ok()?;
+    event.put(&path, Value::Time(moment)).ok()?;
+    Some(())
 }
 
 fn texts() -> [(&'static str, &'static str); 13] {
@@ -83,20 +84,20 @@ fn texts() -> [(&'static str, &'static str); 13] {
     ]
 }
 
-fn encodes(event: &Event, bytes: &mut Vec<u8>, rounds: u32) -> Result<u64> {
+fn encodes(event: &Event, bytes: &mut Vec<u8>, rounds: u32) -> Option<u64> {
     let mut done = 0u64;
     for _ in 0..rounds {
         bytes.clear();
-        encode(event, bytes)?;
+        encode(event, bytes).ok()?;
         done = done.wrapping_add(bytes.len() as u64);
     }
-    Ok(done)
+    Some(done)
 }
 
-fn decodes(alloc: Global, bytes: &[u8], rounds: u32) -> Result<u64> {
+fn decodes(alloc: Global, bytes: &[u8], rounds: u32) -> Option<u64> {
     let mut done = 0u64;
     for _ in 0..rounds {
-        done = done.wrapping_add(decode(alloc, bytes)?.size());
+        done = done.wrapping_add(decode(alloc, bytes).ok()?.size());
     }
-    Ok(done)
+    Some(done)
 }

@@ -1,6 +1,5 @@
 //! Makes calls on an event of thirty fields (bench/events.sh).
 
-use anyhow::{Context, Result, bail};
 use event_tree::{Event, Path, Text, Value};
 use std::alloc::Global;
 
@@ -8,15 +7,15 @@ use std::alloc::Global;
 const FIELDS: u8 = 30;
 
 /// How many calls were made in so many rounds.
-pub fn run(alloc: Global, words: &[String]) -> Result<u64> {
+pub fn run(alloc: Global, words: &[String]) -> Option<u64> {
     let [call, rounds] = words else {
-        bail!("usage: events get|put|take|copy ROUNDS");
+        return None;
     };
-    let rounds = rounds.as_str().parse::<u32>().context("ROUNDS")?;
+    let rounds = rounds.as_str().parse::<u32>().ok()?;
     let paths = paths(alloc)?;
     let mut event = event(alloc, &paths)?;
     match call.as_str() {
-        "get" => Ok(gets(&event, &paths, rounds)),
+        "get" => Some(gets(&event, &paths, rounds)),
         "put" => puts(alloc, &mut event, &paths, rounds),
         "take" => takes(&mut event, &paths, rounds),
         _ => copies(&event, rounds),
@@ -24,29 +23,30 @@ pub fn run(alloc: Global, words: &[String]) -> Result<u64> {
 }
 
 /// The paths of the fields, of one and of two parts.
-fn paths(alloc: Global) -> Result<Vec<Path>> {
+fn paths(alloc: Global) -> Option<Vec<Path>> {
     let mut paths = Vec::new(alloc);
     for i in 0..FIELDS {
         let text = if i % 2 == 0 {
-            format!(in alloc; "field{i:02}")?
+            format!(in alloc; "field{i:02}").ok()?
         } else {
-            format!(in alloc; "[group][field{i:02}]")?
+            format!(in alloc; "[group][field{i:02}]").ok()?
         };
-        paths.push(Path::read(alloc, text.as_str())?)?;
+        let path = Path::read(alloc, text.as_str()).ok()?;
+        paths.push(path).ok()?;
     }
-    Ok(paths)
+    Some(paths)
 }
 
-fn event(alloc: Global, paths: &[Path]) -> Result<Event> {
+fn event(alloc: Global, paths: &[Path]) -> Option<Event> {
     let mut event = Event::new(alloc);
     for path in paths {
-        event.put(path, text(alloc)?)?;
+        event.put(path, text(alloc)?).ok()?;
     }
-    Ok(event)
+    Some(event)
 }
 
-fn text(alloc: Global) -> Result<Value> {
-    Ok(Value::Text(Text::of(alloc, "a value of some bytes")?))
+fn text(alloc: Global) -> Option<Value> {
+    Some(Value::Text(Text::of(alloc, "a value of some bytes").ok()?))
 }
 
 fn gets(event: &Event, paths: &[Path], rounds: u32) -> u64 {
@@ -61,36 +61,36 @@ fn gets(event: &Event, paths: &[Path], rounds: u32) -> u64 {
     found
 }
 
-fn puts(alloc: Global, event: &mut Event, paths: &[Path], rounds: u32) -> Result<u64> {
+fn puts(alloc: Global, event: &mut Event, paths: &[Path], rounds: u32) -> Option<u64> {
     let mut done = 0u64;
     for _ in 0..rounds {
         for path in paths {
-            event.put(path, text(alloc)?)?;
+            event.put(path, text(alloc)?).ok()?;
             done = done.wrapping_add(1);
         }
     }
-    Ok(done)
+    Some(done)
 }
 
 /// Takes each value away and puts it back.
-fn takes(event: &mut Event, paths: &[Path], rounds: u32) -> Result<u64> {
+fn takes(event: &mut Event, paths: &[Path], rounds: u32) -> Option<u64> {
     let mut done = 0u64;
     for _ in 0..rounds {
         for path in paths {
             if let Some(value) = event.take(path) {
-                event.put(path, value)?;
+                event.put(path, value).ok()?;
                 done = done.wrapping_add(1);
             }
         }
     }
-    Ok(done)
+    Some(done)
 }
 
-fn copies(event: &Event, rounds: u32) -> Result<u64> {
+fn copies(event: &Event, rounds: u32) -> Option<u64> {
     let mut done = 0u64;
     for _ in 0..rounds {
-        let _copy = event.copy()?;
+        let _copy = event.copy().ok()?;
         done = done.wrapping_add(1);
     }
-    Ok(done)
+    Some(done)
 }

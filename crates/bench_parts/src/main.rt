@@ -11,28 +11,47 @@ mod parse;
 mod patterns;
 mod store;
 
-use anyhow::{Result, bail};
-use std::env;
+use std::process::ExitCode;
+use std::{env, io};
 
-fn main(rt: HostRuntime) -> Result<()> {
+const USAGE: &str = "usage, where FILE is one that can be read:
+conditions CONDITION ROUNDS
+crc FILE PASSES
+elements size|encode|decode ROUNDS
+events get|put|take|copy ROUNDS
+json read|write ROUNDS FILE
+parse parse|lex|print TIMES FILE
+patterns search FILE LINES
+patterns make FILE COUNT
+store FILE APPENDS EVERY
+";
+
+fn main(rt: HostRuntime) -> io::Result<ExitCode> {
     let words: Vec<String> = env::args(&rt)?.skip(1).collect(rt.alloc())?;
-    let Some((part, given)) = words.split_first() else {
-        println!(rt;
-            "usage: bench_parts conditions|crc|elements|events|json|parse|patterns|store .."
-        )?;
-        return Ok(());
-    };
-    let done = match part.as_str() {
-        "conditions" => conditions::run(rt.alloc(), given)?,
-        "crc" => crc::run(&rt, given)?,
-        "elements" => elements::run(rt.alloc(), given)?,
-        "events" => events::run(rt.alloc(), given)?,
-        "json" => json::run(&rt, given)?,
-        "parse" => parse::run(&rt, given)?,
-        "patterns" => patterns::run(&rt, given)?,
-        "store" => store::run(&rt, given)?,
-        _ => bail!("nothing of that name is timed"),
-    };
-    println!(rt; "{done}")?;
-    Ok(())
+    match words.split_first() {
+        None => print!(rt; "{USAGE}")?,
+        Some((part, given)) => match run(&rt, part.as_str(), given) {
+            Some(done) => println!(rt; "{done}")?,
+            None => {
+                let _ = eprint!(rt; "{USAGE}");
+                return Ok(ExitCode::FAILURE);
+            }
+        },
+    }
+    Ok(ExitCode::SUCCESS)
+}
+
+/// How much was done; none where the words are not those of the usage, a file can't be read, or memory ran out.
+fn run(rt: &HostRuntime, part: &str, given: &[String]) -> Option<u64> {
+    match part {
+        "conditions" => conditions::run(rt.alloc(), given),
+        "crc" => crc::run(rt, given),
+        "elements" => elements::run(rt.alloc(), given),
+        "events" => events::run(rt.alloc(), given),
+        "json" => json::run(rt, given),
+        "parse" => parse::run(rt, given),
+        "patterns" => patterns::run(rt, given),
+        "store" => store::run(rt, given),
+        _ => None,
+    }
 }

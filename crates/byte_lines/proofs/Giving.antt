@@ -5,10 +5,10 @@ use Rattle.byte_lines.specs.Split.{HasNoLineFeed, RawLine, IsRawLine, line_bytes
 use Rattle.byte_lines.specs.Text.{text_of}
 use Rattle.byte_lines.specs.Lines.{line_text, last_line, texts_of}
 use Rattle.byte_lines.specs.Unread.{Unread, GivesLine, lines_left, rest_of}
-use Rattle.byte_lines.proofs.Splitting.{split_of-line, split_of-rest, SplitsInto-split_of}
-
-abbrev pub unread : ℕ → List ℕ → Bool → Unread
-unread limit bytes ended = record { limit = limit; bytes = bytes; ended = ended }
+use Rattle.byte_lines.proofs.Content.{strip-carriage_return, strip-other}
+use Rattle.byte_lines.proofs.Decoding.{DecodesTo-text_of, text_of-DecodesTo, IsUtf8-text_of, text_of-IsUtf8}
+use Rattle.byte_lines.proofs.Splitting.{split_of-line, split_of-rest, SplitsInto-split_of, split_of-only, split_of-settled, lines-append, whole_lines-append, rest-append}
+pub use Rattle.byte_lines.specs.Unread.{unread}
 
 pub lines_left-line : (limit : ℕ) (line : RawLine) (more : List ℕ) (ended : Bool) → 0 < limit → IsRawLine limit line
     → lines_left (unread limit (line_bytes line ++ more) ended) ≡ line_text line ∷ lines_left (unread limit more ended)
@@ -68,3 +68,5 @@ rest_of-none_left u some open_end none =
     let no_lines = no_items line_text s.lines no_texts in
     let same : u.bytes ≡ s.rest = (SplitsInto-split_of u.limit u.bytes some).whole ∙ ap (λ ls. flat_map line_bytes ls ++ s.rest) no_lines in
     (ap (λ ls. split_as ls s.rest) no_lines ∙ ap (λ r. split_as [] r) (sym same), sym same)
+
+pub ruleset laws = (split_of-only, strip-carriage_return, strip-other, DecodesTo-text_of, text_of-DecodesTo, IsUtf8-text_of, text_of-IsUtf8, lines-append, whole_lines-append, rest-append, split_of-settled, lines_left-line, lines_left-last, lines_left-waiting, lines_left-nil)

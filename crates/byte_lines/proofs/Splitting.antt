@@ -84,6 +84,12 @@ pub SplitsInto-split_of : (limit : ℕ) (bytes : List ℕ) → 0 < limit → Spl
 unfolding split_of
 SplitsInto-split_of limit bytes some = SplitsInto-split_from limit [] bytes tt some
 
+-- and no others are
+pub split_of-only : (limit : ℕ) (bytes rest : List ℕ) (lines : List RawLine) → 0 < limit → SplitsInto limit bytes lines rest → (lines ≡ (split_of limit bytes).lines) × (rest ≡ (split_of limit bytes).rest)
+split_of-only limit bytes rest lines some split =
+    let same = split_of-SplitsInto limit bytes lines rest some split in
+    (sym (ap (λ s. s.lines) same), sym (ap (λ s. s.rest) same))
+
 -- what is left has no line
 pub split_of-settled : (limit : ℕ) (bytes : List ℕ) → 0 < limit → let rest = (split_of limit bytes).rest in split_of limit rest ≡ record { lines = []; rest = rest }
 split_of-settled limit bytes some = let s = SplitsInto-split_of limit bytes some in split_of-rest limit (split_of limit bytes).rest s.no_line_feed s.short
@@ -112,3 +118,6 @@ whole_lines-append limit xs ys some =
 
 pub rest-append : (limit : ℕ) (xs ys : List ℕ) → 0 < limit → (split_of limit (xs ++ ys)).rest ≡ (split_of limit ((split_of limit xs).rest ++ ys)).rest
 rest-append limit xs ys some = ap (λ s. s.rest) (split_of-append limit xs ys some)
+
+pub lines-append : (limit : ℕ) (xs ys : List ℕ) → 0 < limit → (split_of limit (xs ++ ys)).lines ≡ (split_of limit xs).lines ++ (split_of limit ((split_of limit xs).rest ++ ys)).lines
+lines-append limit xs ys some = ap (λ s. s.lines) (split_of-append limit xs ys some)

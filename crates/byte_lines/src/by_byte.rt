@@ -2,7 +2,7 @@ ghost use Rattle.std.specs.Prelude.{◌≡◌, ◌<◌, ◌++◌, ◌∷◌, ℕ
 ghost use Rattle.std.specs.String.{string_bytes};
 ghost use Rattle.byte_lines.specs.Split.{split_from};
 ghost use Rattle.byte_lines.specs.Lines.{texts_of};
-ghost use Rattle.byte_lines.specs.Unread.{lines_left};
+ghost use Rattle.byte_lines.specs.Unread.{lines_left, unread};
 
 use crate::find::without_carriage_return;
 use crate::text_of_bytes;
@@ -21,7 +21,8 @@ pub fn lines_of_bytes(
     ended: bool,
 ) -> Result<Vec<String>, AllocError>
     requires { 0 < limit }
-    ensures { IfOk result (λ lines. map string_bytes lines.items ≡ lines_left (record { limit = limit; bytes = bytes.now; ended = ended })) }
+    ensures { IfOk result
+        (λ lines. map string_bytes lines.items ≡ lines_left (unread limit bytes.now ended)) }
 {
     let mut lines = Vec::new(alloc);
     let mut held = Vec::new(alloc);

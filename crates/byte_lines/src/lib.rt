@@ -13,8 +13,6 @@ mod by_byte;
 mod find;
 mod laws;
 mod reader;
-#[cfg(test)]
-mod tests;
 mod text;
 
 pub use by_byte::lines_of_bytes;

@@ -1,8 +1,7 @@
-ghost use Rattle.std.specs.Prelude.{◌≡◌, ◌≤◌, ◌<◌, ◌+◌, ◌++◌, [], ◌∷◌, map, true, false, IfOk, IfSome, IfNone, OnOk, OnErr, Option, Some, None, length, take, drop, vec_len};
-ghost use Rattle.std.specs.Option.{option_to_list};
+ghost use Rattle.std.specs.Prelude.{◌≡◌, ◌≤◌, ◌<◌, ◌+◌, ◌++◌, [], true, false, IfOk, IfSome, IfNone, OnOk, OnErr, Option, Some, None, length, take, drop, vec_len};
 ghost use Rattle.std.specs.String.{string_bytes};
 ghost use Rattle.byte_lines.specs.Split.{HasNoLineFeed};
-ghost use Rattle.byte_lines.specs.Unread.{Unread, GivesLine, lines_left, rest_of};
+ghost use Rattle.byte_lines.specs.Unread.{Unread, FindsNone, GivesLine, KeepsRest, lines_left, text_given, unread};
 
 use crate::find::find_line;
 use crate::text_of_bytes;
@@ -57,7 +56,8 @@ impl LineReader {
     /// Takes the next bytes of the input. The only error is want of memory, and then nothing is taken.
     pub fn feed(&mut self, bytes: &[u8]) -> Result<(), AllocError>
         requires { self.old.ended ≡ false }
-        ensures ok { OnOk result (self.new ≡ record self.old { bytes = self.old.bytes ++ bytes.now }) }
+        ensures ok { OnOk result
+            (self.new ≡ record self.old { bytes = self.old.bytes ++ bytes.now }) }
         ensures err { OnErr result (self.new ≡ self.old) }
     {
         self.release_given();
@@ -94,11 +94,10 @@ impl LineReader {
     /// The next line, and `None` where no line is whole yet or, after the end, none is left. The only error is
     /// want of memory, and then the reader stays as it was.
     pub fn next_line(&mut self) -> Result<Option<String>, AllocError>
-        ensures lines { IfOk result (λ line. lines_left self.old ≡ map string_bytes (option_to_list line) ++ lines_left self.new) }
-        ensures none { IfOk result (λ line. line ≡ None → (lines_left self.old ≡ []) × (self.new ≡ self.old)) }
-
-        // What is left behind the whole lines stays, but for the line that the end makes of it.
-        ensures rest { IfOk result (λ line. self.old.ended ≡ false → rest_of self.new ≡ rest_of self.old) }
+        ensures lines { IfOk result
+            (λ line. lines_left self.old ≡ text_given line ++ lines_left self.new) }
+        ensures none { IfOk result (λ line. line ≡ None → FindsNone self.old self.new) }
+        ensures rest { IfOk result (λ line. KeepsRest self.old self.new) }
         ensures limit { self.new.limit ≡ self.old.limit }
         ensures ended { self.new.ended ≡ self.old.ended }
         ensures err { OnErr result (self.new ≡ self.old) }
@@ -168,9 +167,11 @@ fn first_line(
     requires within { searched ≤ length bytes.now }
     requires below { searched ≤ limit }
     requires no_line_feed { HasNoLineFeed (take searched bytes.now) }
-    ensures some { IfOk result (λ line. IfSome line (λ line. GivesLine limit bytes.now ended (string_bytes line.text) (drop line.taken bytes.now))) }
+    ensures some { IfOk result (λ line. IfSome line
+        (λ line. GivesLine limit bytes.now ended (string_bytes line.text) (drop line.taken bytes.now))) }
     ensures within { IfOk result (λ line. IfSome line (λ line. line.taken ≤ length bytes.now)) }
-    ensures none { IfOk result (λ line. IfNone line (lines_left (record { limit = limit; bytes = bytes.now; ended = ended }) ≡ [])) }
+    ensures none { IfOk result
+        (λ line. IfNone line (lines_left (unread limit bytes.now ended) ≡ [])) }
     ensures no_line_feed { IfOk result (λ line. IfNone line (HasNoLineFeed bytes.now)) }
     ensures short { IfOk result (λ line. IfNone line (length bytes.now < limit)) }
 {

@@ -29,7 +29,8 @@ fn push_front(text: &mut String, bytes: &[u8]) -> Result<usize, AllocError>
     requires { 0 < length bytes.now }
     ensures some { IfOk result (λ n. 0 < n) }
     ensures within { IfOk result (λ n. n ≤ length bytes.now) }
-    ensures text { IfOk result (λ n. string_bytes text.new ++ text_of (drop n bytes.now) ≡ string_bytes text.old ++ text_of bytes.now) }
+    ensures text { IfOk result (λ n.
+        string_bytes text.new ++ text_of (drop n bytes.now) ≡ string_bytes text.old ++ text_of bytes.now) }
 {
     let front = valid_front(bytes);
     let taken = front.len();
@@ -45,7 +46,8 @@ fn push_front(text: &mut String, bytes: &[u8]) -> Result<usize, AllocError>
 fn valid_front(bytes: &[u8]) -> &str
     ensures front { result.now ≡ take (length result.now) bytes.now }
     ensures within { length result.now ≤ length bytes.now }
-    ensures longest { length result.now < length bytes.now → BeginsCharacter (drop (length result.now) bytes.now) → ⊥ }
+    ensures longest { length result.now < length bytes.now
+        → BeginsCharacter (drop (length result.now) bytes.now) → ⊥ }
 {
     match str::from_utf8(bytes) {
         Ok(text) => text,

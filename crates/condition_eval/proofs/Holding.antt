@@ -2,7 +2,7 @@
 use Rattle.std.proofs.Common.{◌≡◌, ◌↔◌, ℕ, ◌==◌, List, [], ◌∷◌, ◌++◌, Bool, true, false, refl, sym, ap, subst, true≢false, ◌||◌, ◌&&◌, eqb-true, arith}
 use Rattle.std.proofs.lemmas.Bool.Decides.{nat_tests}
 use Rattle.std.specs.Str.Iter.{HasSubslice}
-use Rattle.condition_eval.specs.Values.{begins, holds}
+use Rattle.condition_eval.specs.Values.{is_prefix, holds}
 
 or_left : (a b : Bool) → a ≡ true → (a || b) ≡ true
 or_left true b e = refl
@@ -27,27 +27,27 @@ and_second false b e = absurd (true≢false (sym e))
 same_byte : (p : ℕ) → (p == p) ≡ true
 same_byte p = grind (arith, nat_tests)
 
-begins_front : (part rest : List ℕ) → begins part (part ++ rest) ≡ true
+begins_front : (part rest : List ℕ) → is_prefix part (part ++ rest) ≡ true
 begins_front [] rest = refl
 begins_front (p ∷ part) rest = and_both (p == p) _ (same_byte p) (begins_front part rest)
 
 -- what is behind a part that a text begins with
-begins_behind : (part text : List ℕ) → begins part text ≡ true → (rest : List ℕ) × (text ≡ part ++ rest)
+begins_behind : (part text : List ℕ) → is_prefix part text ≡ true → (rest : List ℕ) × (text ≡ part ++ rest)
 begins_behind [] text e = (text, refl)
 begins_behind (p ∷ part) [] e = absurd (true≢false (sym e))
 begins_behind (p ∷ part) (b ∷ text) e =
-    let r = begins_behind part text (and_second (p == b) (begins part text) e) in
-    let q : p ≡ b = eqb-true p b (and_first (p == b) (begins part text) e) in
+    let r = begins_behind part text (and_second (p == b) (is_prefix part text) e) in
+    let q : p ≡ b = eqb-true p b (and_first (p == b) (is_prefix part text) e) in
     (r.0, λ i. sym q i ∷ r.1 i)
 
 holds_behind : (part front rest : List ℕ) → holds part (front ++ (part ++ rest)) ≡ true
 unfolding holds
 holds_behind part [] rest = at_front (part ++ rest) (begins_front part rest)
   where
-    at_front : (text : List ℕ) → begins part text ≡ true → holds part text ≡ true
+    at_front : (text : List ℕ) → is_prefix part text ≡ true → holds part text ≡ true
     at_front [] e = e
-    at_front (b ∷ text) e = or_left (begins part (b ∷ text)) _ e
-holds_behind part (b ∷ front) rest = or_right (begins part (b ∷ (front ++ (part ++ rest)))) _ (holds_behind part front rest)
+    at_front (b ∷ text) e = or_left (is_prefix part (b ∷ text)) _ e
+holds_behind part (b ∷ front) rest = or_right (is_prefix part (b ∷ (front ++ (part ++ rest)))) _ (holds_behind part front rest)
 
 or_either : (a b : Bool) (P : Type 0) → (a ≡ true → P) → (b ≡ true → P) → (a || b) ≡ true → P
 or_either true b P f g e = f refl
@@ -56,7 +56,7 @@ or_either false b P f g e = g e
 pub held_where : (part text : List ℕ) → holds part text ≡ true → HasSubslice text part
 unfolding holds
 held_where part [] e = let r = begins_behind part [] e in ([], r.0, r.1)
-held_where part (b ∷ text) e = or_either (begins part (b ∷ text)) (holds part text) _ (λ f. let r = begins_behind part (b ∷ text) f in ([], r.0, r.1)) (λ g. let r = held_where part text g in (b ∷ r.0, r.1, ap (λ s. b ∷ s) r.2)) e
+held_where part (b ∷ text) e = or_either (is_prefix part (b ∷ text)) (holds part text) _ (λ f. let r = begins_behind part (b ∷ text) f in ([], r.0, r.1)) (λ g. let r = held_where part text g in (b ∷ r.0, r.1, ap (λ s. b ∷ s) r.2)) e
 
 pub holds_where : (part text : List ℕ) → HasSubslice text part → holds part text ≡ true
 holds_where part text s = subst (λ t. holds part t ≡ true) (sym s.2) (holds_behind part s.0 s.1)

@@ -8,5 +8,4 @@ pub mod Making
 pub mod Outs
 pub mod Raising
 pub mod TextsOf
-pub mod TruthsOf
 pub mod Walking

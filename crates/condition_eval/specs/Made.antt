@@ -4,14 +4,14 @@ use Rattle.regex_hir.specs.Re.{Re}
 use Rattle.pattern_box.specs.Patterns.{pattern_re, pattern_groups, IsReadFrom, IsRefusal}
 use Rattle.pattern_box.specs.declared.pattern.Pattern as box
 use Rattle.pattern_box.specs.declared.fault.PatternFault.{PatternFault}
-use Rattle.config_grammar.specs.declared.tree.Pattern as written
-use Rattle.config_grammar.specs.declared.tree.Pattern.TheVariants as p
+use Rattle.config_grammar.specs.declared.tree.MatchPattern.{MatchPattern}
+use Rattle.config_grammar.specs.declared.tree.MatchPattern.TheVariants as p
 use Rattle.config_grammar.specs.declared.tree.Condition.{Condition}
 use Rattle.config_grammar.specs.declared.tree.Condition.TheOpen.{Condition-F}
 use Rattle.config_grammar.specs.declared.tree.Condition.TheFolds.{fold-Condition}
 
 -- the text of a pattern: a regexp and a string are the same pattern
-abbrev pub pattern_text : written.Pattern → List ℕ
+abbrev pub pattern_text : MatchPattern → List ℕ
 pattern_text (p.Regexp s) = s
 pattern_text (p.Text s) = s
 

@@ -1,5 +1,5 @@
 -- What a condition says of an event.
-use Rattle.std.specs.Prelude.{ℕ, Bool, if◌then◌else◌, List, is_some, option_and_then, chars}
+use Rattle.std.specs.Prelude.{◌≡◌, ◌⊎◌, ℕ, Bool, if◌then◌else◌, List, is_some, option_and_then, chars}
 use Rattle.std.specs.Ordering.{is_lt, is_gt, is_le, is_ge}
 use Rattle.std.specs.declared.cmp.Ordering.{Ordering}
 use Rattle.regex_hir.specs.Find.{find_str}
@@ -8,7 +8,10 @@ use Rattle.regex_syntax.specs.Verdict.{default_config}
 use Rattle.event_tree.specs.Events.{Ev}
 use Rattle.event_tree.specs.declared.value.Value.{Value, out-Value}
 use Rattle.event_tree.specs.declared.value.Value.TheOpen.{Value-F}
+use Rattle.config_grammar.specs.declared.tree.MatchPattern.{MatchPattern}
 use Rattle.config_grammar.specs.declared.tree.Condition.{Condition}
+use Rattle.config_grammar.specs.declared.tree.Operand.{Operand}
+use Rattle.config_grammar.specs.declared.tree.Condition.TheVariants as c
 use Rattle.config_grammar.specs.declared.tree.Condition.TheOpen.{Condition-F}
 use Rattle.config_grammar.specs.declared.tree.Condition.TheFolds.{fold-Condition}
 use Rattle.condition_eval.specs.Equality.{are_equal}
@@ -87,6 +90,10 @@ ordered accepts o.Null = t.No
 ordered accepts (o.Is order) = truth_of (accepts order)
 ordered accepts (o.Wrong left right) = t.Wrong (r.Order left right)
 
+-- what a relation says of two values
+abbrev pub related : Relation → Value → Value → Truth
+related relation x y = ordered (accepts relation) (order_of x y)
+
 -- `in`
 abbrev pub within : Value → Value → Truth
 within x y = truth_of (is_in x y)
@@ -94,6 +101,10 @@ within x y = truth_of (is_in x y)
 -- whether the pattern that the grammar of `regex` reads is found in a text
 unfoldable pub found_in : List ℕ → List ℕ → Bool
 found_in pattern text = is_some (option_and_then (λ found. find_str found.0.value text 0) (read default_config (chars pattern)))
+
+-- whether a written pattern is found in a text
+abbrev pub is_found : MatchPattern → List ℕ → Bool
+is_found p = found_in (pattern_text p)
 
 abbrev pub matching_in : (List ℕ → Bool) → Value-F Value → Truth
 matching_in found Value-F.Null = t.No
@@ -128,4 +139,19 @@ truth_step e (Condition-F.NotIn x y) = negated (within (operand_value e x) (oper
 
 -- what a condition says of an event
 unfoldable pub truth : Condition → Ev → Truth
-truth c e = fold-Condition Truth (truth_step e) c
+truth condition e = fold-Condition Truth (truth_step e) condition
+
+-- the one condition says the negation of the other
+abbrev pub Denies : Condition → Condition → Type 0
+Denies denial affirmed = (e : Ev) → truth denial e ≡ negated (truth affirmed e)
+
+-- `!~` says the negation of `=~`
+abbrev pub DeniesMatch : Operand → MatchPattern → Type 0
+DeniesMatch x p = Denies (c.MatchesNot x p) (c.Matches x p)
+
+-- the one is Yes and the other No
+abbrev pub AreYesAndNo : Truth → Truth → Type 0
+AreYesAndNo x y = ((x ≡ t.Yes) × (y ≡ t.No)) ⊎ ((x ≡ t.No) × (y ≡ t.Yes))
+
+abbrev pub IsDeMorgan : Truth → Truth → Type 0
+IsDeMorgan x y = negated (conjoined x y) ≡ disjoined (negated x) (negated y)

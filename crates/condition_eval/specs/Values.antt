@@ -3,7 +3,7 @@ use Rattle.std.specs.Prelude.{ℕ, max, ◌-◌, ◌^◌, ℤ, pos, ◌*ℤ◌, 
 use Rattle.std.specs.List.{list_any}
 use Rattle.std.specs.Ordering.{int_cmp}
 use Rattle.std.specs.declared.cmp.Ordering.{Ordering}
-use Rattle.plain_lists.specs.Keys.{text_cmp}
+use Rattle.plain_data.specs.Keys.{text_cmp}
 use Rattle.event_tree.specs.Number.{Num}
 use Rattle.event_tree.specs.Events.{Ev, event_at}
 use Rattle.event_tree.specs.declared.value.Value.{Value, out-Value}
@@ -29,6 +29,10 @@ operand_value e (operand.Field way) = unwrap_or (event_at way e) v.Null
 operand_value e (operand.Text s) = v.Text s
 operand_value e (operand.Number n) = v.Num n
 operand_value e (operand.List ls) = v.List (map literal_value ls)
+
+-- an operator between what two operands are
+abbrev pub between : {A : Type 0} → (Value → Value → A) → Ev → Operand → Operand → A
+between f e x y = f (operand_value e x) (operand_value e y)
 
 abbrev pub kind_in : Value-F Value → Kind
 kind_in Value-F.Null = k.Null
@@ -90,15 +94,15 @@ abbrev pub is_among : Value → List Value → Bool
 is_among x ys = list_any (are_equal x) ys
 
 -- whether the text begins with the part
-abbrev pub begins : List ℕ → List ℕ → Bool
-begins [] text = true
-begins (p ∷ part) [] = false
-begins (p ∷ part) (b ∷ text) = p == b && begins part text
+abbrev pub is_prefix : List ℕ → List ℕ → Bool
+is_prefix [] text = true
+is_prefix (p ∷ part) [] = false
+is_prefix (p ∷ part) (b ∷ text) = p == b && is_prefix part text
 
 -- whether the text holds the part
 unfoldable pub holds : List ℕ → List ℕ → Bool
-holds part [] = begins part []
-holds part (b ∷ text) = begins part (b ∷ text) || holds part text
+holds part [] = is_prefix part []
+holds part (b ∷ text) = is_prefix part (b ∷ text) || holds part text
 
 abbrev pub part_in : List ℕ → Value-F Value → Bool
 part_in text Value-F.Null = false

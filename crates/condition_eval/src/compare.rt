@@ -108,7 +108,7 @@ fn are_equal_elements(left: Elements<'_>, right: Elements<'_>) -> bool
 }
 
 fn are_same(left: Element<'_>, right: Element<'_>) -> bool
-    ensures { IsTrue result ↔ (sides.element_value left.entry ≡ sides.element_value right.entry) }
+    ensures { IsTrue result ↔ sides.AreSameElements left.entry right.entry }
 {
     match (left, right) {
         (Element::Value(a), Element::Value(b)) => a.same(b),
@@ -168,7 +168,7 @@ pub(crate) fn is_in(left: Side<'_>, right: Side<'_>) -> bool
 }
 
 fn is_among(left: Side<'_>, elements: Elements<'_>) -> bool
-    ensures { result ≡ spec.is_among (sides.value_of left.entry) (sides.values_of elements.entry) }
+    ensures { result ≡ sides.is_among left.entry elements.entry }
 {
     for i in 0..elements.len() {
         if are_equal(left, side_of_element(elements.at(i))) {

@@ -2,7 +2,7 @@
 
 ghost use Rattle.std.specs.Prelude.{◌≡◌};
 ghost use Rattle.condition_eval.specs.Truths as spec;
-ghost use Rattle.condition_eval.specs.Values.{operand_value, order_of};
+ghost use Rattle.condition_eval.specs.Values.{between, operand_value};
 
 use crate::compare::{Order, are_equal, compared, is_in};
 use crate::side::{Side, side_of};
@@ -24,7 +24,7 @@ pub(crate) fn alone(operand: &Operand, event: &Event) -> Truth
 
 #[tactic(auto, using(crate::proofs::EqualityLemmas::is_the_test))]
 pub(crate) fn equal(left: &Operand, right: &Operand, event: &Event) -> Truth
-    ensures { result ≡ spec.equal (operand_value event.now left.now) (operand_value event.now right.now) }
+    ensures { result ≡ between spec.equal event.now left.now right.now }
 {
     Truth::of(are_equal(side_of(left, event), side_of(right, event)))
 }
@@ -52,8 +52,7 @@ impl Relation {
 }
 
 pub(crate) fn ordered(relation: Relation, left: &Operand, right: &Operand, event: &Event) -> Truth
-    ensures { result ≡ spec.ordered (spec.accepts relation)
-        (order_of (operand_value event.now left.now) (operand_value event.now right.now)) }
+    ensures { result ≡ between (spec.related relation) event.now left.now right.now }
 {
     match compared(side_of(left, event), side_of(right, event)) {
         Order::Null => Truth::No,
@@ -63,7 +62,7 @@ pub(crate) fn ordered(relation: Relation, left: &Operand, right: &Operand, event
 }
 
 pub(crate) fn within(left: &Operand, right: &Operand, event: &Event) -> Truth
-    ensures { result ≡ spec.within (operand_value event.now left.now) (operand_value event.now right.now) }
+    ensures { result ≡ between spec.within event.now left.now right.now }
 {
     Truth::of(is_in(side_of(left, event), side_of(right, event)))
 }

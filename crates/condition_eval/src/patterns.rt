@@ -2,9 +2,9 @@ ghost use Rattle.std.specs.Prelude.{◌≡◌, [], ◌∷◌, IfOk, IfErr, OnOk}
 ghost use Rattle.pattern_box.specs.Patterns.{IsRefusal};
 ghost use Rattle.condition_eval.specs.Made.{AreMadeOf, Added, FirstIsRefused, texts, pattern_text};
 
-use config_grammar::{Condition, Pattern as Written};
+use config_grammar::{Condition, MatchPattern};
 use pattern_box::{Pattern, PatternFault, Patterns};
-use plain_lists::Text;
+use plain_data::Text;
 use std::alloc::Global;
 
 /// One pattern for each `=~` and `!~` of a condition, in the order of the text.
@@ -21,7 +21,7 @@ pub fn patterns_of(alloc: Global, condition: &Condition) -> Result<Patterns, Pat
 }
 
 // Adds the patterns of the condition.
-#[tactic(auto, using(crate::proofs::TextsOf::texts_of, crate::proofs::TextsOf::weights))]
+#[tactic(auto, unfolding(crate::specs::Made::texts), using(config_grammar::proofs::Folds::condition_folds, crate::proofs::TextsOf::weights))]
 fn add(alloc: Global, condition: &Condition, patterns: &mut Patterns) -> Result<(), PatternFault>
     ensures made { OnOk result (Added (texts condition.now) patterns.old patterns.new) }
     ensures refused { IfErr result (λ fault. FirstIsRefused fault (texts condition.now)) }
@@ -50,7 +50,11 @@ fn add(alloc: Global, condition: &Condition, patterns: &mut Patterns) -> Result<
     }
 }
 
-fn add_one(alloc: Global, written: &Written, patterns: &mut Patterns) -> Result<(), PatternFault>
+fn add_one(
+    alloc: Global,
+    written: &MatchPattern,
+    patterns: &mut Patterns,
+) -> Result<(), PatternFault>
     ensures made { OnOk result (Added (pattern_text written.now ∷ []) patterns.old patterns.new) }
     ensures refused { IfErr result (IsRefusal (pattern_text written.now)) }
 {
@@ -64,10 +68,10 @@ fn add_one(alloc: Global, written: &Written, patterns: &mut Patterns) -> Result<
 }
 
 /// A string is a pattern as a regexp is.
-fn text_of(written: &Written) -> &Text
+fn text_of(written: &MatchPattern) -> &Text
     ensures { result.now ≡ pattern_text written.now }
 {
     match written {
-        Written::Regexp(text) | Written::Text(text) => text,
+        MatchPattern::Regexp(text) | MatchPattern::Text(text) => text,
     }
 }

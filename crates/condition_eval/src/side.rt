@@ -1,11 +1,11 @@
-ghost use Rattle.std.specs.Prelude.{◌≡◌, ◌<◌, length, slice_get, Some};
+ghost use Rattle.std.specs.Prelude.{◌≡◌, ◌<◌, length, Some};
 ghost use Rattle.condition_eval.specs.Values as spec;
 ghost use Rattle.condition_eval.specs.Sides as sides;
 
 use crate::truth::Kind;
 use config_grammar::{Literal, Operand};
 use event_tree::{Event, Fields, Instant, Number, Value};
-use plain_lists::Text;
+use plain_data::Text;
 
 /// What stands on one side of a comparison, where the event or the condition holds it.
 #[derive(Clone, Copy)]
@@ -47,7 +47,7 @@ impl<'a> Elements<'a> {
 
     pub(crate) fn at(self, index: usize) -> Element<'a>
         requires { index < length (sides.values_of self) }
-        ensures { slice_get (sides.values_of self.entry) index ≡ Some (sides.element_value result) }
+        ensures { sides.IsElement self.entry index result }
     {
         match self {
             Elements::Values(values) => Element::Value(&values[index]),

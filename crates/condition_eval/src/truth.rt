@@ -2,7 +2,7 @@ ghost use Rattle.std.specs.Prelude.{◌≡◌, Some};
 ghost use Rattle.condition_eval.specs.Truths as spec;
 ghost use Rattle.condition_eval.specs.Texts.{kind_text, reason_text};
 
-use plain_lists::Text;
+use plain_data::Text;
 use std::error::Error;
 use std::fmt;
 

@@ -8,7 +8,7 @@ ghost use Rattle.condition_eval.specs.Values.{operand_value};
 use crate::operators::{Relation, alone, equal, ordered, within};
 use crate::side::{Side, kind, side_of};
 use crate::truth::{Reason, Truth};
-use config_grammar::{Condition, Operand, Pattern as Written};
+use config_grammar::{Condition, MatchPattern, Operand};
 use event_tree::Event;
 use pattern_box::{Pattern, Patterns};
 use std::alloc::AllocError;
@@ -53,7 +53,7 @@ impl Passed {
 }
 
 // The patterns of the condition begin at the place `at`.
-#[tactic(auto, using(crate::proofs::TruthsOf::truths, crate::proofs::TextsOf::texts_of))]
+#[tactic(auto, unfolding(crate::specs::Truths::truth, crate::specs::Made::texts), using(config_grammar::proofs::Folds::condition_folds))]
 #[cycle(walk)]
 fn walk(
     condition: &Condition,
@@ -145,7 +145,7 @@ fn joined(
 /// `=~` with the pattern at the place `at`.
 fn search(
     operand: &Operand,
-    written: &Written,
+    written: &MatchPattern,
     patterns: &mut [Pattern],
     at: usize,
     event: &Event,
@@ -162,7 +162,11 @@ fn search(
 
 /// Whether the pattern is found in a text. Null holds none, and other kinds are wrong.
 #[tactic(auto, using(crate::proofs::Outs::outs))]
-fn matching(side: Side<'_>, written: &Written, pattern: &mut Pattern) -> Result<Truth, AllocError>
+fn matching(
+    side: Side<'_>,
+    written: &MatchPattern,
+    pattern: &mut Pattern,
+) -> Result<Truth, AllocError>
     requires { IsReadFrom (pattern_text written.now) pattern.old }
     ensures truth { IfOk result (λ truth. truth
         ≡ spec.matching (spec.found_in (pattern_text written.now)) (value_of side.entry)) }
@@ -175,9 +179,9 @@ fn matching(side: Side<'_>, written: &Written, pattern: &mut Pattern) -> Result<
     }
 }
 
-fn is_found(written: &Written, pattern: &mut Pattern, text: &str) -> Result<bool, AllocError>
+fn is_found(written: &MatchPattern, pattern: &mut Pattern, text: &str) -> Result<bool, AllocError>
     requires { IsReadFrom (pattern_text written.now) pattern.old }
-    ensures found { IfOk result (λ found. found ≡ spec.found_in (pattern_text written.now) text.now) }
+    ensures found { IfOk result (λ found. found ≡ spec.is_found written.now text.now) }
     ensures same { IsSamePattern pattern.old pattern.new }
 {
     Ok(pattern.spans(text)?.is_some())

@@ -1,3 +1,4 @@
 pub mod Scans
 pub mod Lexing
 mod Reading
+pub mod Folds

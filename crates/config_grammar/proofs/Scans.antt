@@ -1,32 +1,26 @@
 -- One step of each scan over the bytes of a text.
 use Rattle.std.proofs.Common.{◌≡◌, ℕ, zero, suc, ◌+◌, ◌-◌, ◌<◌, ◌≤◌, ◌==◌, ◌&&◌, ◌||◌, ◌⊎◌, inl, inr, not, nat_le, List, [], ◌∷◌, ◌++◌, length, take, drop, get_or, Option, Some, None, option_map, Bool, true, false, if◌then◌else◌, refl, ap, sym, ◌∙◌, arith, rules}
-use Rattle.std.proofs.lemmas.List.{drop_more, get_or-drop, length-drop}
+use Rattle.std.proofs.lemmas.List.{drop_all, drop_more, get_or-drop, length-drop}
 use Rattle.std.proofs.lemmas.Bool.Decides.{nat_tests}
 use Rattle.event_tree.specs.NumberTexts.{is_digit}
-use Rattle.config_grammar.specs.Bytes.{run, skip, closing, is_blank, is_letter, is_in_word, begins, begins_digit, begins_number, point_length, unescaped, without_zeros, zeros_behind}
+use Rattle.config_grammar.specs.Bytes.{passing, skip, closing, is_blank, is_letter, is_in_word, begins_with, begins_digit, begins_number, point_length, unescaped, without_zeros, zeros_behind}
 
-pub run_on : (t : ℕ → Bool) (s : List ℕ) (i : ℕ) → i < length s → t (get_or s i 0) ≡ true → run t (drop i s) ≡ suc (run t (drop (i + 1) s))
-unfolding run
-run_on t s i l h = ap (run t) (drop_more s i 0 l) ∙ ap (λ b. if b then suc (run t (drop (i + 1) s)) else 0) h
+pub run_on : (t : ℕ → Bool) (s : List ℕ) (i : ℕ) → i < length s → t (get_or s i 0) ≡ true → passing t (drop i s) ≡ suc (passing t (drop (i + 1) s))
+unfolding passing
+run_on t s i l h = ap (passing t) (drop_more s i 0 l) ∙ ap (λ b. if b then suc (passing t (drop (i + 1) s)) else 0) h
 
-pub run_stops : (t : ℕ → Bool) (s : List ℕ) (i : ℕ) → i < length s → t (get_or s i 0) ≡ false → run t (drop i s) ≡ 0
-unfolding run
-run_stops t s i l h = ap (run t) (drop_more s i 0 l) ∙ ap (λ b. if b then suc (run t (drop (i + 1) s)) else 0) h
+pub run_stops : (t : ℕ → Bool) (s : List ℕ) (i : ℕ) → i < length s → t (get_or s i 0) ≡ false → passing t (drop i s) ≡ 0
+unfolding passing
+run_stops t s i l h = ap (passing t) (drop_more s i 0 l) ∙ ap (λ b. if b then suc (passing t (drop (i + 1) s)) else 0) h
 
-pub drop_all : (s : List ℕ) (i : ℕ) → length s ≤ i → drop i s ≡ []
-drop_all [] zero l = refl
-drop_all [] (suc i) l = refl
-drop_all (b ∷ s) zero l = absurd (omega arith)
-drop_all (b ∷ s) (suc i) l = drop_all s i (omega arith)
-
-pub run_ends : (t : ℕ → Bool) (s : List ℕ) (i : ℕ) → length s ≤ i → run t (drop i s) ≡ 0
-unfolding run
-run_ends t s i l = ap (run t) (drop_all s i l)
+pub run_ends : (t : ℕ → Bool) (s : List ℕ) (i : ℕ) → length s ≤ i → passing t (drop i s) ≡ 0
+unfolding passing
+run_ends t s i l = ap (passing t) (drop_all i s l)
 
 -- blanks and comments
 pub skip_ends : (inside : Bool) (s : List ℕ) (i : ℕ) → length s ≤ i → skip inside (drop i s) ≡ 0
 unfolding skip
-skip_ends inside s i l = ap (skip inside) (drop_all s i l)
+skip_ends inside s i l = ap (skip inside) (drop_all i s l)
 
 pub skip_inside : (s : List ℕ) (i : ℕ) → i < length s → skip true (drop i s) ≡ suc (skip (not (get_or s i 0 == 10)) (drop (i + 1) s))
 unfolding skip
@@ -48,7 +42,7 @@ skip_stops s i l h e = skip_outside s i l ∙ ap (λ b. if b then suc (skip fals
 -- the closing byte
 pub closing_ends : (c : ℕ) (e : Bool) (s : List ℕ) (i : ℕ) → length s ≤ i → closing c e (drop i s) ≡ None
 unfolding closing
-closing_ends c e s i l = ap (closing c e) (drop_all s i l)
+closing_ends c e s i l = ap (closing c e) (drop_all i s l)
 
 closing_at : (c : ℕ) (e : Bool) (s : List ℕ) (i : ℕ) → i < length s → closing c e (drop i s) ≡ (if get_or s i 0 == c && not e then Some 0 else option_map suc (closing c (get_or s i 0 == 92) (drop (i + 1) s)))
 unfolding closing
@@ -84,19 +78,19 @@ digit_kept (d ∷ []) (suc n) l h = absurd (omega arith)
 digit_kept (d ∷ e ∷ ds) (suc n) l h = ap (zeros_behind d) (digit_kept (e ∷ ds) n (omega arith) h)
 
 -- backslashes
-unescaped_at : (s : List ℕ) (i : ℕ) → i < length s → unescaped (drop i s) ≡ (if get_or s i 0 == 92 && begins 47 (drop (i + 1) s) then unescaped (drop (i + 1) s) else get_or s i 0 ∷ unescaped (drop (i + 1) s))
+unescaped_at : (s : List ℕ) (i : ℕ) → i < length s → unescaped (drop i s) ≡ (if get_or s i 0 == 92 && begins_with 47 (drop (i + 1) s) then unescaped (drop (i + 1) s) else get_or s i 0 ∷ unescaped (drop (i + 1) s))
 unfolding unescaped
 unescaped_at s i l = ap unescaped (drop_more s i 0 l)
 
-pub unescaped_left : (s : List ℕ) (i : ℕ) → i < length s → (get_or s i 0 == 92 && begins 47 (drop (i + 1) s)) ≡ true → unescaped (drop i s) ≡ unescaped (drop (i + 1) s)
+pub unescaped_left : (s : List ℕ) (i : ℕ) → i < length s → (get_or s i 0 == 92 && begins_with 47 (drop (i + 1) s)) ≡ true → unescaped (drop i s) ≡ unescaped (drop (i + 1) s)
 unescaped_left s i l h = unescaped_at s i l ∙ ap (λ b. if b then unescaped (drop (i + 1) s) else get_or s i 0 ∷ unescaped (drop (i + 1) s)) h
 
-pub unescaped_kept : (s : List ℕ) (i : ℕ) → i < length s → (get_or s i 0 == 92 && begins 47 (drop (i + 1) s)) ≡ false → unescaped (drop i s) ≡ get_or s i 0 ∷ unescaped (drop (i + 1) s)
+pub unescaped_kept : (s : List ℕ) (i : ℕ) → i < length s → (get_or s i 0 == 92 && begins_with 47 (drop (i + 1) s)) ≡ false → unescaped (drop i s) ≡ get_or s i 0 ∷ unescaped (drop (i + 1) s)
 unescaped_kept s i l h = unescaped_at s i l ∙ ap (λ b. if b then unescaped (drop (i + 1) s) else get_or s i 0 ∷ unescaped (drop (i + 1) s)) h
 
 pub unescaped_ends : (s : List ℕ) (i : ℕ) → length s ≤ i → unescaped (drop i s) ≡ []
 unfolding unescaped
-unescaped_ends s i l = ap unescaped (drop_all s i l)
+unescaped_ends s i l = ap unescaped (drop_all i s l)
 
 take_more : (s : List ℕ) (k : ℕ) → k < length s → (r : List ℕ) → take k s ++ get_or s k 0 ∷ r ≡ take (suc k) s ++ r
 take_more [] k l r = absurd (omega arith)
@@ -112,8 +106,8 @@ part_more s from at h l r =
     ap (λ b. take (at - from) (drop from s) ++ b ∷ r) (ap (λ i. get_or s i 0) (sym e) ∙ sym (get_or-drop from s (at - from) 0)) ∙ take_more (drop from s) (at - from) n r ∙ ap (λ k. take k (drop from s) ++ r) f
 
 -- tests on the byte at a place
-pub begins_at : (c : ℕ) (s : List ℕ) (i : ℕ) → i < length s → begins c (drop i s) ≡ (get_or s i 0 == c)
-begins_at c s i l = ap (begins c) (drop_more s i 0 l)
+pub begins_at : (c : ℕ) (s : List ℕ) (i : ℕ) → i < length s → begins_with c (drop i s) ≡ (get_or s i 0 == c)
+begins_at c s i l = ap (begins_with c) (drop_more s i 0 l)
 
 pub digit_ascii : (b : ℕ) → is_digit b ≡ true → b < 128
 digit_ascii b h = grind (arith, nat_tests)
@@ -140,36 +134,36 @@ word_ascii dashes b h = by (or_splits (is_letter b || is_digit b) (dashes && b =
     by (inl g) = front (or_splits (is_letter b) (is_digit b) g)
     by (inr g) = dash dashes g
 
-pub run_some : (t : ℕ → Bool) (s : List ℕ) → (b : ℕ) (r : List ℕ) → s ≡ b ∷ r → t b ≡ true → 0 < run t s
-unfolding run
-run_some t s b r e h = let q : run t s ≡ suc (run t r) = ap (run t) e ∙ ap (λ x. if x then suc (run t r) else 0) h in omega (arith, q)
+pub run_some : (t : ℕ → Bool) (s : List ℕ) → (b : ℕ) (r : List ℕ) → s ≡ b ∷ r → t b ≡ true → 0 < passing t s
+unfolding passing
+run_some t s b r e h = let q : passing t s ≡ suc (passing t r) = ap (passing t) e ∙ ap (λ x. if x then suc (passing t r) else 0) h in omega (arith, q)
 
 -- a point with digits
-pub point_some : (s : List ℕ) (i : ℕ) → begins 46 (drop i s) ≡ true → begins_digit (drop (i + 1) s) ≡ true → point_length (drop i s) ≡ suc (run is_digit (drop (i + 1) s))
+pub point_some : (s : List ℕ) (i : ℕ) → begins_with 46 (drop i s) ≡ true → begins_digit (drop (i + 1) s) ≡ true → point_length (drop i s) ≡ suc (passing is_digit (drop (i + 1) s))
 point_some s i p d = by (nat_le (suc i) (length s)) refl
   where
-    by : (t : Bool) → nat_le (suc i) (length s) ≡ t → point_length (drop i s) ≡ suc (run is_digit (drop (i + 1) s))
+    by : (t : Bool) → nat_le (suc i) (length s) ≡ t → point_length (drop i s) ≡ suc (passing is_digit (drop (i + 1) s))
     by true e =
         let l : i < length s = grind (arith, nat_tests) in
-        ap point_length (drop_more s i 0 l) ∙ ap (λ b. if b && begins_digit (drop (i + 1) s) then suc (run is_digit (drop (i + 1) s)) else 0) (sym (begins_at 46 s i l) ∙ p)
-        ∙ ap (λ b. if b then suc (run is_digit (drop (i + 1) s)) else 0) d
-    by false e = let g : length s ≤ i = grind (arith, nat_tests) in let q : false ≡ true = sym (ap (begins 46) (drop_all s i g)) ∙ p in absurd (search (q, rules))
+        ap point_length (drop_more s i 0 l) ∙ ap (λ b. if b && begins_digit (drop (i + 1) s) then suc (passing is_digit (drop (i + 1) s)) else 0) (sym (begins_at 46 s i l) ∙ p)
+        ∙ ap (λ b. if b then suc (passing is_digit (drop (i + 1) s)) else 0) d
+    by false e = let g : length s ≤ i = grind (arith, nat_tests) in let q : false ≡ true = sym (ap (begins_with 46) (drop_all i s g)) ∙ p in absurd (search (q, rules))
 
-pub point_none : (s : List ℕ) (i : ℕ) → (begins 46 (drop i s) && begins_digit (drop (i + 1) s)) ≡ false → point_length (drop i s) ≡ 0
+pub point_none : (s : List ℕ) (i : ℕ) → (begins_with 46 (drop i s) && begins_digit (drop (i + 1) s)) ≡ false → point_length (drop i s) ≡ 0
 point_none s i p = by (nat_le (suc i) (length s)) refl
   where
     by : (t : Bool) → nat_le (suc i) (length s) ≡ t → point_length (drop i s) ≡ 0
     by true e =
         let l : i < length s = grind (arith, nat_tests) in
-        ap point_length (drop_more s i 0 l) ∙ ap (λ b. if b then suc (run is_digit (drop (i + 1) s)) else 0) (ap (λ b. b && begins_digit (drop (i + 1) s)) (sym (begins_at 46 s i l)) ∙ p)
-    by false e = let g : length s ≤ i = grind (arith, nat_tests) in ap point_length (drop_all s i g)
+        ap point_length (drop_more s i 0 l) ∙ ap (λ b. if b then suc (passing is_digit (drop (i + 1) s)) else 0) (ap (λ b. b && begins_digit (drop (i + 1) s)) (sym (begins_at 46 s i l)) ∙ p)
+    by false e = let g : length s ≤ i = grind (arith, nat_tests) in ap point_length (drop_all i s g)
 
-pub digits_some : (s : List ℕ) → begins_digit s ≡ true → 0 < run is_digit s
+pub digits_some : (s : List ℕ) → begins_digit s ≡ true → 0 < passing is_digit s
 digits_some [] h = absurd (search (h, rules))
 digits_some (b ∷ s) h = run_some is_digit (b ∷ s) b s refl h
 
-pub word_some : (dashes : Bool) (s : List ℕ) (i : ℕ) → i < length s → is_letter (get_or s i 0) ≡ true → 0 < run (is_in_word dashes) (drop i s)
+pub word_some : (dashes : Bool) (s : List ℕ) (i : ℕ) → i < length s → is_letter (get_or s i 0) ≡ true → 0 < passing (is_in_word dashes) (drop i s)
 word_some dashes s i l h = run_some (is_in_word dashes) (drop i s) (get_or s i 0) (drop (i + 1) s) (drop_more s i 0 l) (ap (λ x. x || is_digit (get_or s i 0) || (dashes && get_or s i 0 == 45)) h)
 
-pub unsigned : (s : List ℕ) → begins 45 s ≡ false → begins_number s ≡ begins_digit s
+pub unsigned : (s : List ℕ) → begins_with 45 s ≡ false → begins_number s ≡ begins_digit s
 unsigned s h = ap (λ x. begins_digit (drop (if x then 1 else 0) s)) h

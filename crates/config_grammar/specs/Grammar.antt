@@ -16,7 +16,7 @@ use Rattle.config_grammar.specs.declared.tree.Condition.TheVariants as c
 use Rattle.config_grammar.specs.declared.tree.Operand.{Operand}
 use Rattle.config_grammar.specs.declared.tree.Operand.TheVariants as o
 use Rattle.config_grammar.specs.declared.tree.Literal.{Literal}
-use Rattle.config_grammar.specs.declared.tree.Pattern.{Pattern}
+use Rattle.config_grammar.specs.declared.tree.MatchPattern.{MatchPattern}
 use Rattle.config_grammar.specs.declared.tree.Plugin.{Plugin}
 use Rattle.config_grammar.specs.declared.tree.Arm.{Arm}
 use Rattle.config_grammar.specs.declared.tree.Statement.{Statement}
@@ -81,7 +81,7 @@ pub data ReadsOperand : ℕ → List Token → Operand → Type 0 where
 pub data ReadsTail : ℕ → Operand → List Token → Condition → Type 0 where
   alone : {d : ℕ} {x : Operand} → ReadsTail d x [] (c.Operand x)
   comparison : {d : ℕ} {x y : Operand} {j : Comparison} {a : List Token} → ReadsOperand d a y → ReadsTail d x (t.Comparison j ∷ a) (compared j x y)
-  matching : {d : ℕ} {x : Operand} {j : Matching} {y : Token} {q : Pattern} → pattern y ≡ Some q → ReadsTail d x (t.Matching j ∷ y ∷ []) (matched j x q)
+  matching : {d : ℕ} {x : Operand} {j : Matching} {y : Token} {q : MatchPattern} → pattern y ≡ Some q → ReadsTail d x (t.Matching j ∷ y ∷ []) (matched j x q)
   within : {d : ℕ} {x y : Operand} {a : List Token} → ReadsOperand d a y → ReadsTail d x (t.Word w.In ∷ a) (c.In x y)
   not_within : {d : ℕ} {x y : Operand} {a : List Token} → ReadsOperand d a y → ReadsTail d x (t.Word w.Not ∷ t.Word w.In ∷ a) (c.NotIn x y)
 

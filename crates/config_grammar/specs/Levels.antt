@@ -3,9 +3,12 @@ use Rattle.std.specs.Prelude.{◌≡◌, ℕ, suc, ◌≤◌, List, [], ◌∷�
 use Rattle.config_grammar.specs.declared.token.Token.{Token}
 use Rattle.config_grammar.specs.declared.token.Token.TheVariants as t
 use Rattle.config_grammar.specs.declared.token.Word.TheVariants as w
-use Rattle.config_grammar.specs.declared.level.Opener.{Opener}
-use Rattle.config_grammar.specs.declared.level.Opener.TheVariants.{Bracket, Denial}
 use Rattle.config_grammar.specs.Viable.{Viable, IsFault}
+
+-- what has opened a level: a `{`, `[` or `(`, or a `!`
+pub data Opener : Type 0 where
+  Bracket : Opener
+  Denial : Opener
 
 -- the levels that are open, the innermost first
 abbrev pub Open : Type 0

@@ -1,8 +1,8 @@
 -- The tokens of a text, with their places.
-use Rattle.std.specs.Prelude.{ℕ, zero, suc, ◌+◌, ◌==◌, ◌&&◌, ◌||◌, not, nat_eq, Bool, true, false, if◌then◌else◌, List, [], ◌∷◌, ◌++◌, length, take, drop, map, Option, Some, None, option_map, codes, bytes_eq}
+use Rattle.std.specs.Prelude.{ℕ, zero, suc, ◌+◌, ◌==◌, ◌&&◌, ◌||◌, not, nat_eq, Bool, true, false, if◌then◌else◌, List, [], ◌∷◌, ◌++◌, length, take, drop, map, Option, Some, None, option_map, IfSome, ◌≤◌, codes, bytes_eq}
 use Rattle.std.specs.List.{list_any}
 use Rattle.event_tree.specs.NumberTexts.{is_digit}
-use Rattle.config_grammar.specs.Bytes.{is_letter, is_in_word, run, skip, closing, unescaped, number_length, begins_number, number_of, part_length}
+use Rattle.config_grammar.specs.Bytes.{is_letter, is_in_word, passing, skip, closing, unescaped, number_length, begins_number, number_of, part_length}
 use Rattle.config_grammar.specs.declared.token.Token.{Token}
 use Rattle.config_grammar.specs.declared.token.Token.TheVariants as t
 use Rattle.config_grammar.specs.declared.token.Word.{Word}
@@ -44,19 +44,26 @@ after_token x (t.Comparison j) = before_operand x.in_condition
 after_token x (t.Matching j) = before_operand x.in_condition
 after_token x y = plain x.in_condition
 
--- a word but `if` and `else`, by its spelling
-abbrev pub other_word : List ℕ → Word
-other_word s =
-    if bytes_eq s (codes "in") then w.In
-    else (if bytes_eq s (codes "not") then w.Not
-    else (if bytes_eq s (codes "and") then w.Conjunction and.And
+-- the word that begins a section, or one without a meaning of its own
+abbrev pub section_word : List ℕ → Word
+section_word s =
+    if bytes_eq s (codes "input") then w.Section kind.Input
+    else (if bytes_eq s (codes "filter") then w.Section kind.Filter
+    else (if bytes_eq s (codes "output") then w.Section kind.Output
+    else w.Other s))
+
+-- a joint, or one of those
+abbrev pub joint_word : List ℕ → Word
+joint_word s =
+    if bytes_eq s (codes "and") then w.Conjunction and.And
     else (if bytes_eq s (codes "nand") then w.Conjunction and.Nand
     else (if bytes_eq s (codes "or") then w.Disjunction or.Or
     else (if bytes_eq s (codes "xor") then w.Disjunction or.Xor
-    else (if bytes_eq s (codes "input") then w.Section kind.Input
-    else (if bytes_eq s (codes "filter") then w.Section kind.Filter
-    else (if bytes_eq s (codes "output") then w.Section kind.Output
-    else w.Other s))))))))
+    else section_word s)))
+
+-- a word but `if` and `else`, by its spelling
+abbrev pub other_word : List ℕ → Word
+other_word s = if bytes_eq s (codes "in") then w.In else (if bytes_eq s (codes "not") then w.Not else joint_word s)
 
 -- a word by its spelling
 abbrev pub word_of : List ℕ → Word
@@ -69,9 +76,13 @@ word_token s = if list_any (λ b. nat_eq b 45) s then t.Dashed s else t.Word (wo
 abbrev pub Found : Type 0
 Found = Option (Token × ℕ)
 
+-- what was found from this place on ends before that one
+abbrev pub Fits : ℕ → ℕ → Found → Type 0
+Fits from end found = IfSome found (λ p. from + p.1 ≤ end)
+
 -- a word has no dash in a condition
 abbrev pub word_at : Bool → List ℕ → Found
-word_at inside s = let n = run (is_in_word (not inside)) s in Some (word_token (take n s), n)
+word_at inside s = let n = passing (is_in_word (not inside)) s in Some (word_token (take n s), n)
 
 abbrev pub number_at : List ℕ → Found
 number_at s = let n = number_length s in option_map (λ value. (t.Number value (take n s), n)) (number_of (take n s))
@@ -101,6 +112,10 @@ abbrev pub selector_of : List (List ℕ) → Found
 selector_of [] = None
 selector_of (p ∷ parts) = Some (t.Selector (p ∷ parts), selector_length (p ∷ parts))
 
+-- the selector in front, where one stands
+abbrev pub selector_at : List ℕ → Found
+selector_at s = selector_of (parts_at (length s) [] s)
+
 -- what begins a literal or ends a list: a quote, a digit, `-` or `]`
 abbrev pub begins_literals : List ℕ → Bool
 begins_literals [] = false
@@ -109,7 +124,7 @@ begins_literals (b ∷ s) = b == 34 || b == 39 || is_digit b || b == 45 || b == 
 -- at a `[`: where an operand may stand, it begins a list of literals if the next token does, and else a selector
 abbrev pub bracket_at : Bool → List ℕ → Found
 bracket_at operand s =
-    if operand && not (begins_literals (drop (1 + skip false (drop 1 s)) s)) then selector_of (parts_at (length s) [] s) else Some (t.OpenBracket, 1)
+    if operand && not (begins_literals (drop (1 + skip false (drop 1 s)) s)) then selector_at s else Some (t.OpenBracket, 1)
 
 -- signs of two bytes
 abbrev pub double : ℕ → ℕ → Option Token

@@ -76,3 +76,7 @@ IsWrongKind k from.Memory = ⊤
 abbrev pub Answers : {A R : Type 0} → (SettingValue → Option A → Type 0) → (R → Option A) → List ℕ → Option SettingValue → Result R FromFault → Type 0
 Answers As view k None result = MatchResult result (λ r. view r ≡ None) (λ _. ⊥)
 Answers As view k (Some x) result = MatchResult result (λ r. IsSome (view r) × As x (view r)) (λ fault. IsWrongKind k fault × As x None)
+
+-- what a reader answers at a name of these settings
+abbrev pub AnswersAt : {A R : Type 0} → (SettingValue → Option A → Type 0) → (R → Option A) → List ℕ → Entries → Result R FromFault → Type 0
+AnswersAt As view k settings result = Answers As view k (value_at k settings) result

@@ -21,8 +21,8 @@ use Rattle.config_grammar.specs.declared.tree.Operand.{Operand}
 use Rattle.config_grammar.specs.declared.tree.Operand.TheVariants as o
 use Rattle.config_grammar.specs.declared.tree.Literal.{Literal}
 use Rattle.config_grammar.specs.declared.tree.Literal.TheVariants as l
-use Rattle.config_grammar.specs.declared.tree.Pattern.{Pattern}
-use Rattle.config_grammar.specs.declared.tree.Pattern.TheVariants as p
+use Rattle.config_grammar.specs.declared.tree.MatchPattern.{MatchPattern}
+use Rattle.config_grammar.specs.declared.tree.MatchPattern.TheVariants as p
 use Rattle.event_tree.specs.PathTexts.{way_of}
 
 -- how a word is written
@@ -83,7 +83,7 @@ operand_token (t.Number n s) = Some (o.Number n)
 operand_token _ = None
 
 -- the right side of `=~` and `!~`
-abbrev pub pattern : Token → Option Pattern
+abbrev pub pattern : Token → Option MatchPattern
 pattern (t.Regexp s) = Some (p.Regexp s)
 pattern (t.Quoted s) = Some (p.Text s)
 pattern _ = None
@@ -104,6 +104,6 @@ compared is.Greater x y = c.Greater x y
 compared is.AtMost x y = c.AtMost x y
 compared is.AtLeast x y = c.AtLeast x y
 
-abbrev pub matched : Matching → Operand → Pattern → Condition
+abbrev pub matched : Matching → Operand → MatchPattern → Condition
 matched matching.Matches x y = c.Matches x y
 matched matching.MatchesNot x y = c.MatchesNot x y

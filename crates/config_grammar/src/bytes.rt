@@ -9,38 +9,38 @@ use event_tree::Number;
 pub(crate) fn is_blank(byte: u8) -> bool
     ensures { result ≡ spec.is_blank byte }
 {
-    byte == 32 || byte == 9 || byte == 13 || byte == 10
+    byte == b' ' || byte == b'\t' || byte == b'\r' || byte == b'\n'
 }
 
 /// Whether a byte is a letter of ASCII or `_`, with which words begin.
 pub fn is_letter(byte: u8) -> bool
     ensures { result ≡ spec.is_letter byte }
 {
-    (97 <= byte && byte <= 122) || (65 <= byte && byte <= 90) || byte == 95
+    (b'a' <= byte && byte <= b'z') || (b'A' <= byte && byte <= b'Z') || byte == b'_'
 }
 
 pub(crate) fn is_digit(byte: u8) -> bool
     ensures { result ≡ numbers.is_digit byte }
 {
-    48 <= byte && byte <= 57
+    b'0' <= byte && byte <= b'9'
 }
 
 /// Whether a word goes on with a byte: a letter, a digit, or a `-` where dashes may stand.
 pub fn is_in_word(dashes: bool, byte: u8) -> bool
     ensures { result ≡ spec.is_in_word dashes byte }
 {
-    is_letter(byte) || is_digit(byte) || (dashes && byte == 45)
+    is_letter(byte) || is_digit(byte) || (dashes && byte == b'-')
 }
 
 fn is_in_part(byte: u8) -> bool
     ensures { result ≡ spec.is_in_part byte }
 {
-    !(byte == 91 || byte == 93 || byte == 44 || byte == 34 || byte == 39 || byte == 35)
+    !(byte == b'[' || byte == b']' || byte == b',' || byte == b'"' || byte == b'\'' || byte == b'#')
 }
 
 /// Whether `byte` stands at `at`.
-pub(crate) fn begins(byte: u8, bytes: &[u8], at: usize) -> bool
-    ensures { result ≡ spec.begins byte (drop at bytes.now) }
+pub(crate) fn begins_with(byte: u8, bytes: &[u8], at: usize) -> bool
+    ensures { result ≡ spec.begins_with byte (drop at bytes.now) }
 {
     at < bytes.len() && bytes[at] == byte
 }
@@ -51,50 +51,63 @@ pub(crate) fn begins_digit(bytes: &[u8], at: usize) -> bool
     at < bytes.len() && is_digit(bytes[at])
 }
 
-/// The place behind the bytes of a word.
-pub(crate) fn word_end(bytes: &[u8], from: usize, dashes: bool) -> usize
+/// What the bytes of a run have in common.
+#[derive(Clone, Copy)]
+pub(crate) enum ByteTest {
+    /// A word goes on with them, in which dashes may stand or not.
+    InWord(bool),
+    IsDigit,
+    /// They may stand in a part of a selector.
+    InPart,
+}
+
+impl ByteTest {
+    fn passes(self, byte: u8) -> bool
+        ensures { result ≡ spec.passes self byte }
+    {
+        match self {
+            ByteTest::InWord(dashes) => is_in_word(dashes, byte),
+            ByteTest::IsDigit => is_digit(byte),
+            ByteTest::InPart => is_in_part(byte),
+        }
+    }
+}
+
+/// The place behind the bytes that pass the test.
+pub(crate) fn run_end(test: ByteTest, bytes: &[u8], from: usize) -> usize
     requires { from ≤ length bytes.now }
-    ensures end { result ≡ from + spec.run (spec.is_in_word dashes) (drop from bytes.now) }
-    ensures some { from < length bytes.now → spec.is_letter (slice_index bytes.now from) ≡ true → from < result }
+    ensures end { result ≡ from + spec.passing (spec.passes test) (drop from bytes.now) }
     ensures within { result ≤ length bytes.now }
-    ensures last { from < result → slice_index bytes.now (result - 1) < 128 }
+    ensures last { from < result → spec.passes test (slice_index bytes.now (result - 1)) ≡ true }
 {
     for at in from..bytes.len() {
-        if !is_in_word(dashes, bytes[at]) {
+        if !test.passes(bytes[at]) {
             return at;
         }
     }
     bytes.len()
+}
+
+/// The place behind the bytes of a word.
+pub(crate) fn word_end(bytes: &[u8], from: usize, dashes: bool) -> usize
+    requires { from ≤ length bytes.now }
+    ensures end { result ≡ from + spec.passing (spec.is_in_word dashes) (drop from bytes.now) }
+    ensures some { spec.IsBehindLetter bytes.now from result }
+    ensures within { result ≤ length bytes.now }
+    ensures last { from < result → slice_index bytes.now (result - 1) < 128 }
+{
+    run_end(ByteTest::InWord(dashes), bytes, from)
 }
 
 /// The place behind the digits.
 pub(crate) fn digits_end(bytes: &[u8], from: usize) -> usize
     requires { from ≤ length bytes.now }
-    ensures end { result ≡ from + spec.run numbers.is_digit (drop from bytes.now) }
+    ensures end { result ≡ from + spec.passing numbers.is_digit (drop from bytes.now) }
     ensures some { spec.begins_digit (drop from bytes.now) ≡ true → from < result }
     ensures within { result ≤ length bytes.now }
     ensures last { from < result → slice_index bytes.now (result - 1) < 128 }
 {
-    for at in from..bytes.len() {
-        if !is_digit(bytes[at]) {
-            return at;
-        }
-    }
-    bytes.len()
-}
-
-/// The place behind the bytes of a selector's part.
-pub(crate) fn part_end(bytes: &[u8], from: usize) -> usize
-    requires { from ≤ length bytes.now }
-    ensures end { result ≡ from + spec.run spec.is_in_part (drop from bytes.now) }
-    ensures within { result ≤ length bytes.now }
-{
-    for at in from..bytes.len() {
-        if !is_in_part(bytes[at]) {
-            return at;
-        }
-    }
-    bytes.len()
+    run_end(ByteTest::IsDigit, bytes, from)
 }
 
 /// The place behind blanks and comments.
@@ -107,9 +120,9 @@ pub(crate) fn skip(bytes: &[u8], from: usize) -> usize
     for at in from..bytes.len() {
         let byte = bytes[at];
         if inside {
-            inside = byte != 10;
+            inside = byte != b'\n';
         } else if !is_blank(byte) {
-            if byte != 35 {
+            if byte != b'#' {
                 return at;
             }
             inside = true;
@@ -122,7 +135,7 @@ pub(crate) fn skip(bytes: &[u8], from: usize) -> usize
 pub(crate) fn closing(bytes: &[u8], from: usize, close: u8) -> Option<usize>
     requires { from ≤ length bytes.now }
     ensures length { result ≡ spec.closing close false (drop from bytes.now) }
-    ensures close { IfSome result (λ n. (from + n < length bytes.now) × (slice_index bytes.now (from + n) ≡ close)) }
+    ensures close { IfSome result (λ n. spec.HasByte close bytes.now (from + n)) }
 {
     let mut escaped = false;
     for at in from..bytes.len() {
@@ -130,7 +143,7 @@ pub(crate) fn closing(bytes: &[u8], from: usize, close: u8) -> Option<usize>
         if byte == close && !escaped {
             return Some(at - from);
         }
-        escaped = byte == 92;
+        escaped = byte == b'\\';
     }
     None
 }
@@ -139,11 +152,11 @@ pub(crate) fn closing(bytes: &[u8], from: usize, close: u8) -> Option<usize>
 pub(crate) fn part_length(bytes: &[u8], at: usize) -> Option<usize>
     ensures length { result ≡ spec.part_length (drop at bytes.now) }
     ensures front { IfSome result (λ n. slice_index bytes.now at ≡ 91) }
-    ensures close { IfSome result (λ n. (at + 1 + n < length bytes.now) × (slice_index bytes.now (at + 1 + n) ≡ 93)) }
+    ensures close { IfSome result (λ n. spec.HasByte 93 bytes.now (at + 1 + n)) }
 {
-    if at < bytes.len() && bytes[at] == 91 {
-        let end = part_end(bytes, at + 1);
-        if end != at + 1 && begins(93, bytes, end) {
+    if at < bytes.len() && bytes[at] == b'[' {
+        let end = run_end(ByteTest::InPart, bytes, at + 1);
+        if end != at + 1 && begins_with(b']', bytes, end) {
             return Some(end - (at + 1));
         }
     }
@@ -155,9 +168,9 @@ pub(crate) fn whole_end(bytes: &[u8], at: usize) -> usize
     requires { at ≤ length bytes.now }
     ensures end { result ≡ at + spec.whole_length (drop at bytes.now) }
     ensures within { result ≤ length bytes.now }
-    ensures last { spec.begins_number (drop at bytes.now) ≡ true → (at < result) × (slice_index bytes.now (result - 1) < 128) }
+    ensures last { spec.EndsNumber bytes.now at result }
 {
-    if begins(45, bytes, at) {
+    if begins_with(b'-', bytes, at) {
         digits_end(bytes, at + 1)
     } else {
         digits_end(bytes, at)
@@ -169,10 +182,10 @@ pub(crate) fn number_end(bytes: &[u8], at: usize) -> usize
     requires { at ≤ length bytes.now }
     ensures end { result ≡ at + spec.number_length (drop at bytes.now) }
     ensures within { result ≤ length bytes.now }
-    ensures last { spec.begins_number (drop at bytes.now) ≡ true → (at < result) × (slice_index bytes.now (result - 1) < 128) }
+    ensures last { spec.EndsNumber bytes.now at result }
 {
     let whole = whole_end(bytes, at);
-    if begins(46, bytes, whole) && begins_digit(bytes, whole + 1) {
+    if begins_with(b'.', bytes, whole) && begins_digit(bytes, whole + 1) {
         digits_end(bytes, whole + 1)
     } else {
         whole
@@ -183,7 +196,7 @@ pub(crate) fn number_end(bytes: &[u8], at: usize) -> usize
 pub(crate) fn begins_number(bytes: &[u8], at: usize) -> bool
     ensures { result ≡ spec.begins_number (drop at bytes.now) }
 {
-    if begins(45, bytes, at) {
+    if begins_with(b'-', bytes, at) {
         begins_digit(bytes, at + 1)
     } else {
         begins_digit(bytes, at)
@@ -195,7 +208,7 @@ fn without_zeros(digits: &[u8]) -> &[u8]
     ensures { result.now ≡ spec.without_zeros digits.now }
 {
     let mut end = digits.len();
-    while end > 0 && digits[end - 1] == 48 {
+    while end > 0 && digits[end - 1] == b'0' {
         end -= 1;
     }
     &digits[..end]
@@ -206,7 +219,7 @@ fn sign_length(bytes: &[u8]) -> usize
     ensures value { result ≡ spec.sign_length bytes.now }
     ensures within { result ≤ length bytes.now }
 {
-    if begins(45, bytes, 0) { 1 } else { 0 }
+    if begins_with(b'-', bytes, 0) { 1 } else { 0 }
 }
 
 /// What stands behind a place.
@@ -228,7 +241,7 @@ pub(crate) fn number_of(bytes: &[u8]) -> Option<Number>
     let end = digits_end(bytes, from);
     let whole = &bytes[from..end];
     Number::from_digits(
-        begins(45, bytes, 0),
+        begins_with(b'-', bytes, 0),
         whole,
         without_zeros(behind(bytes, end)),
     )

@@ -1,7 +1,7 @@
 //! What the tokens so far say on how the next is read.
 
 /// The state between two tokens.
-#[derive(Clone, Copy, Debug, PartialEq, Eq)]
+#[derive(Clone, Copy)]
 pub struct Context {
     /// Between the `if` of a branch and the `{` behind its condition.
     pub in_condition: bool,

@@ -1,12 +1,15 @@
 //! Configurations made again. Each function walks what it is given once, and recurses once for each level of it.
 
 ghost use Rattle.std.specs.Prelude.{◌≡◌, IfOk};
+ghost use Rattle.config_grammar.specs.Words as words;
+ghost use Rattle.config_grammar.specs.declared.tree.Condition.TheVariants as c;
 
+use crate::token::{Comparison, Conjunction, Disjunction, Matching};
 use crate::tree::{
-    Arm, Condition, Config, Literal, Operand, Pattern, Plugin, SettingValue, Settings, Statement,
+    Arm, Condition, Config, Literal, MatchPattern, Operand, Plugin, SettingValue, Settings,
+    Statement,
 };
-use plain_boxes::Boxed;
-use plain_lists::{Items, Text};
+use plain_data::{Boxed, Items, Text};
 use std::alloc::{AllocError, Global};
 
 impl Config {
@@ -165,25 +168,22 @@ fn copy_condition(alloc: Global, condition: &Condition) -> Result<Condition, All
     ensures { IfOk result (λ copy. copy ≡ condition.now) }
 {
     match condition {
-        Condition::Operand(x) => Ok(Condition::Operand(copy_operand(x)?)),
-        Condition::Not(x) => Ok(Condition::Not(copy_boxed(alloc, x)?)),
-        Condition::And(x, y) => Ok(Condition::And(copy_boxed(alloc, x)?, copy_boxed(alloc, y)?)),
-        Condition::Nand(x, y) => Ok(Condition::Nand(copy_boxed(alloc, x)?, copy_boxed(alloc, y)?)),
-        Condition::Or(x, y) => Ok(Condition::Or(copy_boxed(alloc, x)?, copy_boxed(alloc, y)?)),
-        Condition::Xor(x, y) => Ok(Condition::Xor(copy_boxed(alloc, x)?, copy_boxed(alloc, y)?)),
-        Condition::Equal(x, y) => Ok(Condition::Equal(copy_operand(x)?, copy_operand(y)?)),
-        Condition::Unequal(x, y) => Ok(Condition::Unequal(copy_operand(x)?, copy_operand(y)?)),
-        Condition::Less(x, y) => Ok(Condition::Less(copy_operand(x)?, copy_operand(y)?)),
-        Condition::Greater(x, y) => Ok(Condition::Greater(copy_operand(x)?, copy_operand(y)?)),
-        Condition::AtMost(x, y) => Ok(Condition::AtMost(copy_operand(x)?, copy_operand(y)?)),
-        Condition::AtLeast(x, y) => Ok(Condition::AtLeast(copy_operand(x)?, copy_operand(y)?)),
-        Condition::Matches(x, y) => Ok(Condition::Matches(copy_operand(x)?, copy_pattern(y)?)),
-        Condition::MatchesNot(x, y) => Ok(Condition::MatchesNot(
-            copy_operand(x)?,
-            copy_pattern(y)?,
-        )),
-        Condition::In(x, y) => Ok(Condition::In(copy_operand(x)?, copy_operand(y)?)),
-        Condition::NotIn(x, y) => Ok(Condition::NotIn(copy_operand(x)?, copy_operand(y)?)),
+        Condition::Operand(x) => copy_alone(x),
+        Condition::Not(x) => copy_denied(alloc, x),
+        Condition::And(x, y) => copy_conjoined(alloc, y, Conjunction::And, copy_boxed(alloc, x)?),
+        Condition::Nand(x, y) => copy_conjoined(alloc, y, Conjunction::Nand, copy_boxed(alloc, x)?),
+        Condition::Or(x, y) => copy_disjoined(alloc, y, Disjunction::Or, copy_boxed(alloc, x)?),
+        Condition::Xor(x, y) => copy_disjoined(alloc, y, Disjunction::Xor, copy_boxed(alloc, x)?),
+        Condition::Equal(x, y) => copy_compared(Comparison::Equal, x, y),
+        Condition::Unequal(x, y) => copy_compared(Comparison::Unequal, x, y),
+        Condition::Less(x, y) => copy_compared(Comparison::Less, x, y),
+        Condition::Greater(x, y) => copy_compared(Comparison::Greater, x, y),
+        Condition::AtMost(x, y) => copy_compared(Comparison::AtMost, x, y),
+        Condition::AtLeast(x, y) => copy_compared(Comparison::AtLeast, x, y),
+        Condition::Matches(x, y) => copy_matched(Matching::Matches, x, y),
+        Condition::MatchesNot(x, y) => copy_matched(Matching::MatchesNot, x, y),
+        Condition::In(x, y) => copy_in(x, y),
+        Condition::NotIn(x, y) => copy_not_in(x, y),
     }
 }
 
@@ -192,6 +192,80 @@ fn copy_boxed(alloc: Global, condition: &Boxed<Condition>) -> Result<Boxed<Condi
     ensures { IfOk result (λ copy. copy ≡ condition.now) }
 {
     Boxed::new(alloc, copy_condition(alloc, condition.get())?)
+}
+
+#[cycle(copy_conditions)]
+fn copy_denied(alloc: Global, denied: &Boxed<Condition>) -> Result<Condition, AllocError>
+    ensures { IfOk result (λ copy. copy ≡ c.Not denied.now) }
+{
+    Ok(Condition::Not(copy_boxed(alloc, denied)?))
+}
+
+// A copy of the right side of a joint, joined to the copy of the left one.
+#[cycle(copy_conditions)]
+fn copy_conjoined(
+    alloc: Global,
+    right: &Boxed<Condition>,
+    joint: Conjunction,
+    left: Boxed<Condition>,
+) -> Result<Condition, AllocError>
+    ensures { IfOk result (λ copy. copy ≡ words.conjoined joint left right.now) }
+{
+    let right = copy_boxed(alloc, right)?;
+    Ok(Condition::conjoined(joint, left, right))
+}
+
+#[cycle(copy_conditions)]
+fn copy_disjoined(
+    alloc: Global,
+    right: &Boxed<Condition>,
+    joint: Disjunction,
+    left: Boxed<Condition>,
+) -> Result<Condition, AllocError>
+    ensures { IfOk result (λ copy. copy ≡ words.disjoined joint left right.now) }
+{
+    let right = copy_boxed(alloc, right)?;
+    Ok(Condition::disjoined(joint, left, right))
+}
+
+fn copy_alone(operand: &Operand) -> Result<Condition, AllocError>
+    ensures { IfOk result (λ copy. copy ≡ c.Operand operand.now) }
+{
+    Ok(Condition::Operand(copy_operand(operand)?))
+}
+
+fn copy_compared(
+    comparison: Comparison,
+    left: &Operand,
+    right: &Operand,
+) -> Result<Condition, AllocError>
+    ensures { IfOk result (λ copy. copy ≡ words.compared comparison left.now right.now) }
+{
+    let left = copy_operand(left)?;
+    Ok(Condition::compared(comparison, left, copy_operand(right)?))
+}
+
+fn copy_matched(
+    matching: Matching,
+    left: &Operand,
+    right: &MatchPattern,
+) -> Result<Condition, AllocError>
+    ensures { IfOk result (λ copy. copy ≡ words.matched matching left.now right.now) }
+{
+    let left = copy_operand(left)?;
+    Ok(Condition::matched(matching, left, copy_pattern(right)?))
+}
+
+fn copy_in(left: &Operand, right: &Operand) -> Result<Condition, AllocError>
+    ensures { IfOk result (λ copy. copy ≡ c.In left.now right.now) }
+{
+    Ok(Condition::In(copy_operand(left)?, copy_operand(right)?))
+}
+
+fn copy_not_in(left: &Operand, right: &Operand) -> Result<Condition, AllocError>
+    ensures { IfOk result (λ copy. copy ≡ c.NotIn left.now right.now) }
+{
+    Ok(Condition::NotIn(copy_operand(left)?, copy_operand(right)?))
 }
 
 fn copy_operand(operand: &Operand) -> Result<Operand, AllocError>
@@ -227,11 +301,11 @@ fn copy_literal(literal: &Literal) -> Result<Literal, AllocError>
     }
 }
 
-fn copy_pattern(pattern: &Pattern) -> Result<Pattern, AllocError>
+fn copy_pattern(pattern: &MatchPattern) -> Result<MatchPattern, AllocError>
     ensures { IfOk result (λ copy. copy ≡ pattern.now) }
 {
     match pattern {
-        Pattern::Regexp(text) => Ok(Pattern::Regexp(text.copy()?)),
-        Pattern::Text(text) => Ok(Pattern::Text(text.copy()?)),
+        MatchPattern::Regexp(text) => Ok(MatchPattern::Regexp(text.copy()?)),
+        MatchPattern::Text(text) => Ok(MatchPattern::Text(text.copy()?)),
     }
 }

@@ -3,9 +3,9 @@
 ghost use Rattle.std.specs.Prelude.{◌≡◌, ◌↔◌, IsTrue};
 
 use crate::tree::{
-    Arm, Condition, Config, Literal, Operand, Pattern, Plugin, SettingValue, Statement,
+    Arm, Condition, Config, Literal, MatchPattern, Operand, Plugin, SettingValue, Statement,
 };
-use plain_lists::Text;
+use plain_data::Text;
 
 impl Config {
     /// Whether two configurations are equal: the same statements with the same settings in the same order. It takes no
@@ -214,11 +214,12 @@ fn same_literal(left: &Literal, right: &Literal) -> bool
     }
 }
 
-fn same_pattern(left: &Pattern, right: &Pattern) -> bool
+fn same_pattern(left: &MatchPattern, right: &MatchPattern) -> bool
     ensures { IsTrue result ↔ (left.now ≡ right.now) }
 {
     match (left, right) {
-        (Pattern::Regexp(x), Pattern::Regexp(y)) | (Pattern::Text(x), Pattern::Text(y)) => x == y,
+        (MatchPattern::Regexp(x), MatchPattern::Regexp(y))
+        | (MatchPattern::Text(x), MatchPattern::Text(y)) => x == y,
         _ => false,
     }
 }

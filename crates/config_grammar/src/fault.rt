@@ -1,4 +1,4 @@
-use plain_lists::Text;
+use plain_data::Text;
 use std::alloc::AllocError;
 use thiserror::Error;
 

@@ -3,15 +3,14 @@
 ghost use Rattle.std.specs.Prelude.{◌≡◌, ◌==◌, ◌&&◌, ◌+◌, ◌-◌, ◌≤◌, ◌<◌, true, drop, take, length, slice_index, IfOk, IfSome, []};
 ghost use Rattle.config_grammar.specs.Bytes as parts;
 ghost use Rattle.config_grammar.specs.Lexemes as spec;
-ghost use Rattle.event_tree.specs.NumberTexts.{is_digit as is_digit_byte};
 
 use crate::bytes::{
-    begins, begins_number, closing, is_digit, is_letter, number_end, number_of, part_length, skip,
-    word_end,
+    begins_number, begins_with, closing, is_digit, is_letter, number_end, number_of, part_length,
+    skip, word_end,
 };
 use crate::context::Context;
 use crate::token::{Comparison, Conjunction, Disjunction, Lexeme, Matching, Section, Token, Word};
-use plain_lists::{Items, Text};
+use plain_data::{Items, Text};
 use std::alloc::{AllocError, Global};
 
 /// The context before the first token.
@@ -103,31 +102,35 @@ fn cut_between(alloc: Global, text: &str, from: usize, len: usize) -> Result<Tex
 fn word_of(text: Text) -> Word
     ensures { result ≡ spec.word_of text }
 {
-    let spelling = text.as_str();
-    if spelling == "if" {
-        Word::If
-    } else if spelling == "else" {
-        Word::Else
-    } else if spelling == "in" {
-        Word::In
-    } else if spelling == "not" {
-        Word::Not
-    } else if spelling == "and" {
-        Word::Conjunction(Conjunction::And)
-    } else if spelling == "nand" {
-        Word::Conjunction(Conjunction::Nand)
-    } else if spelling == "or" {
-        Word::Disjunction(Disjunction::Or)
-    } else if spelling == "xor" {
-        Word::Disjunction(Disjunction::Xor)
-    } else if spelling == "input" {
-        Word::Section(Section::Input)
-    } else if spelling == "filter" {
-        Word::Section(Section::Filter)
-    } else if spelling == "output" {
-        Word::Section(Section::Output)
-    } else {
-        Word::Other(text)
+    match text.as_str() {
+        "if" => Word::If,
+        "else" => Word::Else,
+        "in" => Word::In,
+        "not" => Word::Not,
+        _ => joint_word(text),
+    }
+}
+
+fn joint_word(text: Text) -> Word
+    ensures { result ≡ spec.joint_word text }
+{
+    match text.as_str() {
+        "and" => Word::Conjunction(Conjunction::And),
+        "nand" => Word::Conjunction(Conjunction::Nand),
+        "or" => Word::Disjunction(Disjunction::Or),
+        "xor" => Word::Disjunction(Disjunction::Xor),
+        _ => section_word(text),
+    }
+}
+
+fn section_word(text: Text) -> Word
+    ensures { result ≡ spec.section_word text }
+{
+    match text.as_str() {
+        "input" => Word::Section(Section::Input),
+        "filter" => Word::Section(Section::Filter),
+        "output" => Word::Section(Section::Output),
+        _ => Word::Other(text),
     }
 }
 
@@ -148,7 +151,7 @@ fn word_at(alloc: Global, inside: bool, text: &str, at: usize) -> Result<Found, 
     requires within { at < length text.now }
     requires letter { parts.is_letter (slice_index text.now at) ≡ true }
     ensures gives { IfOk result (λ found. found ≡ spec.word_at inside (drop at text.now)) }
-    ensures within { IfOk result (λ found. IfSome found (λ p. at + p.1 ≤ length text.now)) }
+    ensures within { IfOk result (spec.Fits at (length text.now)) }
 {
     let len = word_end(text.as_bytes(), at, !inside) - at;
     let word = cut_word(alloc, text, at, len)?;
@@ -159,7 +162,7 @@ fn number_at(alloc: Global, text: &str, at: usize) -> Result<Found, AllocError>
     requires within { at < length text.now }
     requires number { parts.begins_number (drop at text.now) ≡ true }
     ensures gives { IfOk result (λ found. found ≡ spec.number_at (drop at text.now)) }
-    ensures within { IfOk result (λ found. IfSome found (λ p. at + p.1 ≤ length text.now)) }
+    ensures within { IfOk result (spec.Fits at (length text.now)) }
 {
     let len = number_end(text.as_bytes(), at) - at;
     let spelling = cut_word(alloc, text, at, len)?;
@@ -175,7 +178,7 @@ fn quoted_at(alloc: Global, text: &str, from: usize, quote: u8) -> Result<Found,
     requires quote { slice_index text.now (from - 1) ≡ quote }
     requires ascii { quote < 128 }
     ensures gives { IfOk result (λ found. found ≡ spec.quoted_at quote (drop from text.now)) }
-    ensures within { IfOk result (λ found. IfSome found (λ p. from + p.1 ≤ 1 + length text.now)) }
+    ensures within { IfOk result (spec.Fits from (1 + length text.now)) }
 {
     match closing(text.as_bytes(), from, quote) {
         Some(len) => {
@@ -189,9 +192,9 @@ fn quoted_at(alloc: Global, text: &str, from: usize, quote: u8) -> Result<Found,
 /// Whether a backslash stands at `at`, and a `/` behind it.
 fn is_escape(bytes: &[u8], at: usize) -> bool
     requires { at < length bytes.now }
-    ensures { result ≡ (slice_index bytes.now at == 92 && parts.begins 47 (drop (at + 1) bytes.now)) }
+    ensures { result ≡ parts.is_escape bytes.now at }
 {
-    bytes[at] == 92 && begins(47, bytes, at + 1)
+    bytes[at] == b'\\' && begins_with(b'/', bytes, at + 1)
 }
 
 /// Without the backslash before each `/`.
@@ -216,9 +219,9 @@ fn regexp_at(alloc: Global, text: &str, from: usize) -> Result<Found, AllocError
     requires within { from ≤ length text.now }
     requires slash { slice_index text.now (from - 1) ≡ 47 }
     ensures gives { IfOk result (λ found. found ≡ spec.regexp_at (drop from text.now)) }
-    ensures within { IfOk result (λ found. IfSome found (λ p. from + p.1 ≤ 1 + length text.now)) }
+    ensures within { IfOk result (spec.Fits from (1 + length text.now)) }
 {
-    match closing(text.as_bytes(), from, 47) {
+    match closing(text.as_bytes(), from, b'/') {
         Some(len) => {
             let content = cut_between(alloc, text, from, len)?;
             let pattern = unescaped(alloc, content.as_str())?;
@@ -231,8 +234,8 @@ fn regexp_at(alloc: Global, text: &str, from: usize) -> Result<Found, AllocError
 /// The parts of a selector, and the place behind it.
 fn selector_at(alloc: Global, text: &str, from: usize) -> Result<Found, AllocError>
     requires { from ≤ length text.now }
-    ensures gives { IfOk result (λ found. found ≡ spec.selector_of (spec.parts_at (length (drop from text.now)) [] (drop from text.now))) }
-    ensures within { IfOk result (λ found. IfSome found (λ p. from + p.1 ≤ length text.now)) }
+    ensures gives { IfOk result (λ found. found ≡ spec.selector_at (drop from text.now)) }
+    ensures within { IfOk result (spec.Fits from (length text.now)) }
 {
     let mut parts = Items::new(alloc);
     let mut at = from;
@@ -258,13 +261,13 @@ fn begins_literals(bytes: &[u8], at: usize) -> bool
         return false;
     }
     let byte = bytes[at];
-    byte == 34 || byte == 39 || is_digit(byte) || byte == 45 || byte == 93
+    byte == b'"' || byte == b'\'' || is_digit(byte) || byte == b'-' || byte == b']'
 }
 
 fn bracket_at(alloc: Global, operand: bool, text: &str, at: usize) -> Result<Found, AllocError>
     requires { at < length text.now }
     ensures gives { IfOk result (λ found. found ≡ spec.bracket_at operand (drop at text.now)) }
-    ensures within { IfOk result (λ found. IfSome found (λ p. at + p.1 ≤ length text.now)) }
+    ensures within { IfOk result (spec.Fits at (length text.now)) }
 {
     let bytes = text.as_bytes();
     if operand && !begins_literals(bytes, skip(bytes, at + 1)) {
@@ -277,19 +280,19 @@ fn bracket_at(alloc: Global, operand: bool, text: &str, at: usize) -> Result<Fou
 fn double(first: u8, second: u8) -> Option<Token>
     ensures { result ≡ spec.double first second }
 {
-    if first == 61 && second == 62 {
+    if first == b'=' && second == b'>' {
         Some(Token::Arrow)
-    } else if first == 61 && second == 61 {
+    } else if first == b'=' && second == b'=' {
         Some(Token::Comparison(Comparison::Equal))
-    } else if first == 33 && second == 61 {
+    } else if first == b'!' && second == b'=' {
         Some(Token::Comparison(Comparison::Unequal))
-    } else if first == 60 && second == 61 {
+    } else if first == b'<' && second == b'=' {
         Some(Token::Comparison(Comparison::AtMost))
-    } else if first == 62 && second == 61 {
+    } else if first == b'>' && second == b'=' {
         Some(Token::Comparison(Comparison::AtLeast))
-    } else if first == 61 && second == 126 {
+    } else if first == b'=' && second == b'~' {
         Some(Token::Matching(Matching::Matches))
-    } else if first == 33 && second == 126 {
+    } else if first == b'!' && second == b'~' {
         Some(Token::Matching(Matching::MatchesNot))
     } else {
         None
@@ -299,23 +302,23 @@ fn double(first: u8, second: u8) -> Option<Token>
 fn single(byte: u8) -> Option<Token>
     ensures { result ≡ spec.single byte }
 {
-    if byte == 123 {
+    if byte == b'{' {
         Some(Token::OpenBrace)
-    } else if byte == 125 {
+    } else if byte == b'}' {
         Some(Token::CloseBrace)
-    } else if byte == 93 {
+    } else if byte == b']' {
         Some(Token::CloseBracket)
-    } else if byte == 40 {
+    } else if byte == b'(' {
         Some(Token::OpenParen)
-    } else if byte == 41 {
+    } else if byte == b')' {
         Some(Token::CloseParen)
-    } else if byte == 44 {
+    } else if byte == b',' {
         Some(Token::Comma)
-    } else if byte == 33 {
+    } else if byte == b'!' {
         Some(Token::Exclamation)
-    } else if byte == 60 {
+    } else if byte == b'<' {
         Some(Token::Comparison(Comparison::Less))
-    } else if byte == 62 {
+    } else if byte == b'>' {
         Some(Token::Comparison(Comparison::Greater))
     } else {
         None
@@ -352,7 +355,7 @@ fn sign_at(bytes: &[u8]) -> Found
 fn token_at(alloc: Global, context: Context, text: &str, at: usize) -> Result<Found, AllocError>
     requires { at < length text.now }
     ensures gives { IfOk result (λ found. found ≡ spec.token_at context (drop at text.now)) }
-    ensures within { IfOk result (λ found. IfSome found (λ p. at + p.1 ≤ length text.now)) }
+    ensures within { IfOk result (spec.Fits at (length text.now)) }
 {
     let bytes = text.as_bytes();
     let byte = bytes[at];
@@ -360,11 +363,11 @@ fn token_at(alloc: Global, context: Context, text: &str, at: usize) -> Result<Fo
         word_at(alloc, context.in_condition, text, at)
     } else if begins_number(bytes, at) {
         number_at(alloc, text, at)
-    } else if byte == 34 || byte == 39 {
+    } else if byte == b'"' || byte == b'\'' {
         quoted_at(alloc, text, at + 1, byte)
-    } else if byte == 47 {
+    } else if byte == b'/' {
         regexp_at(alloc, text, at + 1)
-    } else if byte == 91 {
+    } else if byte == b'[' {
         bracket_at(alloc, context.at_operand, text, at)
     } else {
         Ok(sign_at(&bytes[at..]))

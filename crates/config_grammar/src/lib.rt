@@ -6,17 +6,17 @@ mod context;
 mod copies;
 mod equality;
 mod fault;
-mod level;
 mod lexer;
+mod operators;
 mod readers;
 mod token;
 mod tree;
 
 pub use bytes::{is_in_word, is_letter};
 pub use fault::{FromFault, SettingFault};
-pub use level::Opener;
 pub use lexer::lexemes;
 pub use token::{Comparison, Conjunction, Disjunction, Lexeme, Matching, Section, Token, Word};
 pub use tree::{
-    Arm, Condition, Config, Literal, Operand, Pattern, Plugin, SettingValue, Settings, Statement,
+    Arm, Condition, Config, Literal, MatchPattern, Operand, Plugin, SettingValue, Settings,
+    Statement,
 };

@@ -2,12 +2,12 @@
 
 ghost use Rattle.std.specs.Prelude.{◌≡◌};
 ghost use Rattle.std.specs.Option.{option_copied};
-ghost use Rattle.config_grammar.specs.Readers.{value_at, flag_of, AsText, AsFlag, AsNumber, AsList, AsHash, IsWrongKind, Answers};
+ghost use Rattle.config_grammar.specs.Readers.{value_at, flag_of, AsText, AsFlag, AsNumber, AsList, AsHash, IsWrongKind, AnswersAt};
 
 use crate::fault::{FromFault, SettingFault};
 use crate::tree::{SettingValue, Settings};
 use event_tree::Number;
-use plain_lists::Text;
+use plain_data::Text;
 use std::slice;
 
 /// Each reader is `None` exactly where the name doesn't stand, and `Bad(WrongKind(name))` exactly where it stands with a
@@ -28,7 +28,7 @@ impl Settings {
 
     /// A text.
     pub fn text(&self, name: &str) -> Result<Option<&Text>, FromFault>
-        ensures { Answers AsText option_copied name.now (value_at name.now self.now.list) result }
+        ensures { AnswersAt AsText option_copied name.now self.now.list result }
     {
         match self.get(name) {
             None => Ok(None),
@@ -39,7 +39,7 @@ impl Settings {
 
     /// A flag: the text `true` or `false`.
     pub fn flag(&self, name: &str) -> Result<Option<bool>, FromFault>
-        ensures { Answers AsFlag (λ found. found) name.now (value_at name.now self.now.list) result }
+        ensures { AnswersAt AsFlag (λ found. found) name.now self.now.list result }
     {
         match self.get(name) {
             None => Ok(None),
@@ -53,7 +53,7 @@ impl Settings {
 
     /// A number: a number, or a text that `Number::read` reads.
     pub fn number(&self, name: &str) -> Result<Option<Number>, FromFault>
-        ensures { Answers AsNumber (λ found. found) name.now (value_at name.now self.now.list) result }
+        ensures { AnswersAt AsNumber (λ found. found) name.now self.now.list result }
     {
         match self.get(name) {
             None => Ok(None),
@@ -68,7 +68,7 @@ impl Settings {
 
     /// A list: an array, and a single text or number as a list of one.
     pub fn list(&self, name: &str) -> Result<Option<&[SettingValue]>, FromFault>
-        ensures { Answers AsList option_copied name.now (value_at name.now self.now.list) result }
+        ensures { AnswersAt AsList option_copied name.now self.now.list result }
     {
         match self.get(name) {
             None => Ok(None),
@@ -82,7 +82,7 @@ impl Settings {
 
     /// A hash: its keys with their values, in the order of the text.
     pub fn hash(&self, name: &str) -> Result<Option<&[(Text, SettingValue)]>, FromFault>
-        ensures { Answers AsHash option_copied name.now (value_at name.now self.now.list) result }
+        ensures { AnswersAt AsHash option_copied name.now self.now.list result }
     {
         match self.get(name) {
             None => Ok(None),

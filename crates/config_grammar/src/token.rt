@@ -1,7 +1,7 @@
 //! The tokens of a configuration's text.
 
 use event_tree::Number;
-use plain_lists::{Items, Text};
+use plain_data::{Items, Text};
 
 /// A token.
 pub enum Token {

@@ -1,12 +1,10 @@
 //! What a configuration says.
 
 use event_tree::{Number, Path};
-use plain_boxes::Boxed;
-use plain_lists::{Items, Text};
+use plain_data::{Boxed, Items, Text};
 
 /// A configuration: the statements of its sections, those of one kind joined in the order of the text.
 /// It holds no places, so blanks and comments make no difference to it.
-#[derive(Drop)]
 pub struct Config {
     pub inputs: Items<Plugin>,
     pub filters: Items<Statement>,
@@ -74,8 +72,8 @@ pub enum Condition {
     Greater(Operand, Operand),
     AtMost(Operand, Operand),
     AtLeast(Operand, Operand),
-    Matches(Operand, Pattern),
-    MatchesNot(Operand, Pattern),
+    Matches(Operand, MatchPattern),
+    MatchesNot(Operand, MatchPattern),
     In(Operand, Operand),
     NotIn(Operand, Operand),
 }
@@ -96,15 +94,25 @@ pub enum Literal {
 }
 
 /// The right side of `=~` and `!~`.
-pub enum Pattern {
+pub enum MatchPattern {
     /// Between two `/`.
     Regexp(Text),
     /// Between quotes.
     Text(Text),
 }
 
-// The drops of what conditions are made of are written out, so that where a condition is dropped a proof sees one call
-// for each of its parts, and not the drop of each of their variants.
+// The drops of configurations and of what conditions are made of are written out, so that where one is dropped a proof
+// sees one call for each of its parts, and not the drop of each of their variants.
+
+impl Drop for Config {
+    fn drop(self) {
+        let Config {
+            inputs: _inputs,
+            filters: _filters,
+            outputs: _outputs,
+        } = self;
+    }
+}
 
 impl Drop for Operand {
     fn drop(self) {
@@ -126,11 +134,11 @@ impl Drop for Literal {
     }
 }
 
-impl Drop for Pattern {
+impl Drop for MatchPattern {
     fn drop(self) {
         match self {
-            Pattern::Regexp(_text) => {}
-            Pattern::Text(_text) => {}
+            MatchPattern::Regexp(_text) => {}
+            MatchPattern::Text(_text) => {}
         }
     }
 }

@@ -1,10 +1,10 @@
 -- The machine stops at the first token that opens a level too many.
 use Rattle.std.proofs.Common.{◌≡◌, ℕ, suc, ◌+◌, ◌≤◌, List, [], ◌∷◌, ◌++◌, length, refl, ap, subst, ◌∙◌, arith, Bool, true, false, append_assoc, length-append}
 use Rattle.config_grammar.specs.declared.token.Token.{Token}
-use Rattle.config_laws.specs.declared.symbol.Symbol.TheVariants as y
-use Rattle.config_laws.specs.declared.symbol.Verdict.TheVariants as is
+use Rattle.config_laws.specs.Symbols as y
+use Rattle.config_laws.specs.Verdicts as is
 use Rattle.config_grammar.specs.Levels.{after_all, IsDeep, IsSyntax}
-use Rattle.config_laws.specs.Machine.{Stack, Step, stuck, deep, goes, run, step, go, may_end, ends}
+use Rattle.config_laws.specs.Machine.{Stack, Step, stuck, deep, goes, verdict_from, step, go, may_end, ends}
 use Rattle.config_laws.proofs.Exact.{walk, onward, viable, walk_grows, is_fault}
 use Rattle.config_laws.proofs.Levels.{shape, Fits, step_good, step_deep}
 
@@ -63,7 +63,7 @@ record Split (d : ℕ) (k : Stack) (ts : List Token) (left : ℕ) : Type 0 where
   walked_is : walk d k used ≡ goes left_level stack
   deep_is : step left_level stack token ≡ deep
 
-split : (d : ℕ) (k : Stack) (ts : List Token) (n : ℕ) → run d k ts ≡ is.Deep n → Split d k ts n
+split : (d : ℕ) (k : Stack) (ts : List Token) (n : ℕ) → verdict_from d k ts ≡ is.Deep n → Split d k ts n
 split d k [] n h = at (may_end k) h
   where
     at : (b : Bool) → ends b ≡ is.Deep n → Split d k [] n
@@ -71,7 +71,7 @@ split d k [] n h = at (may_end k) h
     at false f = absurd (cc)
 split d k (z ∷ ts) n h = at (step d k z) refl (λ e_ j_ g. split e_ j_ ts n g) h
   where
-    at : (s : Step) → step d k z ≡ s → ((e_ : ℕ) (j_ : Stack) → run e_ j_ ts ≡ is.Deep n → Split e_ j_ ts n) → go s (suc (length ts)) (λ e_ j_. run e_ j_ ts) ≡ is.Deep n
+    at : (s : Step) → step d k z ≡ s → ((e_ : ℕ) (j_ : Stack) → verdict_from e_ j_ ts ≡ is.Deep n → Split e_ j_ ts n) → go s (suc (length ts)) (λ e_ j_. verdict_from e_ j_ ts) ≡ is.Deep n
         → Split d k (z ∷ ts) n
     at stuck is again f = absurd (cc)
     at deep is again f = record { used = []; token = z; behind = ts; left_level = d; stack = k; whole = refl; place = cc; walked_is = refl; deep_is = is }
@@ -89,7 +89,7 @@ split d k (z ∷ ts) n h = at (step d k z) refl (λ e_ j_ g. split e_ j_ ts n g)
           deep_is = s.deep_is;
         }
 
-pub is_deep : (d : ℕ) (ts : List Token) (n : ℕ) → run d (y.Sections ∷ []) ts ≡ is.Deep n → IsDeep d ts n
+pub is_deep : (d : ℕ) (ts : List Token) (n : ℕ) → verdict_from d (y.Sections ∷ []) ts ≡ is.Deep n → IsDeep d ts n
 is_deep d ts n h =
     let s = split d (y.Sections ∷ []) ts n h in
     let z = step_deep s.left_level s.stack s.token s.deep_is in
@@ -111,17 +111,17 @@ is_deep d ts n h =
     }
 
 -- what stands before the fault was walked
-before : (d : ℕ) (k : Stack) (a b : List Token) (n : ℕ) → run d k (a ++ b) ≡ is.Syntax n → n ≤ length b → (e : ℕ) × (j : Stack) × (walk d k a ≡ goes e j)
+before : (d : ℕ) (k : Stack) (a b : List Token) (n : ℕ) → verdict_from d k (a ++ b) ≡ is.Syntax n → n ≤ length b → (e : ℕ) × (j : Stack) × (walk d k a ≡ goes e j)
 before d k [] b n h l = (d, k, refl)
 before d k (z ∷ a) b n h l = at (step d k z) (λ e_ j_ g. before e_ j_ a b n g l) h
   where
-    at : (s : Step) → ((e_ : ℕ) (j_ : Stack) → run e_ j_ (a ++ b) ≡ is.Syntax n → (e : ℕ) × (j : Stack) × (walk e_ j_ a ≡ goes e j))
-        → go s (suc (length (a ++ b))) (λ e_ j_. run e_ j_ (a ++ b)) ≡ is.Syntax n → (e : ℕ) × (j : Stack) × (onward s (λ e_ j_. walk e_ j_ a) ≡ goes e j)
+    at : (s : Step) → ((e_ : ℕ) (j_ : Stack) → verdict_from e_ j_ (a ++ b) ≡ is.Syntax n → (e : ℕ) × (j : Stack) × (walk e_ j_ a ≡ goes e j))
+        → go s (suc (length (a ++ b))) (λ e_ j_. verdict_from e_ j_ (a ++ b)) ≡ is.Syntax n → (e : ℕ) × (j : Stack) × (onward s (λ e_ j_. walk e_ j_ a) ≡ goes e j)
     at stuck again f = let q : suc (length (a ++ b)) ≡ n = cc in absurd (omega (arith, q, length-append a b))
     at deep again f = absurd (cc)
     at (goes e_ j_) again f = again e_ j_ f
 
-pub is_syntax : (d : ℕ) (ts : List Token) (n : ℕ) → run d (y.Sections ∷ []) ts ≡ is.Syntax n → IsSyntax d ts n
+pub is_syntax : (d : ℕ) (ts : List Token) (n : ℕ) → verdict_from d (y.Sections ∷ []) ts ≡ is.Syntax n → IsSyntax d ts n
 is_syntax d ts n h =
     let f = is_fault d ts n h in
     record {
@@ -129,7 +129,7 @@ is_syntax d ts n h =
       within = λ a b e.
           let p = f.place in
           let w : ts ≡ a ++ (b ++ f.rest) = f.whole ∙ ap (λ l. l ++ f.rest) e ∙ append_assoc a b f.rest in
-          let q = before d (y.Sections ∷ []) a (b ++ f.rest) n (subst (λ l. run d (y.Sections ∷ []) l ≡ is.Syntax n) w h) (omega (arith, p, length-append b f.rest)) in
+          let q = before d (y.Sections ∷ []) a (b ++ f.rest) n (subst (λ l. verdict_from d (y.Sections ∷ []) l ≡ is.Syntax n) w h) (omega (arith, p, length-append b f.rest)) in
           let g = walked d (y.Sections ∷ []) a q.0 q.1 (refl, tt) q.2 in
           let gl = g.levels in let gs = ap length g.shape_is in omega (arith, gl, gs);
     }

@@ -1,5 +1,6 @@
 -- Each stack can be completed, so where the machine is stuck, and only there, no configuration goes on.
 use Rattle.std.proofs.Common.{◌≡◌, ℕ, zero, suc, ◌+◌, List, [], ◌∷◌, ◌++◌, length, Option, Some, None, Bool, true, false, refl, ap, sym, subst, ◌∙◌, arith, append_assoc}
+use Rattle.std.proofs.lemmas.List.{append-nil}
 use Rattle.config_grammar.specs.declared.token.Token.{Token}
 use Rattle.config_grammar.specs.declared.token.Token.TheVariants as t
 use Rattle.config_grammar.specs.declared.token.Word.TheVariants as w
@@ -8,17 +9,13 @@ use Rattle.config_grammar.specs.declared.tree.Config.{Config}
 use Rattle.config_grammar.specs.Grammar.{ReadsConfig}
 use Rattle.config_grammar.specs.Joining.{empty}
 use Rattle.config_grammar.specs.Viable.{Viable, IsFault}
-use Rattle.config_laws.specs.declared.symbol.Symbol.{Symbol}
-use Rattle.config_laws.specs.declared.symbol.Symbol.TheVariants as y
-use Rattle.config_laws.specs.declared.symbol.Verdict.TheVariants as is
-use Rattle.config_laws.specs.Machine.{Stack, Move, refuses, stays, opens, shuts, Step, stuck, deep, goes, run, step, act, go, next, blank, rise, may_end, ends}
+use Rattle.config_laws.specs.Symbols.{Symbol}
+use Rattle.config_laws.specs.Symbols as y
+use Rattle.config_laws.specs.Verdicts as is
+use Rattle.config_laws.specs.Machine.{Stack, Move, refuses, stays, opens, shuts, Step, stuck, deep, goes, verdict_from, step, act, go, next, blank, rise, may_end, ends}
 use Rattle.config_laws.proofs.Trees.{outcome, run_told}
 use Rattle.config_laws.proofs.Takes.{take_sections}
 use Rattle.config_laws.proofs.Taken.{taken}
-
-pub append_nil : {A : Type 0} (xs : List A) → xs ≡ xs ++ []
-append_nil [] = refl
-append_nil (x ∷ xs) = ap (λ l. x ∷ l) (append_nil xs)
 
 -- what completes a symbol
 abbrev least : Symbol → List Token
@@ -72,36 +69,36 @@ finish_plain (y.Sections ∷ k) = finish_plain k
 finish_plain (y.Value ∷ k) = refl
 finish_plain (x ∷ k) = refl
 
-skip_and : (d : ℕ) (k : Stack) (ts : List Token) → plain ts ≡ true → run d (y.Ands ∷ k) ts ≡ run d k ts
+skip_and : (d : ℕ) (k : Stack) (ts : List Token) → plain ts ≡ true → verdict_from d (y.Ands ∷ k) ts ≡ verdict_from d k ts
 skip_and d k [] h = refl
 skip_and d k (t.Word (w.Conjunction j) ∷ ts) h = absurd (cc)
 skip_and d k (t.Word a ∷ ts) h = refl
 skip_and d k (z ∷ ts) h = refl
 
-skip_or : (d : ℕ) (k : Stack) (ts : List Token) → plain ts ≡ true → run d (y.Ors ∷ k) ts ≡ run d k ts
+skip_or : (d : ℕ) (k : Stack) (ts : List Token) → plain ts ≡ true → verdict_from d (y.Ors ∷ k) ts ≡ verdict_from d k ts
 skip_or d k [] h = refl
 skip_or d k (t.Word (w.Disjunction j) ∷ ts) h = absurd (cc)
 skip_or d k (t.Word a ∷ ts) h = refl
 skip_or d k (z ∷ ts) h = refl
 
-skip_not : (d : ℕ) (k : Stack) (ts : List Token) → run d (y.NotEnd ∷ k) ts ≡ run (suc d) k ts
+skip_not : (d : ℕ) (k : Stack) (ts : List Token) → verdict_from d (y.NotEnd ∷ k) ts ≡ verdict_from (suc d) k ts
 skip_not d k [] = refl
 skip_not d k (z ∷ ts) = refl
 
-skip_else : (d : ℕ) (k : Stack) (ts : List Token) → plain ts ≡ true → run d (y.Otherwise ∷ k) ts ≡ run d k ts
+skip_else : (d : ℕ) (k : Stack) (ts : List Token) → plain ts ≡ true → verdict_from d (y.Otherwise ∷ k) ts ≡ verdict_from d k ts
 skip_else d k [] h = refl
 skip_else d k (t.Word w.Else ∷ ts) h = absurd (cc)
 skip_else d k (t.Word a ∷ ts) h = refl
 skip_else d k (z ∷ ts) h = refl
 
-skip_sections : (d : ℕ) (k : Stack) (ts : List Token) → plain ts ≡ true → run d (y.Sections ∷ k) ts ≡ run d k ts
+skip_sections : (d : ℕ) (k : Stack) (ts : List Token) → plain ts ≡ true → verdict_from d (y.Sections ∷ k) ts ≡ verdict_from d k ts
 skip_sections d k [] h = refl
 skip_sections d k (t.Word (w.Section j) ∷ ts) h = absurd (cc)
 skip_sections d k (t.Word a ∷ ts) h = refl
 skip_sections d k (z ∷ ts) h = refl
 
 -- every stack can be completed, with one level to spare
-completes : (k : Stack) (d : ℕ) → run (suc d) k (finish k) ≡ is.Reads
+completes : (k : Stack) (d : ℕ) → verdict_from (suc d) k (finish k) ≡ is.Reads
 completes [] d = refl
 completes (y.Value ∷ k) d = completes k d
 completes (y.Nest ∷ k) d = completes k d
@@ -141,12 +138,12 @@ abbrev pub walk : ℕ → Stack → List Token → Step
 walk d k [] = goes d k
 walk d k (z ∷ ts) = onward (step d k z) (λ e j. walk e j ts)
 
-walk_run : (d : ℕ) (k : Stack) (used : List Token) (e : ℕ) (j : Stack) (rest : List Token) → walk d k used ≡ goes e j → run d k (used ++ rest) ≡ run e j rest
-walk_run d k [] e j rest h = let p : d ≡ e = cc in let q : k ≡ j = cc in ap (λ i. run i k rest) p ∙ ap (λ i. run e i rest) q
+walk_run : (d : ℕ) (k : Stack) (used : List Token) (e : ℕ) (j : Stack) (rest : List Token) → walk d k used ≡ goes e j → verdict_from d k (used ++ rest) ≡ verdict_from e j rest
+walk_run d k [] e j rest h = let p : d ≡ e = cc in let q : k ≡ j = cc in ap (λ i. verdict_from i k rest) p ∙ ap (λ i. verdict_from e i rest) q
 walk_run d k (z ∷ used) e j rest h = at (step d k z) (λ e_ j_ g. walk_run e_ j_ used e j rest g) h
   where
-    at : (s : Step) → ((e_ : ℕ) (j_ : Stack) → walk e_ j_ used ≡ goes e j → run e_ j_ (used ++ rest) ≡ run e j rest) → onward s (λ e_ j_. walk e_ j_ used) ≡ goes e j
-        → go s (suc (length (used ++ rest))) (λ e_ j_. run e_ j_ (used ++ rest)) ≡ run e j rest
+    at : (s : Step) → ((e_ : ℕ) (j_ : Stack) → walk e_ j_ used ≡ goes e j → verdict_from e_ j_ (used ++ rest) ≡ verdict_from e j rest) → onward s (λ e_ j_. walk e_ j_ used) ≡ goes e j
+        → go s (suc (length (used ++ rest))) (λ e_ j_. verdict_from e_ j_ (used ++ rest)) ≡ verdict_from e j rest
     at stuck again f = absurd (cc)
     at deep again f = absurd (cc)
     at (goes e_ j_) again f = again e_ j_ f
@@ -192,15 +189,15 @@ walk_grows d k (z ∷ used) e j h = at (step d k z) refl (λ e_ j_ g. walk_grows
     at deep is again f = absurd (cc)
     at (goes e_ j_) is again f = ap (λ z. onward z (λ a b. walk a b used)) (step_grows d k z e_ j_ is) ∙ again e_ j_ f
 
-run_grows : (d : ℕ) (k : Stack) (ts : List Token) → run d k ts ≡ is.Reads → run (suc d) k ts ≡ is.Reads
+run_grows : (d : ℕ) (k : Stack) (ts : List Token) → verdict_from d k ts ≡ is.Reads → verdict_from (suc d) k ts ≡ is.Reads
 run_grows d k [] h = h
 run_grows d k (z ∷ ts) h = at (step d k z) refl (λ e_ j_ g. run_grows e_ j_ ts g) h
   where
-    at : (s : Step) → step d k z ≡ s → ((e_ : ℕ) (j_ : Stack) → run e_ j_ ts ≡ is.Reads → run (suc e_) j_ ts ≡ is.Reads) → go s (suc (length ts)) (λ e_ j_. run e_ j_ ts) ≡ is.Reads
-        → go (step (suc d) k z) (suc (length ts)) (λ e_ j_. run e_ j_ ts) ≡ is.Reads
+    at : (s : Step) → step d k z ≡ s → ((e_ : ℕ) (j_ : Stack) → verdict_from e_ j_ ts ≡ is.Reads → verdict_from (suc e_) j_ ts ≡ is.Reads) → go s (suc (length ts)) (λ e_ j_. verdict_from e_ j_ ts) ≡ is.Reads
+        → go (step (suc d) k z) (suc (length ts)) (λ e_ j_. verdict_from e_ j_ ts) ≡ is.Reads
     at stuck is again f = absurd (cc)
     at deep is again f = absurd (cc)
-    at (goes e_ j_) is again f = ap (λ z. go z (suc (length ts)) (λ a b. run a b ts)) (step_grows d k z e_ j_ is) ∙ again e_ j_ f
+    at (goes e_ j_) is again f = ap (λ z. go z (suc (length ts)) (λ a b. verdict_from a b ts)) (step_grows d k z e_ j_ is) ∙ again e_ j_ f
 
 abbrev add : ℕ → ℕ → ℕ
 add zero d = d
@@ -214,7 +211,7 @@ walk_grows_by : (n d : ℕ) (k : Stack) (used : List Token) (e : ℕ) (j : Stack
 walk_grows_by zero d k used e j h = h
 walk_grows_by (suc n) d k used e j h = walk_grows (add n d) k used (add n e) j (walk_grows_by n d k used e j h)
 
-run_grows_by : (n d : ℕ) (k : Stack) (ts : List Token) → run d k ts ≡ is.Reads → run (add n d) k ts ≡ is.Reads
+run_grows_by : (n d : ℕ) (k : Stack) (ts : List Token) → verdict_from d k ts ≡ is.Reads → verdict_from (add n d) k ts ≡ is.Reads
 run_grows_by zero d k ts h = h
 run_grows_by (suc n) d k ts h = run_grows (add n d) k ts (run_grows_by n d k ts h)
 
@@ -234,7 +231,7 @@ record Split (d : ℕ) (k : Stack) (ts : List Token) (left : ℕ) : Type 0 where
   early : rest ≡ [] → may_end stack ≡ false
   wrong : (z : Token) (behind : List Token) → rest ≡ z ∷ behind → step level stack z ≡ stuck
 
-split : (d : ℕ) (k : Stack) (ts : List Token) (n : ℕ) → run d k ts ≡ is.Syntax n → Split d k ts n
+split : (d : ℕ) (k : Stack) (ts : List Token) (n : ℕ) → verdict_from d k ts ≡ is.Syntax n → Split d k ts n
 split d k [] n h = at (may_end k) refl h
   where
     at : (b : Bool) → may_end k ≡ b → ends b ≡ is.Syntax n → Split d k [] n
@@ -242,7 +239,7 @@ split d k [] n h = at (may_end k) refl h
     at false is f = record { used = []; rest = []; level = d; stack = k; whole = refl; place = cc; walked = refl; early = λ _. is; wrong = λ z behind e. absurd (cc) }
 split d k (z ∷ ts) n h = at (step d k z) refl (λ e_ j_ g. split e_ j_ ts n g) h
   where
-    at : (s : Step) → step d k z ≡ s → ((e_ : ℕ) (j_ : Stack) → run e_ j_ ts ≡ is.Syntax n → Split e_ j_ ts n) → go s (suc (length ts)) (λ e_ j_. run e_ j_ ts) ≡ is.Syntax n
+    at : (s : Step) → step d k z ≡ s → ((e_ : ℕ) (j_ : Stack) → verdict_from e_ j_ ts ≡ is.Syntax n → Split e_ j_ ts n) → go s (suc (length ts)) (λ e_ j_. verdict_from e_ j_ ts) ≡ is.Syntax n
         → Split d k (z ∷ ts) n
     at stuck is again f =
         record {
@@ -271,7 +268,7 @@ split d k (z ∷ ts) n h = at (step d k z) refl (λ e_ j_ g. split e_ j_ ts n g)
           wrong = s.wrong;
         }
 
-pub takes : (d : ℕ) (ts : List Token) (c : Config) → ReadsConfig d ts c → run d (y.Sections ∷ []) ts ≡ is.Reads
+pub takes : (d : ℕ) (ts : List Token) (c : Config) → ReadsConfig d ts c → verdict_from d (y.Sections ∷ []) ts ≡ is.Reads
 takes d ts c h = run_told d (y.Sections ∷ []) (λ p. p.0 empty) ts ∙ ap outcome (take_sections h)
 
 pub viable : (d : ℕ) (used : List Token) (e : ℕ) (j : Stack) → walk d (y.Sections ∷ []) used ≡ goes e j → Viable used
@@ -283,7 +280,7 @@ viable d used e j h =
 comm : (a b : ℕ) → add a b ≡ add b a
 comm a b = let p = add_is a b in let q = add_is b a in omega (arith, p, q)
 
-pub is_fault : (d : ℕ) (ts : List Token) (n : ℕ) → run d (y.Sections ∷ []) ts ≡ is.Syntax n → IsFault ts n
+pub is_fault : (d : ℕ) (ts : List Token) (n : ℕ) → verdict_from d (y.Sections ∷ []) ts ≡ is.Syntax n → IsFault ts n
 is_fault d ts n h =
     let s = split d (y.Sections ∷ []) ts n h in
     let grown = λ (l : ℕ). walk_grows_by l d (y.Sections ∷ []) s.used s.level s.stack s.walked in
@@ -295,15 +292,15 @@ is_fault d ts n h =
       stops = record {
         viable = viable d s.used s.level s.stack s.walked;
         early = λ e l c p.
-            let a : run (add d l) (y.Sections ∷ []) s.used ≡ is.Reads = run_grows_by d l (y.Sections ∷ []) s.used (takes l s.used c p) in
-            let b : run (add l d) (y.Sections ∷ []) s.used ≡ ends (may_end s.stack) = ap (run (add l d) (y.Sections ∷ [])) (append_nil s.used) ∙ walk_run (add l d) (y.Sections ∷ []) s.used (add l s.level) s.stack [] (grown l) in
-            let w : is.Reads ≡ is.Syntax 0 = sym a ∙ ap (λ i. run i (y.Sections ∷ []) s.used) (comm d l) ∙ b ∙ ap ends (s.early e) in absurd (cc);
+            let a : verdict_from (add d l) (y.Sections ∷ []) s.used ≡ is.Reads = run_grows_by d l (y.Sections ∷ []) s.used (takes l s.used c p) in
+            let b : verdict_from (add l d) (y.Sections ∷ []) s.used ≡ ends (may_end s.stack) = ap (verdict_from (add l d) (y.Sections ∷ [])) (sym (append-nil s.used)) ∙ walk_run (add l d) (y.Sections ∷ []) s.used (add l s.level) s.stack [] (grown l) in
+            let w : is.Reads ≡ is.Syntax 0 = sym a ∙ ap (λ i. verdict_from i (y.Sections ∷ []) s.used) (comm d l) ∙ b ∙ ap ends (s.early e) in absurd (cc);
         wrong = λ z behind e v.
             let l = v.levels in
             let a = run_grows_by d l (y.Sections ∷ []) ((s.used ++ z ∷ []) ++ v.more) (takes l ((s.used ++ z ∷ []) ++ v.more) v.config v.reads) in
             let b = walk_run (add l d) (y.Sections ∷ []) s.used (add l s.level) s.stack (z ∷ v.more) (grown l) in
             let g = step_stuck_by l s.level s.stack z (s.wrong z behind e) in
-            let w : is.Reads ≡ is.Syntax (suc (length v.more)) = sym a ∙ ap (λ i. run i (y.Sections ∷ []) ((s.used ++ z ∷ []) ++ v.more)) (comm d l)
-            ∙ ap (run (add l d) (y.Sections ∷ [])) (append_assoc s.used (z ∷ []) v.more) ∙ b ∙ ap (λ z. go z (suc (length v.more)) (λ a_ b_. run a_ b_ v.more)) g in absurd (cc);
+            let w : is.Reads ≡ is.Syntax (suc (length v.more)) = sym a ∙ ap (λ i. verdict_from i (y.Sections ∷ []) ((s.used ++ z ∷ []) ++ v.more)) (comm d l)
+            ∙ ap (verdict_from (add l d) (y.Sections ∷ [])) (append_assoc s.used (z ∷ []) v.more) ∙ b ∙ ap (λ z. go z (suc (length v.more)) (λ a_ b_. verdict_from a_ b_ v.more)) g in absurd (cc);
       };
     }

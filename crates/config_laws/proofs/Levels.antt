@@ -8,13 +8,13 @@ use Rattle.config_grammar.specs.declared.token.Section.TheVariants as kind
 use Rattle.config_grammar.specs.declared.tree.SettingValue.{SettingValue}
 use Rattle.config_grammar.specs.declared.tree.Operand.{Operand}
 use Rattle.config_grammar.specs.declared.tree.Literal.{Literal}
-use Rattle.config_grammar.specs.declared.tree.Pattern.{Pattern}
+use Rattle.config_grammar.specs.declared.tree.MatchPattern.{MatchPattern}
 use Rattle.config_grammar.specs.Words.{setting_name, plugin_name, key, scalar, literal, operand_token, pattern}
 use Rattle.config_grammar.specs.Levels.{Open, settled, after}
-use Rattle.config_grammar.specs.declared.level.Opener.TheVariants.{Bracket, Denial}
-use Rattle.config_laws.specs.declared.symbol.Symbol.{Symbol}
-use Rattle.config_laws.specs.declared.symbol.Symbol.TheVariants as y
-use Rattle.config_laws.specs.Machine.{Stack, Sem, Sems, Move, refuses, stays, opens, shuts, on_some, fresh, Step, stuck, deep, goes, step, act, is_blank, next, blank, rise}
+use Rattle.config_grammar.specs.Levels.{Bracket, Denial}
+use Rattle.config_laws.specs.Symbols.{Symbol}
+use Rattle.config_laws.specs.Symbols as y
+use Rattle.config_laws.specs.Machine.{Stack, Sem, Sems, Move, refuses, stays, opens, shuts, on_some, fresh, Step, deep, goes, step, act, is_blank, next, blank, rise}
 use Rattle.config_laws.specs.Machine as m
 use Rattle.config_laws.proofs.Exact.{rise_grows}
 use Rattle.config_grammar.specs.declared.tree.Statement.TheVariants as s
@@ -104,7 +104,7 @@ literal_after (t.Quoted s) x l h = refl
 literal_after (t.Number n s) x l h = refl
 literal_after z x l h = absurd (cc)
 
-pattern_after : (z : Token) (x : Pattern) (l : Open) → pattern z ≡ Some x → l ≡ after l z
+pattern_after : (z : Token) (x : MatchPattern) (l : Open) → pattern z ≡ Some x → l ≡ after l z
 pattern_after (t.Quoted s) x l h = refl
 pattern_after (t.Regexp s) x l h = refl
 pattern_after z x l h = absurd (cc)

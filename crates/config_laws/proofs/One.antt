@@ -5,12 +5,12 @@ use Rattle.config_grammar.specs.declared.tree.Config.{Config}
 use Rattle.config_grammar.specs.Grammar.{ReadsConfig}
 use Rattle.config_grammar.specs.Viable.{Viable, IsFault}
 use Rattle.config_grammar.specs.Levels.{IsDeep, IsSyntax, level}
-use Rattle.config_laws.specs.Machine.{Stack, Step, stuck, deep, goes, run, step, go}
-use Rattle.config_laws.specs.declared.symbol.Symbol.TheVariants as y
-use Rattle.config_laws.specs.declared.symbol.Verdict.TheVariants as is
+use Rattle.config_laws.specs.Machine.{Stack, Step, stuck, deep, goes, verdict_from, step, go}
+use Rattle.config_laws.specs.Symbols as y
+use Rattle.config_laws.specs.Verdicts as is
 use Rattle.config_laws.proofs.Exact.{walk, onward, takes}
 use Rattle.config_laws.proofs.Deep.{walked}
-use Rattle.config_laws.proofs.Exact.{append_nil}
+use Rattle.std.proofs.lemmas.List.{append-nil}
 
 viable_front : (a b : List Token) → Viable (a ++ b) → Viable a
 viable_front a b v = record { levels = v.levels; more = b ++ v.more; config = v.config; reads = subst (λ l. ReadsConfig v.levels l v.config) (append_assoc a b v.more) v.reads }
@@ -41,7 +41,7 @@ pub read_fault : (d : ℕ) (ts : List Token) (c : Config) (l : ℕ) → ReadsCon
 read_fault d ts c l h f = at f.rest refl
   where
     at : (r : List Token) → f.rest ≡ r → ⊥
-    at [] e = f.stops.early e d c (subst (λ z. ReadsConfig d z c) (f.whole ∙ ap (λ z. f.used ++ z) e ∙ sym (append_nil f.used)) h)
+    at [] e = f.stops.early e d c (subst (λ z. ReadsConfig d z c) (f.whole ∙ ap (λ z. f.used ++ z) e ∙ append-nil f.used) h)
     at (z ∷ b) e = f.stops.wrong z b e (record { levels = d; more = b; config = c; reads = subst (λ z. ReadsConfig d z c) (f.whole ∙ ap (λ z. f.used ++ z) e ∙ sym (append_assoc f.used (z ∷ []) b)) h })
 
 pub syntax_deep : (d : ℕ) (ts : List Token) (l k : ℕ) → IsSyntax d ts l → IsDeep d ts k → ⊥
@@ -52,15 +52,15 @@ syntax_deep d ts l k f g =
     elim (cuts u g.behind f.fault.used f.fault.rest e) [
       | inl r ↦ (let p : level u ≤ d = f.within u r.0 r.1 in absurd (omega (arith, p, q)))
       | inr r ↦ (let n = past ts l f.fault u r.0 g.behind g.viable r.1 r.2 in
-          let i : f.fault.used ≡ u ++ [] = sym (r.1 ∙ ap (λ w. f.fault.used ++ w) n ∙ sym (append_nil f.fault.used)) ∙ append_nil u in
+          let i : f.fault.used ≡ u ++ [] = sym (r.1 ∙ ap (λ w. f.fault.used ++ w) n ∙ append-nil f.fault.used) ∙ sym (append-nil u) in
           let p : level u ≤ d = f.within u [] i in absurd (omega (arith, p, q)))
     ]
 
-fronts : (d : ℕ) (k : Stack) (a b : List Token) → run d k (a ++ b) ≡ is.Reads → (e : ℕ) × (j : Stack) × (walk d k a ≡ goes e j)
+fronts : (d : ℕ) (k : Stack) (a b : List Token) → verdict_from d k (a ++ b) ≡ is.Reads → (e : ℕ) × (j : Stack) × (walk d k a ≡ goes e j)
 fronts d k [] b h = (d, k, refl)
 fronts d k (z ∷ a) b h = at (step d k z) (λ e_ j_ g. fronts e_ j_ a b g) h
   where
-    at : (s : Step) → ((e_ : ℕ) (j_ : Stack) → run e_ j_ (a ++ b) ≡ is.Reads → (e : ℕ) × (j : Stack) × (walk e_ j_ a ≡ goes e j)) → go s (suc (length (a ++ b))) (λ e_ j_. run e_ j_ (a ++ b)) ≡ is.Reads
+    at : (s : Step) → ((e_ : ℕ) (j_ : Stack) → verdict_from e_ j_ (a ++ b) ≡ is.Reads → (e : ℕ) × (j : Stack) × (walk e_ j_ a ≡ goes e j)) → go s (suc (length (a ++ b))) (λ e_ j_. verdict_from e_ j_ (a ++ b)) ≡ is.Reads
         → (e : ℕ) × (j : Stack) × (onward s (λ e_ j_. walk e_ j_ a) ≡ goes e j)
     at stuck again f = absurd (cc)
     at deep again f = absurd (cc)
@@ -69,7 +69,7 @@ fronts d k (z ∷ a) b h = at (step d k z) (λ e_ j_ g. fronts e_ j_ a b g) h
 pub read_deep : (d : ℕ) (ts : List Token) (c : Config) (k : ℕ) → ReadsConfig d ts c → IsDeep d ts k → ⊥
 read_deep d ts c k h g =
     let u = g.used ++ g.token ∷ [] in
-    let q = fronts d (y.Sections ∷ []) u g.behind (subst (λ l. run d (y.Sections ∷ []) l ≡ is.Reads) (g.whole ∙ sym (append_assoc g.used (g.token ∷ []) g.behind)) (takes d ts c h)) in
+    let q = fronts d (y.Sections ∷ []) u g.behind (subst (λ l. verdict_from d (y.Sections ∷ []) l ≡ is.Reads) (g.whole ∙ sym (append_assoc g.used (g.token ∷ []) g.behind)) (takes d ts c h)) in
     let w = walked d (y.Sections ∷ []) u q.0 q.1 (refl, tt) q.2 in
     let wl = w.levels in let ws = ap length w.shape_is in let gd = g.deep in omega (arith, wl, ws, gd)
 

@@ -20,11 +20,11 @@ use Rattle.config_grammar.specs.declared.tree.Config.{Config}
 use Rattle.config_grammar.specs.Grammar as g
 use Rattle.config_grammar.specs.Words.{spelling, setting_name, plugin_name, key, scalar, literal, operand_token, pattern, conjoined, disjoined, compared, matched}
 use Rattle.config_grammar.specs.Joining.{Entries, with_setting, plugin_of, empty, with_inputs, with_filters, with_outputs}
-use Rattle.config_laws.specs.declared.symbol.Symbol.{Symbol}
-use Rattle.config_laws.specs.declared.symbol.Symbol.TheVariants as y
+use Rattle.config_laws.specs.Symbols.{Symbol}
+use Rattle.config_laws.specs.Symbols as y
 use Rattle.config_laws.specs.Machine.{Stack, Sem, Sems, Move, refuses, stays, opens, shuts, on_some, fresh, next, blank, rise, next_value, next_members, next_pairs, next_settings, next_literals, next_operand, next_unary, next_statements, next_plugins, arm_of, last_arm}
-use Rattle.config_laws.specs.Machine.{Step, stuck, deep, goes, act, step, is_blank, may_end, ends, go, run, next_nest, next_more, next_arrow, next_block, next_more_literals, next_tail, next_in, next_ands, next_ors, next_close_paren, next_otherwise, next_else, next_sections}
-use Rattle.config_laws.specs.declared.symbol.Verdict.TheVariants as is
+use Rattle.config_laws.specs.Machine.{Step, stuck, deep, goes, act, step, is_blank, may_end, ends, go, verdict_from, next_nest, next_more, next_arrow, next_block, next_more_literals, next_tail, next_in, next_ands, next_ors, next_close_paren, next_otherwise, next_else, next_sections}
+use Rattle.config_laws.specs.Verdicts as is
 use Rattle.config_laws.specs.Trees.{front, back}
 use Rattle.config_laws.proofs.Takes.{keys_of, keys_more, has_keys, some_is}
 
@@ -451,7 +451,7 @@ end_back d (x ∷ k) h = at (blank x) (blank_of x) (λ g. end_back (rise x d) k 
     at (Some v_) u again g = let r = again g in ((v_, r.0), record { part = []; rest = []; whole = refl; here = u d; later = r.1 })
 
 -- what the machine takes
-run_back : (d : ℕ) (k : Stack) (ts : List Token) → run d k ts ≡ is.Reads → (p : Sems k) × All d k ts p
+run_back : (d : ℕ) (k : Stack) (ts : List Token) → verdict_from d k ts ≡ is.Reads → (p : Sems k) × All d k ts p
 run_back d k [] h = end_back d k (ended (may_end k) h)
   where
     ended : (b : Bool) → ends b ≡ is.Reads → b ≡ true
@@ -459,12 +459,12 @@ run_back d k [] h = end_back d k (ended (may_end k) h)
     ended false g = absurd (cc)
 run_back d k (z ∷ ts) h = step_back d k z ts (at (step d k z) (λ e j g. run_back e j ts g) h)
   where
-    at : (r : Step) → ((e : ℕ) (j : Stack) → run e j ts ≡ is.Reads → (p : Sems j) × All e j ts p) → go r (suc (length ts)) (λ e j. run e j ts) ≡ is.Reads → Left ts r
+    at : (r : Step) → ((e : ℕ) (j : Stack) → verdict_from e j ts ≡ is.Reads → (p : Sems j) × All e j ts p) → go r (suc (length ts)) (λ e j. verdict_from e j ts) ≡ is.Reads → Left ts r
     at stuck again g = absurd (cc)
     at deep again g = absurd (cc)
     at (goes e j) again g = again e j g
 
-pub taken : (d : ℕ) (ts : List Token) → run d (y.Sections ∷ []) ts ≡ is.Reads → (all : Config) × g.ReadsConfig d ts all
+pub taken : (d : ℕ) (ts : List Token) → verdict_from d (y.Sections ∷ []) ts ≡ is.Reads → (all : Config) × g.ReadsConfig d ts all
 taken d ts h =
     let r = run_back d (y.Sections ∷ []) ts h in
     (r.0.0 empty, to (λ l. g.ReadsConfig d l (r.0.0 empty)) (pad r.1.part r.1.whole r.1.later) (r.1.here empty))

@@ -19,10 +19,10 @@ use Rattle.config_grammar.specs.declared.tree.Config.{Config}
 use Rattle.config_grammar.specs.Grammar as g
 use Rattle.config_grammar.specs.Words.{bareword, setting_name, plugin_name, key, scalar, literal, operand_token, conjoined, disjoined, compared, matched}
 use Rattle.config_grammar.specs.Joining.{Entries, has, with_setting, plugin_of, with_inputs, with_filters, with_outputs}
-use Rattle.config_laws.specs.declared.symbol.Symbol.{Symbol}
-use Rattle.config_laws.specs.declared.symbol.Symbol.TheVariants as y
+use Rattle.config_laws.specs.Symbols.{Symbol}
+use Rattle.config_laws.specs.Symbols as y
 use Rattle.config_laws.specs.Machine.{Stack, Sem, Sems, Move, stays, on_some, fresh, next, blank, rise, next_value, next_pairs, next_settings, next_literals, next_operand, next_unary, next_statements, next_plugins, condition, arm_of, last_arm}
-use Rattle.config_laws.specs.declared.symbol.Verdict.{Verdict}
+use Rattle.config_laws.specs.Verdicts.{Verdict}
 use Rattle.config_laws.specs.Trees.{act_with, step_with, run_with}
 
 pub some_is : {A : Type 0} {a b : A} → Some a ≡ Some b → a ≡ b

@@ -1,9 +1,9 @@
 -- The machine with trees and the one without take the same.
 use Rattle.std.proofs.Common.{◌≡◌, ℕ, zero, suc, List, [], ◌∷◌, ◌++◌, length, Option, Some, None, Ok, Err, ◌&&◌, refl}
 use Rattle.config_grammar.specs.declared.token.Token.{Token}
-use Rattle.config_laws.specs.declared.symbol.Verdict.{Verdict}
-use Rattle.config_laws.specs.declared.symbol.Verdict.TheVariants as is
-use Rattle.config_laws.specs.Machine.{Stack, Sem, Sems, Move, refuses, stays, opens, shuts, next, blank, rise, Step, act, step, is_blank, may_end, ends, go, run}
+use Rattle.config_laws.specs.Verdicts.{Verdict}
+use Rattle.config_laws.specs.Verdicts as is
+use Rattle.config_laws.specs.Machine.{Stack, Sem, Sems, Move, refuses, stays, opens, shuts, next, blank, rise, Step, act, step, is_blank, may_end, ends, go, verdict_from}
 use Rattle.config_laws.specs.Trees.{Made, Going, front, back, act_with, step_with, end_blank, end_with, run_with}
 
 abbrev pub outcome : {R : Type 0} → Made R → Verdict
@@ -36,6 +36,6 @@ module _ {R : Type 0} where
   step_told left d (x ∷ k) f z on on_ p =
       act_told (next x z) (blank x) (rise x) left d k f on (λ e g. step_with left e k g z on) (λ e. step e k z) on_ p (λ e g. step_told left e k g z on on_ p)
 
-  pub run_told : (d : ℕ) (k : Stack) (f : Sems k → R) (ts : List Token) → run d k ts ≡ outcome (run_with d k f ts)
+  pub run_told : (d : ℕ) (k : Stack) (f : Sems k → R) (ts : List Token) → verdict_from d k ts ≡ outcome (run_with d k f ts)
   run_told d k f [] = ends_told k f
-  run_told d k f (z ∷ ts) = step_told (suc (length ts)) d k f z (λ e j g. run_with e j g ts) (λ e j. run e j ts) (λ e j g. run_told e j g ts)
+  run_told d k f (z ∷ ts) = step_told (suc (length ts)) d k f z (λ e j g. run_with e j g ts) (λ e j. verdict_from e j ts) (λ e j g. run_told e j g ts)

@@ -1,4 +1,6 @@
+pub mod Symbols
+pub mod Verdicts
 pub mod Machine
 pub mod Trees
 pub mod Answers
-pub mod Verdicts
+pub mod Laws

@@ -12,7 +12,7 @@ use Rattle.config_grammar.specs.declared.tree.Condition.TheVariants as c
 use Rattle.config_grammar.specs.declared.tree.Operand.{Operand}
 use Rattle.config_grammar.specs.declared.tree.Operand.TheVariants as o
 use Rattle.config_grammar.specs.declared.tree.Literal.{Literal}
-use Rattle.config_grammar.specs.declared.tree.Pattern.{Pattern}
+use Rattle.config_grammar.specs.declared.tree.MatchPattern.{MatchPattern}
 use Rattle.config_grammar.specs.declared.tree.Plugin.{Plugin}
 use Rattle.config_grammar.specs.declared.tree.Arm.{Arm}
 use Rattle.config_grammar.specs.declared.tree.Statement.{Statement}
@@ -20,10 +20,10 @@ use Rattle.config_grammar.specs.declared.tree.Statement.TheVariants as s
 use Rattle.config_grammar.specs.declared.tree.Config.{Config}
 use Rattle.config_grammar.specs.Words.{spelling, setting_name, plugin_name, key, scalar, literal, operand_token, pattern, conjoined, disjoined, compared, matched}
 use Rattle.config_grammar.specs.Joining.{Entries, with_setting, plugin_of, with_inputs, with_filters, with_outputs}
-use Rattle.config_laws.specs.declared.symbol.Symbol.{Symbol}
-use Rattle.config_laws.specs.declared.symbol.Symbol.TheVariants as y
-use Rattle.config_laws.specs.declared.symbol.Verdict.{Verdict}
-use Rattle.config_laws.specs.declared.symbol.Verdict.TheVariants as is
+use Rattle.config_laws.specs.Symbols.{Symbol}
+use Rattle.config_laws.specs.Symbols as y
+use Rattle.config_laws.specs.Verdicts.{Verdict}
+use Rattle.config_laws.specs.Verdicts as is
 
 abbrev pub Stack : Type 0
 Stack = List Symbol
@@ -43,7 +43,7 @@ Sem y.Literals = List Literal
 Sem y.MoreLiterals = List Literal → List Literal
 Sem y.Operand = Operand
 Sem y.Tail = Operand → Condition
-Sem y.Pattern = Pattern
+Sem y.Pattern = MatchPattern
 Sem y.InWord = Unit {0}
 Sem y.Unary = Condition
 Sem y.Ands = Condition → Condition
@@ -282,10 +282,10 @@ go stuck left f = is.Syntax left
 go deep left f = is.Deep left
 go (goes d k) left f = f d k
 
-abbrev pub run : ℕ → Stack → List Token → Verdict
-run d k [] = ends (may_end k)
-run d k (z ∷ ts) = go (step d k z) (suc (length ts)) (λ e j. run e j ts)
+abbrev pub verdict_from : ℕ → Stack → List Token → Verdict
+verdict_from d k [] = ends (may_end k)
+verdict_from d k (z ∷ ts) = go (step d k z) (suc (length ts)) (λ e j. verdict_from e j ts)
 
 -- what a list of tokens is, in so many levels
 abbrev pub verdict : ℕ → List Token → Verdict
-verdict levels ts = run levels (y.Sections ∷ []) ts
+verdict levels ts = verdict_from levels (y.Sections ∷ []) ts

@@ -3,9 +3,9 @@ use Rattle.std.specs.Prelude.{ℕ, zero, suc, List, [], ◌∷◌, ◌++◌, len
 use Rattle.config_grammar.specs.declared.token.Token.{Token}
 use Rattle.config_grammar.specs.declared.tree.Config.{Config}
 use Rattle.config_grammar.specs.Joining.{empty}
-use Rattle.config_laws.specs.declared.symbol.Symbol.TheVariants as y
-use Rattle.config_laws.specs.declared.symbol.Verdict.{Verdict}
-use Rattle.config_laws.specs.declared.symbol.Verdict.TheVariants as is
+use Rattle.config_laws.specs.Symbols as y
+use Rattle.config_laws.specs.Verdicts.{Verdict}
+use Rattle.config_laws.specs.Verdicts as is
 use Rattle.config_laws.specs.Machine.{Stack, Sems, Move, refuses, stays, opens, shuts, next, blank, rise}
 
 abbrev pub front : (now k : Stack) → Sems (now ++ k) → Sems now

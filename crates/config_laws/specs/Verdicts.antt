@@ -1,10 +1,10 @@
--- Where a fault stands.
+-- What a list of tokens is.
 use Rattle.std.specs.Prelude.{ℕ}
-use Rattle.config_laws.specs.declared.symbol.Verdict.{Verdict}
-use Rattle.config_laws.specs.declared.symbol.Verdict.TheVariants as is
 
--- the number of tokens from the place of the fault on
-abbrev pub left_of : Verdict → ℕ
-left_of is.Reads = 0
-left_of (is.Syntax left) = left
-left_of (is.Deep left) = left
+-- a configuration; or a fault, with the number of tokens from its place on
+pub data Verdict : Type 0 where
+  Reads : Verdict
+  -- the first of those tokens can't stand where it stands; or, with none left, the tokens end early
+  Syntax : ℕ → Verdict
+  -- the first of those tokens opens a level too many
+  Deep : ℕ → Verdict

@@ -3,7 +3,5 @@
 #![tactic(auto)]
 
 mod laws;
-mod symbol;
 
-pub use laws::{has_an_answer, machine_is_right, one_answer, reads_once, verdict_is_right};
-pub use symbol::{Action, Symbol, Verdict};
+pub use laws::{has_an_answer, machine_is_right, one_answer, reads_once};

@@ -1,3 +1,5 @@
+pub mod Short
+pub mod Runs
 mod Turns
 mod Joined
 mod Placing

@@ -1,30 +1,30 @@
 -- What reading tells of the grammar, and what the answers tell of a text.
-use Rattle.std.proofs.Common.{◌≡◌, ℕ, ◌≤◌, ◌<◌, List, length, refl, ap, subst, ◌∙◌, Ok, Err, Result, arith, MatchResult}
+use Rattle.std.proofs.Common.{◌≡◌, ℕ, ◌≤◌, List, length, refl, ap, subst, ◌∙◌, Ok, Err, Result, arith, MatchResult}
 use Rattle.config_grammar.specs.declared.tree.Config.{Config}
 use Rattle.config_grammar.specs.Grammar.{ReadsConfig}
 use Rattle.config_grammar.specs.Levels.{IsSyntax, IsDeep}
 use Rattle.config_grammar.specs.declared.token.Lexeme.{Lexeme}
 use Rattle.config_grammar.specs.Lexemes.{lexemes, tokens, place_in}
 use Rattle.config_grammar.specs.Texts.{Reads, IsSyntaxAt, IsDeepAt}
-use Rattle.config_reading.specs.declared.error.ReadError.{ReadError}
-use Rattle.config_reading.specs.declared.error.ReadError.TheVariants as errors
-use Rattle.config_reading.specs.Seen.{seen}
+use Rattle.config_parse.specs.declared.error.ReadError.{ReadError}
+use Rattle.config_parse.specs.declared.error.ReadError.TheVariants as errors
+use Rattle.config_parse.specs.Seen.{tokens_of}
 use Rattle.config_parse.specs.Told.{ToldLeft, Told, placed}
 use Rattle.config_parse.specs.declared.fault.ConfigFault.{ConfigFault}
 use Rattle.config_parse.specs.declared.fault.ConfigFault.TheVariants as fault
 
 -- what the tokens of a text tell of the text
-seen_is : (text : List ℕ) → seen (lexemes text) ≡ tokens text
-unfolding seen
+seen_is : (text : List ℕ) → tokens_of (lexemes text) ≡ tokens text
+unfolding tokens_of
 seen_is text = refl
 
-pub text_ok : (longest levels : ℕ) (text : List ℕ) (found : List Lexeme) (c : Config) → found ≡ lexemes text → length text ≤ longest → ToldLeft levels (seen found) (Ok c) → Told longest levels text (Ok c)
-text_ok longest levels text found c is l h = (l, subst (λ ts. ReadsConfig levels ts c) (ap seen is ∙ seen_is text) h)
+pub text_ok : (longest levels : ℕ) (text : List ℕ) (found : List Lexeme) (c : Config) → found ≡ lexemes text → length text ≤ longest → ToldLeft levels (tokens_of found) (Ok c) → Told longest levels text (Ok c)
+text_ok longest levels text found c is l h = (l, subst (λ ts. ReadsConfig levels ts c) (ap tokens_of is ∙ seen_is text) h)
 
-pub text_err : (longest levels : ℕ) (text : List ℕ) (found : List Lexeme) (e : ReadError) → found ≡ lexemes text → length text ≤ longest → ToldLeft levels (seen found) (Err e) → Told longest levels text (Err (placed (length text) found e))
+pub text_err : (longest levels : ℕ) (text : List ℕ) (found : List Lexeme) (e : ReadError) → found ≡ lexemes text → length text ≤ longest → ToldLeft levels (tokens_of found) (Err e) → Told longest levels text (Err (placed (length text) found e))
 text_err longest levels text found errors.Memory is l h = l
-text_err longest levels text found (errors.Syntax left) is l h = (l, (left, subst (λ ts. IsSyntax levels ts left) (ap seen is ∙ seen_is text) h, ap (λ f. place_in (length text) f left) is))
-text_err longest levels text found (errors.Deep left) is l h = (l, (left, subst (λ ts. IsDeep levels ts left) (ap seen is ∙ seen_is text) h, ap (λ f. place_in (length text) f left) is))
+text_err longest levels text found (errors.Syntax left) is l h = (l, (left, subst (λ ts. IsSyntax levels ts left) (ap tokens_of is ∙ seen_is text) h, ap (λ f. place_in (length text) f left) is))
+text_err longest levels text found (errors.Deep left) is l h = (l, (left, subst (λ ts. IsDeep levels ts left) (ap tokens_of is ∙ seen_is text) h, ap (λ f. place_in (length text) f left) is))
 
 module _ (longest levels : ℕ) (text : List ℕ) where
   pub only : (once : (c d : Config) → Reads levels text c → Reads levels text d → c ≡ d) (not_syntax : (c : Config) (at : ℕ) → Reads levels text c → IsSyntaxAt levels text at → ⊥) (not_deep : (c : Config) (at : ℕ) → Reads levels text c → IsDeepAt levels text at → ⊥)
@@ -34,15 +34,6 @@ module _ (longest levels : ℕ) (text : List ℕ) where
   only once not_syntax not_deep (Err (fault.Syntax at)) h c l w = absurd (not_syntax c at w h.1)
   only once not_syntax not_deep (Err (fault.Deep at)) h c l w = absurd (not_deep c at w h.1)
   only once not_syntax not_deep (Err fault.Memory) h c l w = refl
-
-  pub syntax_told : (r : Result Config ConfigFault) → Told longest levels text r → (at : ℕ) → r ≡ Err (fault.Syntax at) → (length text ≤ longest) × IsSyntaxAt levels text at
-  syntax_told r h at e = subst (λ q. Told longest levels text q) e h
-
-  pub deep_told : (r : Result Config ConfigFault) → Told longest levels text r → (at : ℕ) → r ≡ Err (fault.Deep at) → (length text ≤ longest) × IsDeepAt levels text at
-  deep_told r h at e = subst (λ q. Told longest levels text q) e h
-
-  pub long_told : (r : Result Config ConfigFault) → Told longest levels text r → r ≡ Err fault.Long → longest < length text
-  long_told r h e = subst (λ q. Told longest levels text q) e h
 
   pub only_syntax : (not_syntax : (c : Config) (at : ℕ) → Reads levels text c → IsSyntaxAt levels text at → ⊥) (one : (a b : ℕ) → IsSyntaxAt levels text a → IsSyntaxAt levels text b → a ≡ b) (apart : (a b : ℕ) → IsSyntaxAt levels text a → IsDeepAt levels text b → ⊥)
       → (r : Result Config ConfigFault) → Told longest levels text r → (at : ℕ) → length text ≤ longest → IsSyntaxAt levels text at → MatchResult r (λ _. ⊥) (λ e. (e ≡ fault.Memory → ⊥) → e ≡ fault.Syntax at)
@@ -59,10 +50,3 @@ module _ (longest levels : ℕ) (text : List ℕ) where
   only_deep not_deep one apart (Err (fault.Syntax a)) h at l w = absurd (apart a at h.1 w)
   only_deep not_deep one apart (Err (fault.Deep a)) h at l w = λ _. ap fault.Deep (one a at h.1 w)
   only_deep not_deep one apart (Err fault.Memory) h at l w = λ n. absurd (n refl)
-
-  pub long_only : (r : Result Config ConfigFault) → Told longest levels text r → longest < length text → r ≡ Err fault.Long
-  long_only (Ok d) h l = absurd (let m = h.0 in omega (arith, m, l))
-  long_only (Err fault.Long) h l = refl
-  long_only (Err (fault.Syntax at)) h l = absurd (let m = h.0 in omega (arith, m, l))
-  long_only (Err (fault.Deep at)) h l = absurd (let m = h.0 in omega (arith, m, l))
-  long_only (Err fault.Memory) h l = absurd (omega (arith, h, l))

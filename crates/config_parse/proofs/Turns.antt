@@ -18,11 +18,11 @@ use Rattle.config_grammar.specs.declared.tree.Config.{Config}
 use Rattle.config_grammar.specs.Words.{setting_name, key, conjoined, disjoined}
 use Rattle.config_grammar.specs.Joining.{Entries, with_setting, with_inputs, with_filters, with_outputs}
 use Rattle.config_laws.specs.Machine.{fresh, last_arm}
-use Rattle.config_reading.specs.Read as r
-use Rattle.config_reading.specs.Read.{Read, Reader, ◌>>=◌, told, refuse, keys_of}
-use Rattle.config_reading.proofs.Short as short
+use Rattle.config_parse.specs.Read as r
+use Rattle.config_parse.specs.Read.{Read, Reader, ◌>>=◌, told, refuse, keys_of}
+use Rattle.config_parse.proofs.Short as short
 use Rattle.config_parse.specs.Arms.{arms_of}
-use Rattle.config_reading.proofs.Short.{Shrinks}
+use Rattle.config_parse.proofs.Short.{Shrinks}
 
 pub bind_is : {A B : Type 0} {q : Read A} {x : A × List Token} {y : Read B} (f : A × List Token → Read B) → q ≡ Ok x → f x ≡ y → (q >>= f) ≡ y
 bind_is f e h = ap (λ p. p >>= f) e ∙ h

@@ -1,21 +1,19 @@
 //! Conditions.
 
-ghost use Rattle.std.specs.Prelude.{◌≡◌, ◌∷◌, [], length};
 ghost use Rattle.config_grammar.specs.Words as words;
-ghost use Rattle.config_parse.specs.Gives.{Gives};
-ghost use Rattle.config_reading.specs.Read as spec;
-ghost use Rattle.config_reading.specs.Seen.{seen};
+ghost use Rattle.config_parse.specs.Gives.{Gives, Skips, full};
+ghost use Rattle.config_parse.specs.Read as spec;
 
-use crate::names::{compared, conjoined, disjoined, literal, matched, operand_token, pattern};
-use config_grammar::{Condition, Lexeme, Literal, Operand, Pattern, Token, Word};
-use config_reading::{ReadError, below, first, next, refuse};
-use plain_boxes::Boxed;
-use plain_lists::Items;
+use crate::error::ReadError;
+use crate::names::{conjoined, disjoined, literal, operand_token, pattern};
+use crate::tokens::{below, first, next, refuse};
+use config_grammar::{Condition, Lexeme, Literal, MatchPattern, Operand, Token, Word};
+use plain_data::{Boxed, Items};
 use std::alloc::Global;
 
 /// A literal of a list.
 fn one_literal(tokens: &[Lexeme]) -> Result<(Literal, &[Lexeme]), ReadError>
-    ensures { Gives (λ x. (x.0, seen x.1.now)) result (spec.one words.literal (seen tokens.now)) }
+    ensures { Gives result (spec.one words.literal) tokens.now }
 {
     let (token, rest) = next(tokens)?;
     match literal(token)? {
@@ -25,12 +23,12 @@ fn one_literal(tokens: &[Lexeme]) -> Result<(Literal, &[Lexeme]), ReadError>
 }
 
 /// Behind these literals of a list.
-#[tactic(auto, unfolding(config_reading::specs::Read::more))]
+#[tactic(auto, unfolding(crate::specs::Read::more))]
 fn more_literals(
     front: Items<Literal>,
     tokens: &[Lexeme],
 ) -> Result<(Items<Literal>, &[Lexeme]), ReadError>
-    ensures { Gives (λ x. (x.0, seen x.1.now)) result (spec.more (spec.one words.literal) (length (seen tokens.now)) front (seen tokens.now)) }
+    ensures { Gives result (full (λ n. spec.more (spec.one words.literal) n front)) tokens.now }
 {
     let mut found = front;
     let mut rest = tokens;
@@ -51,9 +49,9 @@ fn more_literals(
 }
 
 /// Behind the `[` of a list.
-#[tactic(auto, unfolding(config_reading::specs::Read::members))]
+#[tactic(auto, unfolding(crate::specs::Read::members))]
 fn literals(alloc: Global, tokens: &[Lexeme]) -> Result<(Items<Literal>, &[Lexeme]), ReadError>
-    ensures { Gives (λ x. (x.0, seen x.1.now)) result (spec.members (spec.one words.literal) (seen tokens.now)) }
+    ensures { Gives result (spec.members (spec.one words.literal)) tokens.now }
 {
     let (token, rest) = next(tokens)?;
     let mut found = Items::new(alloc);
@@ -67,13 +65,13 @@ fn literals(alloc: Global, tokens: &[Lexeme]) -> Result<(Items<Literal>, &[Lexem
     }
 }
 
-#[tactic(auto, unfolding(config_reading::specs::Read::operand))]
+#[tactic(auto, unfolding(crate::specs::Read::operand))]
 fn operand(
     alloc: Global,
     depth: usize,
     tokens: &[Lexeme],
 ) -> Result<(Operand, &[Lexeme]), ReadError>
-    ensures { Gives (λ x. (x.0, seen x.1.now)) result (spec.operand depth (seen tokens.now)) }
+    ensures { Gives result (spec.operand depth) tokens.now }
 {
     let (token, rest) = next(tokens)?;
     match token {
@@ -90,8 +88,8 @@ fn operand(
 }
 
 /// The right side of `=~` and `!~`.
-fn one_pattern(tokens: &[Lexeme]) -> Result<(Pattern, &[Lexeme]), ReadError>
-    ensures { Gives (λ x. (x.0, seen x.1.now)) result (spec.one words.pattern (seen tokens.now)) }
+fn one_pattern(tokens: &[Lexeme]) -> Result<(MatchPattern, &[Lexeme]), ReadError>
+    ensures { Gives result (spec.one words.pattern) tokens.now }
 {
     let (token, rest) = next(tokens)?;
     match pattern(token)? {
@@ -102,7 +100,7 @@ fn one_pattern(tokens: &[Lexeme]) -> Result<(Pattern, &[Lexeme]), ReadError>
 
 /// The `in` of `not in`.
 fn in_word(tokens: &[Lexeme]) -> Result<&[Lexeme], ReadError>
-    ensures { Gives (λ x. (tt, seen x.now)) result (spec.one spec.is_in (seen tokens.now)) }
+    ensures { Skips result (spec.one spec.is_in) tokens.now }
 {
     let (token, rest) = next(tokens)?;
     match token {
@@ -112,7 +110,7 @@ fn in_word(tokens: &[Lexeme]) -> Result<&[Lexeme], ReadError>
 }
 
 fn close_paren(tokens: &[Lexeme]) -> Result<&[Lexeme], ReadError>
-    ensures { Gives (λ x. (tt, seen x.now)) result (spec.one spec.is_close_paren (seen tokens.now)) }
+    ensures { Skips result (spec.one spec.is_close_paren) tokens.now }
 {
     let (token, rest) = next(tokens)?;
     match token {
@@ -122,14 +120,14 @@ fn close_paren(tokens: &[Lexeme]) -> Result<&[Lexeme], ReadError>
 }
 
 /// Behind the first operand of a comparison.
-#[tactic(auto, unfolding(config_reading::specs::Read::tail))]
+#[tactic(auto, unfolding(crate::specs::Read::tail))]
 fn tail(
     alloc: Global,
     depth: usize,
     left: Operand,
     tokens: &[Lexeme],
 ) -> Result<(Condition, &[Lexeme]), ReadError>
-    ensures { Gives (λ x. (x.0, seen x.1.now)) result (spec.tail depth left (seen tokens.now)) }
+    ensures { Gives result (spec.tail depth left) tokens.now }
 {
     let Some((token, behind)) = first(tokens) else {
         return Ok((Condition::Operand(left), tokens));
@@ -137,11 +135,11 @@ fn tail(
     match token {
         Token::Comparison(comparison) => {
             let (right, rest) = operand(alloc, depth, behind)?;
-            Ok((compared(*comparison, left, right), rest))
+            Ok((Condition::compared(*comparison, left, right), rest))
         }
         Token::Matching(matching) => {
             let (right, rest) = one_pattern(behind)?;
-            Ok((matched(*matching, left, right), rest))
+            Ok((Condition::matched(*matching, left, right), rest))
         }
         Token::Word(Word::In) => {
             let (right, rest) = operand(alloc, depth, behind)?;
@@ -156,34 +154,35 @@ fn tail(
     }
 }
 
-#[tactic(auto, unfolding(config_reading::specs::Read::compare))]
+#[tactic(auto, unfolding(crate::specs::Read::compare))]
 fn compare(
     alloc: Global,
     depth: usize,
     tokens: &[Lexeme],
-) -> Result<(Condition, &[Lexeme]), ReadError>
-    ensures { Gives (λ x. (x.0, seen x.1.now)) result (spec.compare depth (seen tokens.now)) }
+) -> Result<(Boxed<Condition>, &[Lexeme]), ReadError>
+    ensures { Gives result (spec.compare depth) tokens.now }
 {
     let (left, rest) = operand(alloc, depth, tokens)?;
-    tail(alloc, depth, left, rest)
+    let (found, rest) = tail(alloc, depth, left, rest)?;
+    Ok((Boxed::new(alloc, found)?, rest))
 }
 
 /// A unary part: `!` before one, a condition in parentheses, or a comparison.
-#[tactic(auto, unfolding(config_reading::specs::Read::unary))]
+#[tactic(auto, unfolding(crate::specs::Read::unary))]
 #[cycle(conditions)]
 fn unary(
     alloc: Global,
     depth: usize,
     tokens: &[Lexeme],
-) -> Result<(Condition, &[Lexeme]), ReadError>
-    ensures { Gives (λ x. (x.0, seen x.1.now)) result (spec.unary depth (seen tokens.now)) }
+) -> Result<(Boxed<Condition>, &[Lexeme]), ReadError>
+    ensures { Gives result (spec.unary depth) tokens.now }
 {
     let (token, rest) = next(tokens)?;
     match token {
         Token::Exclamation => {
             let depth = below(depth, tokens)?;
             let (operand, rest) = unary(alloc, depth, rest)?;
-            Ok((Condition::Not(Boxed::new(alloc, operand)?), rest))
+            Ok((Boxed::new(alloc, Condition::Not(operand))?, rest))
         }
         Token::OpenParen => {
             let depth = below(depth, tokens)?;
@@ -196,15 +195,15 @@ fn unary(
 }
 
 /// Behind an operand of `and` and `nand`.
-#[tactic(auto, unfolding(config_reading::specs::Read::ands))]
+#[tactic(auto, unfolding(crate::specs::Read::ands))]
 #[cycle(conditions)]
 fn ands(
     alloc: Global,
     depth: usize,
-    front: Condition,
+    front: Boxed<Condition>,
     tokens: &[Lexeme],
-) -> Result<(Condition, &[Lexeme]), ReadError>
-    ensures { Gives (λ x. (x.0, seen x.1.now)) result (spec.ands (spec.unary depth) (length (seen tokens.now)) front (seen tokens.now)) }
+) -> Result<(Boxed<Condition>, &[Lexeme]), ReadError>
+    ensures { Gives result (full (λ n. spec.ands (spec.unary depth) n front)) tokens.now }
 {
     let mut left = front;
     let mut rest = tokens;
@@ -223,29 +222,29 @@ fn ands(
     }
 }
 
-#[tactic(auto, unfolding(config_reading::specs::Read::joined))]
+#[tactic(auto, unfolding(crate::specs::Read::joined))]
 #[cycle(conditions)]
 fn joined(
     alloc: Global,
     depth: usize,
     tokens: &[Lexeme],
-) -> Result<(Condition, &[Lexeme]), ReadError>
-    ensures { Gives (λ x. (x.0, seen x.1.now)) result (spec.joined (spec.unary depth) (seen tokens.now)) }
+) -> Result<(Boxed<Condition>, &[Lexeme]), ReadError>
+    ensures { Gives result (spec.joined (spec.unary depth)) tokens.now }
 {
     let (left, rest) = unary(alloc, depth, tokens)?;
     ands(alloc, depth, left, rest)
 }
 
 /// Behind an operand of `or` and `xor`.
-#[tactic(auto, unfolding(config_reading::specs::Read::ors))]
+#[tactic(auto, unfolding(crate::specs::Read::ors))]
 #[cycle(conditions)]
 fn ors(
     alloc: Global,
     depth: usize,
-    front: Condition,
+    front: Boxed<Condition>,
     tokens: &[Lexeme],
-) -> Result<(Condition, &[Lexeme]), ReadError>
-    ensures { Gives (λ x. (x.0, seen x.1.now)) result (spec.ors (spec.unary depth) (length (seen tokens.now)) front (seen tokens.now)) }
+) -> Result<(Boxed<Condition>, &[Lexeme]), ReadError>
+    ensures { Gives result (full (λ n. spec.ors (spec.unary depth) n front)) tokens.now }
 {
     let mut left = front;
     let mut rest = tokens;
@@ -264,14 +263,14 @@ fn ors(
     }
 }
 
-#[tactic(auto, unfolding(config_reading::specs::Read::condition))]
+#[tactic(auto, unfolding(crate::specs::Read::condition))]
 #[cycle(conditions)]
 pub fn condition(
     alloc: Global,
     depth: usize,
     tokens: &[Lexeme],
-) -> Result<(Condition, &[Lexeme]), ReadError>
-    ensures { Gives (λ x. (x.0, seen x.1.now)) result (spec.condition (spec.unary depth) (seen tokens.now)) }
+) -> Result<(Boxed<Condition>, &[Lexeme]), ReadError>
+    ensures { Gives result (spec.test depth) tokens.now }
 {
     let (left, rest) = joined(alloc, depth, tokens)?;
     ors(alloc, depth, left, rest)

@@ -2,10 +2,10 @@
 
 ghost use Rattle.std.specs.Prelude.{◌≡◌, IfOk};
 ghost use Rattle.config_grammar.specs.Joining as joining;
-ghost use Rattle.config_parse.specs.Places.{place};
+ghost use Rattle.config_parse.specs.Places.{key_place};
 
 use config_grammar::SettingValue;
-use plain_lists::{Items, Text};
+use plain_data::{Items, Text};
 use std::alloc::AllocError;
 
 /// Names, or keys, with their values.
@@ -13,7 +13,7 @@ pub type Entries = Items<(Text, SettingValue)>;
 
 /// How many entries stand in front of the first with the key; all of them where none has it.
 pub fn find(entries: &[(Text, SettingValue)], key: &str) -> usize
-    ensures { result ≡ place key.now entries.now }
+    ensures { result ≡ key_place key.now entries.now }
 {
     for at in 0..entries.len() {
         if entries[at].0.as_str() == key {

@@ -1,15 +1,15 @@
 //! What a token may stand for.
 
-ghost use Rattle.std.specs.Prelude.{◌≡◌, None, Some, MatchOption, IfOk};
+ghost use Rattle.std.specs.Prelude.{◌≡◌, IfOk};
 ghost use Rattle.config_grammar.specs.Words as words;
+ghost use Rattle.config_parse.specs.Gives.{Finds};
 
 use config_grammar::{
-    Comparison, Condition, Conjunction, Disjunction, Literal, Matching, Operand, Pattern, Section,
-    SettingValue, Token, Word,
+    Condition, Conjunction, Disjunction, Literal, MatchPattern, Operand, Section, SettingValue,
+    Token, Word,
 };
 use event_tree::Path;
-use plain_boxes::Boxed;
-use plain_lists::Text;
+use plain_data::{Boxed, Text};
 use std::alloc::{AllocError, Global};
 
 /// How a word is written.
@@ -34,7 +34,7 @@ pub fn spelling(word: &Word) -> &str
 
 /// The name of a setting.
 pub fn setting_name(token: &Token) -> Option<&str>
-    ensures { MatchOption result (words.setting_name token.now ≡ None) (λ name. words.setting_name token.now ≡ Some name.now) }
+    ensures { Finds result (words.setting_name token.now) }
 {
     match token {
         Token::Quoted(text) | Token::Dashed(text) => Some(text.as_str()),
@@ -45,7 +45,7 @@ pub fn setting_name(token: &Token) -> Option<&str>
 
 /// The name of a plugin.
 pub fn plugin_name(token: &Token) -> Option<&str>
-    ensures { MatchOption result (words.plugin_name token.now ≡ None) (λ name. words.plugin_name token.now ≡ Some name.now) }
+    ensures { Finds result (words.plugin_name token.now) }
 {
     match token {
         Token::Word(Word::If) | Token::Word(Word::Else) => None,
@@ -55,7 +55,7 @@ pub fn plugin_name(token: &Token) -> Option<&str>
 
 /// The key of a hash.
 pub fn key(token: &Token) -> Option<&str>
-    ensures { MatchOption result (words.key token.now ≡ None) (λ key. words.key token.now ≡ Some key.now) }
+    ensures { Finds result (words.key token.now) }
 {
     match token {
         Token::Quoted(text) | Token::Number(_, text) => Some(text.as_str()),
@@ -102,12 +102,12 @@ pub fn operand_token(token: &Token) -> Result<Option<Operand>, AllocError>
 }
 
 /// The right side of `=~` and `!~`.
-pub fn pattern(token: &Token) -> Result<Option<Pattern>, AllocError>
+pub fn pattern(token: &Token) -> Result<Option<MatchPattern>, AllocError>
     ensures { IfOk result (λ found. found ≡ words.pattern token.now) }
 {
     match token {
-        Token::Regexp(text) => Ok(Some(Pattern::Regexp(text.copy()?))),
-        Token::Quoted(text) => Ok(Some(Pattern::Text(text.copy()?))),
+        Token::Regexp(text) => Ok(Some(MatchPattern::Regexp(text.copy()?))),
+        Token::Quoted(text) => Ok(Some(MatchPattern::Text(text.copy()?))),
         _ => Ok(None),
     }
 }
@@ -116,54 +116,22 @@ pub fn pattern(token: &Token) -> Result<Option<Pattern>, AllocError>
 pub fn conjoined(
     alloc: Global,
     joint: Conjunction,
-    left: Condition,
-    right: Condition,
-) -> Result<Condition, AllocError>
+    left: Boxed<Condition>,
+    right: Boxed<Condition>,
+) -> Result<Boxed<Condition>, AllocError>
     ensures { IfOk result (λ made. made ≡ words.conjoined joint left right) }
 {
-    let left = Boxed::new(alloc, left)?;
-    let right = Boxed::new(alloc, right)?;
-    Ok(match joint {
-        Conjunction::And => Condition::And(left, right),
-        Conjunction::Nand => Condition::Nand(left, right),
-    })
+    Boxed::new(alloc, Condition::conjoined(joint, left, right))
 }
 
 /// Two conditions with a joint between them that binds less tightly.
 pub fn disjoined(
     alloc: Global,
     joint: Disjunction,
-    left: Condition,
-    right: Condition,
-) -> Result<Condition, AllocError>
+    left: Boxed<Condition>,
+    right: Boxed<Condition>,
+) -> Result<Boxed<Condition>, AllocError>
     ensures { IfOk result (λ made. made ≡ words.disjoined joint left right) }
 {
-    let left = Boxed::new(alloc, left)?;
-    let right = Boxed::new(alloc, right)?;
-    Ok(match joint {
-        Disjunction::Or => Condition::Or(left, right),
-        Disjunction::Xor => Condition::Xor(left, right),
-    })
-}
-
-pub fn compared(comparison: Comparison, left: Operand, right: Operand) -> Condition
-    ensures { result ≡ words.compared comparison left right }
-{
-    match comparison {
-        Comparison::Equal => Condition::Equal(left, right),
-        Comparison::Unequal => Condition::Unequal(left, right),
-        Comparison::Less => Condition::Less(left, right),
-        Comparison::Greater => Condition::Greater(left, right),
-        Comparison::AtMost => Condition::AtMost(left, right),
-        Comparison::AtLeast => Condition::AtLeast(left, right),
-    }
-}
-
-pub fn matched(matching: Matching, left: Operand, right: Pattern) -> Condition
-    ensures { result ≡ words.matched matching left right }
-{
-    match matching {
-        Matching::Matches => Condition::Matches(left, right),
-        Matching::MatchesNot => Condition::MatchesNot(left, right),
-    }
+    Boxed::new(alloc, Condition::disjoined(joint, left, right))
 }

@@ -1,28 +1,28 @@
 //! Statements and sections.
 
-ghost use Rattle.std.specs.Prelude.{◌≡◌, ◌∷◌, ◌++◌, [], length, IfOk};
+ghost use Rattle.std.specs.Prelude.{◌≡◌, ◌∷◌, ◌++◌, [], IfOk, OnOk};
 ghost use Rattle.config_grammar.specs.Joining as joining;
 ghost use Rattle.config_laws.specs.Machine.{last_arm};
-ghost use Rattle.config_parse.specs.Gives.{Gives};
+ghost use Rattle.config_parse.specs.Gives.{Gives, full};
 ghost use Rattle.config_parse.specs.Arms.{arms_of};
-ghost use Rattle.config_reading.specs.Read as spec;
-ghost use Rattle.config_reading.specs.Seen.{seen};
+ghost use Rattle.config_parse.specs.Read as spec;
 
 use crate::conditions::condition;
+use crate::error::ReadError;
+use crate::tokens::{below, first, next, refuse};
 use crate::values::plugin;
 use config_grammar::{Arm, Config, Lexeme, Plugin, Section, Statement, Token, Word};
-use config_reading::{ReadError, below, first, next, refuse};
-use plain_lists::Items;
+use plain_data::Items;
 use std::alloc::{AllocError, Global};
 
 /// Behind the `{` of an input section: plugins alone.
-#[tactic(auto, unfolding(config_reading::specs::Read::plugins))]
+#[tactic(auto, unfolding(crate::specs::Read::plugins))]
 fn plugins(
     alloc: Global,
     depth: usize,
     tokens: &[Lexeme],
 ) -> Result<(Items<Plugin>, &[Lexeme]), ReadError>
-    ensures { Gives (λ x. (x.0, seen x.1.now)) result (spec.plugins (spec.plugin depth) (length (seen tokens.now)) [] (seen tokens.now)) }
+    ensures { Gives result (full (λ n. spec.plugins (spec.plugin depth) n [])) tokens.now }
 {
     let mut found: Items<Plugin> = Items::new(alloc);
     let mut rest = tokens;
@@ -42,13 +42,13 @@ fn plugins(
 }
 
 /// An input section behind its word.
-#[tactic(auto, unfolding(config_reading::specs::Read::plugins_block))]
+#[tactic(auto, unfolding(crate::specs::Read::plugins_block))]
 fn plugins_block(
     alloc: Global,
     depth: usize,
     tokens: &[Lexeme],
 ) -> Result<(Items<Plugin>, &[Lexeme]), ReadError>
-    ensures { Gives (λ x. (x.0, seen x.1.now)) result (spec.plugins_block depth (seen tokens.now)) }
+    ensures { Gives result (spec.plugins_block depth) tokens.now }
 {
     let (token, rest) = next(tokens)?;
     match token {
@@ -63,12 +63,12 @@ fn plugins_block(
 /// A condition and a block.
 #[cycle(statements)]
 fn arm(alloc: Global, depth: usize, tokens: &[Lexeme]) -> Result<(Arm, &[Lexeme]), ReadError>
-    ensures { Gives (λ x. (x.0, seen x.1.now)) result (spec.arm (spec.condition (spec.unary depth)) (spec.block depth) (seen tokens.now)) }
+    ensures { Gives result (spec.arm (spec.test depth) (spec.block depth)) tokens.now }
 {
     let (test, rest) = condition(alloc, depth, tokens)?;
     let (statements, rest) = block(alloc, depth, rest)?;
     let arm = Arm {
-        condition: Some(test),
+        condition: Some(test.into_inner()),
         block: statements,
     };
     Ok((arm, rest))
@@ -87,7 +87,7 @@ fn with_last(front: Items<Arm>, statements: Items<Statement>) -> Result<Items<Ar
 }
 
 /// Behind these arms of a branch.
-#[tactic(auto, unfolding(config_reading::specs::Read::otherwise))]
+#[tactic(auto, unfolding(crate::specs::Read::otherwise))]
 #[cycle(statements)]
 fn otherwise(
     alloc: Global,
@@ -95,7 +95,7 @@ fn otherwise(
     front: Items<Arm>,
     tokens: &[Lexeme],
 ) -> Result<(Items<Arm>, &[Lexeme]), ReadError>
-    ensures { Gives (λ x. (x.0, seen x.1.now)) result (spec.otherwise (spec.condition (spec.unary depth)) (spec.block depth) (length (seen tokens.now)) front (seen tokens.now)) }
+    ensures { Gives result (full (λ n. spec.otherwise_in depth n front)) tokens.now }
 {
     let mut found = front;
     let mut rest = tokens;
@@ -132,7 +132,7 @@ fn arms(
     depth: usize,
     tokens: &[Lexeme],
 ) -> Result<(Items<Arm>, &[Lexeme]), ReadError>
-    ensures { Gives (λ x. (x.0, seen x.1.now)) result (arms_of (spec.condition (spec.unary depth)) (spec.block depth) (seen tokens.now)) }
+    ensures { Gives result (arms_of (spec.test depth) (spec.block depth)) tokens.now }
 {
     let (item, rest) = arm(alloc, depth, tokens)?;
     let mut front = Items::new(alloc);
@@ -141,14 +141,14 @@ fn arms(
 }
 
 /// Behind the `{` of a block, or of a filter or output section.
-#[tactic(auto, unfolding(config_reading::specs::Read::statements))]
+#[tactic(auto, unfolding(crate::specs::Read::statements))]
 #[cycle(statements)]
 fn statements(
     alloc: Global,
     depth: usize,
     tokens: &[Lexeme],
 ) -> Result<(Items<Statement>, &[Lexeme]), ReadError>
-    ensures { Gives (λ x. (x.0, seen x.1.now)) result (spec.statements (spec.plugin depth) (spec.condition (spec.unary depth)) (spec.block depth) (length (seen tokens.now)) [] (seen tokens.now)) }
+    ensures { Gives result (full (λ n. spec.statements_in depth n [])) tokens.now }
 {
     let mut found: Items<Statement> = Items::new(alloc);
     let mut rest = tokens;
@@ -173,14 +173,14 @@ fn statements(
 }
 
 /// A block, or a filter or output section behind its word.
-#[tactic(auto, unfolding(config_reading::specs::Read::block))]
+#[tactic(auto, unfolding(crate::specs::Read::block))]
 #[cycle(statements)]
 fn block(
     alloc: Global,
     depth: usize,
     tokens: &[Lexeme],
 ) -> Result<(Items<Statement>, &[Lexeme]), ReadError>
-    ensures { Gives (λ x. (x.0, seen x.1.now)) result (spec.block depth (seen tokens.now)) }
+    ensures { Gives result (spec.block depth) tokens.now }
 {
     let (token, rest) = next(tokens)?;
     match token {
@@ -192,50 +192,32 @@ fn block(
     }
 }
 
-fn with_inputs(config: Config, more: Items<Plugin>) -> Result<Config, AllocError>
-    ensures { IfOk result (λ made. made ≡ joining.with_inputs config more) }
+fn add_inputs(config: &mut Config, more: Items<Plugin>) -> Result<(), AllocError>
+    ensures { OnOk result (config.new ≡ joining.with_inputs config.old more) }
 {
-    let mut inputs = config.inputs;
-    inputs.append(more)?;
-    Ok(Config {
-        inputs,
-        filters: config.filters,
-        outputs: config.outputs,
-    })
+    config.inputs.append(more)
 }
 
-fn with_filters(config: Config, more: Items<Statement>) -> Result<Config, AllocError>
-    ensures { IfOk result (λ made. made ≡ joining.with_filters config more) }
+fn add_filters(config: &mut Config, more: Items<Statement>) -> Result<(), AllocError>
+    ensures { OnOk result (config.new ≡ joining.with_filters config.old more) }
 {
-    let mut filters = config.filters;
-    filters.append(more)?;
-    Ok(Config {
-        inputs: config.inputs,
-        filters,
-        outputs: config.outputs,
-    })
+    config.filters.append(more)
 }
 
-fn with_outputs(config: Config, more: Items<Statement>) -> Result<Config, AllocError>
-    ensures { IfOk result (λ made. made ≡ joining.with_outputs config more) }
+fn add_outputs(config: &mut Config, more: Items<Statement>) -> Result<(), AllocError>
+    ensures { OnOk result (config.new ≡ joining.with_outputs config.old more) }
 {
-    let mut outputs = config.outputs;
-    outputs.append(more)?;
-    Ok(Config {
-        inputs: config.inputs,
-        filters: config.filters,
-        outputs,
-    })
+    config.outputs.append(more)
 }
 
 /// The sections of the whole text.
-#[tactic(auto, unfolding(config_reading::specs::Read::sections))]
+#[tactic(auto, unfolding(crate::specs::Read::sections))]
 pub fn sections(
     alloc: Global,
     depth: usize,
     tokens: &[Lexeme],
 ) -> Result<(Config, &[Lexeme]), ReadError>
-    ensures { Gives (λ x. (x.0, seen x.1.now)) result (spec.config depth (seen tokens.now)) }
+    ensures { Gives result (spec.config depth) tokens.now }
 {
     let mut found = Config {
         inputs: Items::new(alloc),
@@ -250,17 +232,17 @@ pub fn sections(
         match token {
             Token::Word(Word::Section(Section::Input)) => {
                 let (more, after) = plugins_block(alloc, depth, behind)?;
-                found = with_inputs(found, more)?;
+                add_inputs(&mut found, more)?;
                 rest = after;
             }
             Token::Word(Word::Section(Section::Filter)) => {
                 let (more, after) = block(alloc, depth, behind)?;
-                found = with_filters(found, more)?;
+                add_filters(&mut found, more)?;
                 rest = after;
             }
             Token::Word(Word::Section(Section::Output)) => {
                 let (more, after) = block(alloc, depth, behind)?;
-                found = with_outputs(found, more)?;
+                add_outputs(&mut found, more)?;
                 rest = after;
             }
             _ => return Err(refuse(rest)),

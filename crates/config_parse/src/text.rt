@@ -1,18 +1,18 @@
 //! A text as the configuration that it is.
 
-ghost use Rattle.std.specs.Prelude.{◌≡◌, ◌↔◌, ◌≤◌, ◌<◌, ℕ, length, IfOk, MatchResult, Err};
-ghost use Rattle.config_grammar.specs.declared.tree.Config.{Config as Configs};
+ghost use Rattle.std.specs.Prelude.{◌≡◌, ◌↔◌, ◌<◌, length, IfOk, Err};
 ghost use Rattle.config_grammar.specs.Lexemes.{place_in};
-ghost use Rattle.config_grammar.specs.Texts.{Reads, IsSyntaxAt, IsDeepAt};
-ghost use Rattle.config_parse.specs.Told.{ToldLeft, Told, placed};
+ghost use Rattle.config_parse.specs.Answers as answers;
+ghost use Rattle.config_parse.specs.Told as told;
 ghost use Rattle.config_parse.specs.declared.fault.ConfigFault.TheVariants as fault;
-ghost use Rattle.config_reading.specs.Seen.{seen};
+ghost use Rattle.config_parse.specs.Seen.{tokens_of};
 
+use crate::error::ReadError;
 use crate::fault::ConfigFault;
+use crate::laws::reading_is_right;
 use crate::statements::sections;
 use config_grammar::{Config, Lexeme, lexemes};
 use config_laws::{machine_is_right, one_answer, reads_once};
-use config_reading::{ReadError, reading_is_right};
 use std::alloc::Global;
 
 /// How many bytes a text may have.
@@ -23,7 +23,7 @@ pub const LEVELS: usize = 64;
 
 /// The configuration that the tokens are.
 fn read(alloc: Global, found: &[Lexeme]) -> Result<Config, ReadError>
-    ensures { ToldLeft LEVELS (seen found.now) result }
+    ensures { told.ToldLeft LEVELS (tokens_of found.now) result }
 {
     machine_is_right();
     reading_is_right();
@@ -47,7 +47,7 @@ fn place(end: usize, found: &[Lexeme], left: usize) -> usize
 }
 
 fn place_of(end: usize, found: &[Lexeme], fault: ReadError) -> ConfigFault
-    ensures { result ≡ placed end found.now fault }
+    ensures { result ≡ told.placed end found.now fault }
 {
     match fault {
         ReadError::Memory => ConfigFault::Memory,
@@ -57,7 +57,7 @@ fn place_of(end: usize, found: &[Lexeme], fault: ReadError) -> ConfigFault
 }
 
 fn parse_text(alloc: Global, text: &str) -> Result<Config, ConfigFault>
-    ensures { Told LENGTH LEVELS text.now result }
+    ensures { told.Told LENGTH LEVELS text.now result }
 {
     if text.len() > LENGTH {
         return Err(ConfigFault::Long);
@@ -80,17 +80,17 @@ pub fn parse(alloc: Global, text: &str) -> Result<Config, ConfigFault>
     // The limits are these numbers.
     ensures limits { (LENGTH ≡ 1048576) × (LEVELS ≡ 64) }
     // What is given, the text reads as, within the limits.
-    ensures found { IfOk result (λ config. (length text.now ≤ LENGTH) × Reads LEVELS text.now config) }
+    ensures found { IfOk result (answers.ReadsWithin LENGTH LEVELS text.now) }
     // A text that reads is given as what it reads as, unless memory runs out.
-    ensures only { (config : Configs) → length text.now ≤ LENGTH → Reads LEVELS text.now config → MatchResult result (λ given. given ≡ config) (λ e. e ≡ fault.Memory) }
+    ensures only { answers.GivesWhatReads LENGTH LEVELS text.now result }
     // The text is too long.
     ensures long { (result ≡ Err fault.Long) ↔ (LENGTH < length text.now) }
     // The first token that can't stand where it stands, or the early end.
-    ensures syntax { (at : ℕ) → result ≡ Err (fault.Syntax at) → (length text.now ≤ LENGTH) × IsSyntaxAt LEVELS text.now at }
-    ensures only_syntax { (at : ℕ) → length text.now ≤ LENGTH → IsSyntaxAt LEVELS text.now at → MatchResult result (λ _. ⊥) (λ e. (e ≡ fault.Memory → ⊥) → e ≡ fault.Syntax at) }
+    ensures syntax { answers.IsSyntaxWhereTold LENGTH LEVELS text.now result }
+    ensures only_syntax { answers.TellsSyntax LENGTH LEVELS text.now result }
     // The token that opens a level too many.
-    ensures deep { (at : ℕ) → result ≡ Err (fault.Deep at) → (length text.now ≤ LENGTH) × IsDeepAt LEVELS text.now at }
-    ensures only_deep { (at : ℕ) → length text.now ≤ LENGTH → IsDeepAt LEVELS text.now at → MatchResult result (λ _. ⊥) (λ e. (e ≡ fault.Memory → ⊥) → e ≡ fault.Deep at) }
+    ensures deep { answers.IsDeepWhereTold LENGTH LEVELS text.now result }
+    ensures only_deep { answers.TellsDeep LENGTH LEVELS text.now result }
 {
     reads_once();
     one_answer();

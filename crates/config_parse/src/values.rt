@@ -1,27 +1,26 @@
 //! Values, settings and plugins.
 
-ghost use Rattle.std.specs.Prelude.{◌≡◌, ◌∷◌, [], length, IfOk};
+ghost use Rattle.std.specs.Prelude.{◌≡◌, [], IfOk};
 ghost use Rattle.config_grammar.specs.Words as words;
-ghost use Rattle.config_laws.specs.Machine as machine;
-ghost use Rattle.config_parse.specs.Gives.{Gives};
-ghost use Rattle.config_reading.specs.Read as spec;
-ghost use Rattle.config_reading.specs.Seen.{seen};
+ghost use Rattle.config_parse.specs.Gives.{Gives, Skips, full};
+ghost use Rattle.config_parse.specs.Read as spec;
 
+use crate::error::ReadError;
 use crate::joining::{Entries, find, with_setting};
 use crate::names::{key, plugin_name, scalar, setting_name, spelling};
+use crate::tokens::{below, first, next, refuse};
 use config_grammar::{Lexeme, Plugin, SettingValue, Settings, Token};
-use config_reading::{ReadError, below, first, next, refuse};
-use plain_lists::{Items, Text};
+use plain_data::{Items, Text};
 use std::alloc::{AllocError, Global};
 
-#[tactic(auto, unfolding(config_reading::specs::Read::value))]
+#[tactic(auto, unfolding(crate::specs::Read::value))]
 #[cycle(values)]
 pub fn value(
     alloc: Global,
     depth: usize,
     tokens: &[Lexeme],
 ) -> Result<(SettingValue, &[Lexeme]), ReadError>
-    ensures { Gives (λ x. (x.0, seen x.1.now)) result (spec.value depth (seen tokens.now)) }
+    ensures { Gives result (spec.value depth) tokens.now }
 {
     let Some((token, rest)) = first(tokens) else {
         return Err(refuse(tokens));
@@ -46,7 +45,7 @@ pub fn value(
 }
 
 /// Behind a bareword that is a value: nothing, or the settings of a nested plugin.
-#[tactic(auto, unfolding(config_reading::specs::Read::nest))]
+#[tactic(auto, unfolding(crate::specs::Read::nest))]
 #[cycle(values)]
 fn nest(
     alloc: Global,
@@ -54,7 +53,7 @@ fn nest(
     name: Text,
     tokens: &[Lexeme],
 ) -> Result<(SettingValue, &[Lexeme]), ReadError>
-    ensures { Gives (λ x. (x.0, seen x.1.now)) result (spec.nest (spec.below depth) name (seen tokens.now)) }
+    ensures { Gives result (spec.nest (spec.below depth) name) tokens.now }
 {
     let Some((token, rest)) = first(tokens) else {
         return Ok((SettingValue::Text(name), tokens));
@@ -71,14 +70,14 @@ fn nest(
 }
 
 /// Behind the `[` of an array.
-#[tactic(auto, unfolding(config_reading::specs::Read::members))]
+#[tactic(auto, unfolding(crate::specs::Read::members))]
 #[cycle(values)]
 fn members(
     alloc: Global,
     depth: usize,
     tokens: &[Lexeme],
 ) -> Result<(Items<SettingValue>, &[Lexeme]), ReadError>
-    ensures { Gives (λ x. (x.0, seen x.1.now)) result (spec.members (spec.value depth) (seen tokens.now)) }
+    ensures { Gives result (spec.members (spec.value depth)) tokens.now }
 {
     let (token, rest) = next(tokens)?;
     let mut found = Items::new(alloc);
@@ -93,7 +92,7 @@ fn members(
 }
 
 /// Behind these members of an array.
-#[tactic(auto, unfolding(config_reading::specs::Read::more))]
+#[tactic(auto, unfolding(crate::specs::Read::more))]
 #[cycle(values)]
 fn more(
     alloc: Global,
@@ -101,7 +100,7 @@ fn more(
     front: Items<SettingValue>,
     tokens: &[Lexeme],
 ) -> Result<(Items<SettingValue>, &[Lexeme]), ReadError>
-    ensures { Gives (λ x. (x.0, seen x.1.now)) result (spec.more (spec.value depth) (length (seen tokens.now)) front (seen tokens.now)) }
+    ensures { Gives result (full (λ n. spec.more (spec.value depth) n front)) tokens.now }
 {
     let mut found = front;
     let mut rest = tokens;
@@ -127,7 +126,7 @@ fn fresh(
     entries: &[(Text, SettingValue)],
     token: &Token,
 ) -> Result<Option<Text>, AllocError>
-    ensures { IfOk result (λ found. found ≡ machine.fresh (spec.keys_of entries.now) (words.key token.now)) }
+    ensures { IfOk result (λ found. found ≡ spec.fresh_key entries.now token.now) }
 {
     match key(token) {
         Some(found) => {
@@ -142,7 +141,7 @@ fn fresh(
 }
 
 fn arrow(tokens: &[Lexeme]) -> Result<&[Lexeme], ReadError>
-    ensures { Gives (λ x. (tt, seen x.now)) result (spec.one spec.is_arrow (seen tokens.now)) }
+    ensures { Skips result (spec.one spec.is_arrow) tokens.now }
 {
     let (token, rest) = next(tokens)?;
     match token {
@@ -158,17 +157,17 @@ fn entry(
     depth: usize,
     tokens: &[Lexeme],
 ) -> Result<(SettingValue, &[Lexeme]), ReadError>
-    ensures { Gives (λ x. (x.0, seen x.1.now)) result (spec.entry (spec.value depth) (seen tokens.now)) }
+    ensures { Gives result (spec.entry (spec.value depth)) tokens.now }
 {
     let rest = arrow(tokens)?;
     value(alloc, depth, rest)
 }
 
 /// Behind the `{` of a hash.
-#[tactic(auto, unfolding(config_reading::specs::Read::pairs))]
+#[tactic(auto, unfolding(crate::specs::Read::pairs))]
 #[cycle(values)]
 fn pairs(alloc: Global, depth: usize, tokens: &[Lexeme]) -> Result<(Entries, &[Lexeme]), ReadError>
-    ensures { Gives (λ x. (x.0, seen x.1.now)) result (spec.pairs (spec.value depth) (length (seen tokens.now)) [] (seen tokens.now)) }
+    ensures { Gives result (full (λ n. spec.pairs (spec.value depth) n [])) tokens.now }
 {
     let mut found: Entries = Items::new(alloc);
     let mut rest = tokens;
@@ -201,14 +200,14 @@ fn own_setting_name(alloc: Global, token: &Token) -> Result<Option<Text>, AllocE
 }
 
 /// Behind the `{` of a plugin.
-#[tactic(auto, unfolding(config_reading::specs::Read::settings))]
+#[tactic(auto, unfolding(crate::specs::Read::settings))]
 #[cycle(values)]
 fn settings(
     alloc: Global,
     depth: usize,
     tokens: &[Lexeme],
 ) -> Result<(Entries, &[Lexeme]), ReadError>
-    ensures { Gives (λ x. (x.0, seen x.1.now)) result (spec.settings (spec.value depth) (length (seen tokens.now)) [] (seen tokens.now)) }
+    ensures { Gives result (full (λ n. spec.settings (spec.value depth) n [])) tokens.now }
 {
     let mut found: Entries = Items::new(alloc);
     let mut rest = tokens;
@@ -231,13 +230,13 @@ fn settings(
 }
 
 /// The `{` of a plugin and its settings.
-#[tactic(auto, unfolding(config_reading::specs::Read::settings_block))]
+#[tactic(auto, unfolding(crate::specs::Read::settings_block))]
 fn settings_block(
     alloc: Global,
     depth: usize,
     tokens: &[Lexeme],
 ) -> Result<(Entries, &[Lexeme]), ReadError>
-    ensures { Gives (λ x. (x.0, seen x.1.now)) result (spec.settings_block depth (seen tokens.now)) }
+    ensures { Gives result (spec.settings_block depth) tokens.now }
 {
     let (token, rest) = next(tokens)?;
     match token {
@@ -260,13 +259,13 @@ fn own_plugin_name(alloc: Global, token: &Token) -> Result<Option<Text>, AllocEr
 }
 
 /// A plugin.
-#[tactic(auto, unfolding(config_reading::specs::Read::plugin))]
+#[tactic(auto, unfolding(crate::specs::Read::plugin))]
 pub fn plugin(
     alloc: Global,
     depth: usize,
     tokens: &[Lexeme],
 ) -> Result<(Plugin, &[Lexeme]), ReadError>
-    ensures { Gives (λ x. (x.0, seen x.1.now)) result (spec.plugin depth (seen tokens.now)) }
+    ensures { Gives result (spec.plugin depth) tokens.now }
 {
     let (token, rest) = next(tokens)?;
     let Some(name) = own_plugin_name(alloc, token)? else {

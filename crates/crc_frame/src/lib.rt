@@ -6,11 +6,9 @@ mod framing;
 pub mod laws;
 mod slots;
 mod tables;
-#[cfg(test)]
-mod tests;
 mod unframing;
 
-pub use crc::{crc32, crc32_bitwise};
+pub use crc::crc32;
 pub use framing::frame;
 pub use slots::{Slot, newest};
 pub use unframing::{Frame, unframe};

@@ -98,7 +98,8 @@ pub fn newest(file: &[u8], width: usize) -> Option<Slot>
     // The result is an intact slot of the file, and each other one has an older turn.
     ensures intact { IfSome result (λ s. IsTrue (is_intact width s.place file.now)) }
     ensures turn { IfSome result (λ s. s.turn ≡ turn_of (slot_bytes width s.place file.now)) }
-    ensures newer { IfSome result (λ s. (place : ℕ) → IsTrue (is_intact width place file.now) → place ≢ s.place
+    ensures newer { IfSome result (λ s. (place : ℕ)
+        → IsTrue (is_intact width place file.now) → place ≢ s.place
         → IsTrue (is_newer s.turn (turn_of (slot_bytes width place file.now)))) }
 
     // There is none exactly where no slot is intact.

@@ -9,14 +9,15 @@ use Rattle.event_tree.specs.Values.{Members, on_values}
 use Rattle.event_tree.specs.Events.{Ev, both}
 use Rattle.event_tree.specs.declared.value.Value.{Value, out-Value}
 use Rattle.event_tree.specs.declared.value.Value.TheVariants as v
-use Rattle.element_code.specs.Parts.{Part, plain, text, many, count, key, part_bytes, bytes_of, count_bytes, number_bytes, time_bytes, items_parts, members_parts, parts, spelling, object_parts, object_parts_in, event_parts, event_spelling}
+use Rattle.byte_reader.specs.Fronts.{Reads, count_bytes, repeated, run_at}
+use Rattle.byte_reader.proofs.Fronts.{front_again, count_again, run_again}
+use Rattle.element_code.specs.Parts.{Part, plain, text, many, count, key, part_bytes, bytes_of, number_bytes, time_bytes, items_parts, members_parts, parts, spelling, object_parts, object_parts_in, event_parts, event_spelling}
 use Rattle.element_code.specs.Values.{IsNumber, IsText, IsAbove, IsValue, AreValues, AreMembers, AreItemsOf, AreMembersOf, IsEventObject, IsWhole}
-use Rattle.element_code.specs.Reading.{Reads, run_at, leaf_at, is_above, key_at, items_at, members_at, list_at, object_at, as_list, as_object, value_at, whole, event_at}
+use Rattle.element_code.specs.Reading.{leaf_at, is_above, key_at, members_at, list_at, object_at, as_list, as_object, value_at, whole, event_at}
 use Rattle.element_code.proofs.Leaves.{is_text, key_taken}
 use Rattle.element_code.proofs.Numbers.{number_again as same_number_again, time_again, length-number_bytes, length-time_bytes}
 use Rattle.event_tree.proofs.Shapes.{Shape, is_null, is_bool, is_number, is_text as text_shape, is_time, is_list, is_object, shape_of}
 use Rattle.element_code.proofs.PartsOf.{bytes_of-append, parts-Null, parts-Bool, parts-Num, parts-Text, parts-Time, parts-List, parts-Object, number_of_value, text_of_value, time_of_value, no_list_value, no_object_value, items_of_value, members_of_value}
-use Rattle.element_code.proofs.Runs.{split_again, number_again, run_again}
 
 -- a tag that is neither a list's nor an object's
 pub at_leaf : (levels tag : ℕ) (rest : List ℕ) → (tag == 6) ≡ false → (tag == 7) ≡ false → value_at levels (tag ∷ rest) ≡ leaf_at tag rest
@@ -34,10 +35,10 @@ leaf_again : (levels : ℕ) (d : Value) (tag : ℕ) (own rest : List ℕ) → pa
 leaf_again levels d tag own rest e h k r = ap (λ s. value_at levels (s ++ rest)) (one_part d (plain tag own) e) ∙ at_leaf levels tag (own ++ rest) h k ∙ r
 
 number_leaf : (n : Num) (rest : List ℕ) → IsNumber n → leaf_at 3 (number_bytes n ++ rest) ≡ Ok (v.Num n, rest)
-number_leaf n rest is = rw (split_again (number_bytes n) rest 9 (sym (length-number_bytes n)), same_number_again n is) refl
+number_leaf n rest is = rw (front_again (number_bytes n) rest 9 (sym (length-number_bytes n)), same_number_again n is) refl
 
 time_leaf : (t : ℤ) (rest : List ℕ) → IsMoment t → leaf_at 5 (time_bytes t ++ rest) ≡ Ok (v.Time t, rest)
-time_leaf t rest is = rw (split_again (time_bytes t) rest 12 (sym (length-time_bytes t)), time_again t is) refl
+time_leaf t rest is = rw (front_again (time_bytes t) rest 12 (sym (length-time_bytes t)), time_again t is) refl
 
 text_leaf : (s rest : List ℕ) → IsText s → leaf_at 4 (count_bytes (length s) ++ (s ++ rest)) ≡ Ok (v.Text s, rest)
 text_leaf s rest is = rw (run_again s rest is.short, is_text s is.utf8) refl
@@ -51,14 +52,14 @@ key_again last k rest is above =
     let e : part_bytes (key k) ++ rest ≡ count_bytes (length k) ++ (k ++ rest) = append_assoc (count_bytes (length k)) k rest in
     key_taken last (part_bytes (key k) ++ rest) k rest (ap run_at e ∙ run_again k rest is.short) is.utf8 (above_true last k above)
 
-module _ (read : Reads) (is : Value → Type 0) (again : (d : Value) (rest : List ℕ) → is d → read (spelling d ++ rest) ≡ Ok (d, rest)) where
-  pub items_again : (vs : List Value) (rest : List ℕ) → AreValues is vs → items_at read (length vs) (bytes_of (items_parts (map parts vs)) ++ rest) ≡ Ok (vs, rest)
+module _ (read : Reads Value) (is : Value → Type 0) (again : (d : Value) (rest : List ℕ) → is d → read (spelling d ++ rest) ≡ Ok (d, rest)) where
+  pub items_again : (vs : List Value) (rest : List ℕ) → AreValues is vs → repeated read (length vs) (bytes_of (items_parts (map parts vs)) ++ rest) ≡ Ok (vs, rest)
   items_again [] rest are = refl
   items_again (d ∷ ds) rest are =
       let behind = bytes_of (items_parts (map parts ds)) ++ rest in
       let e : bytes_of (items_parts (map parts (d ∷ ds))) ++ rest ≡ spelling d ++ behind =
       ap (λ bs. bs ++ rest) (bytes_of-append (parts d) (items_parts (map parts ds))) ∙ append_assoc (spelling d) (bytes_of (items_parts (map parts ds))) rest in
-      ap (items_at read (length (d ∷ ds))) e ∙ rw (again d behind are.0, items_again ds rest are.1) refl
+      ap (repeated read (length (d ∷ ds))) e ∙ rw (again d behind are.0, items_again ds rest are.1) refl
 
   pub members_again : (last : Option (List ℕ)) (ms : Members) (rest : List ℕ) → AreMembers is last ms → members_at read last (length ms) (bytes_of (members_parts (on_values parts ms)) ++ rest) ≡ Ok (ms, rest)
   members_again last [] rest are = refl
@@ -71,11 +72,11 @@ module _ (read : Reads) (is : Value → Type 0) (again : (d : Value) (rest : Lis
 
   pub list_again : (vs : List Value) (rest : List ℕ) → AreItemsOf is vs → list_at read (count_bytes (length vs) ++ (bytes_of (items_parts (map parts vs)) ++ rest)) ≡ Ok (vs, rest)
   unfolding list_at
-  list_again vs rest are = rw (number_again (length vs) (bytes_of (items_parts (map parts vs)) ++ rest) are.few) (items_again vs rest are.each)
+  list_again vs rest are = rw (count_again (length vs) (bytes_of (items_parts (map parts vs)) ++ rest) are.few) (items_again vs rest are.each)
 
   pub object_again : (ms : Members) (rest : List ℕ) → AreMembersOf is ms → object_at read (count_bytes (length ms) ++ (bytes_of (members_parts (on_values parts ms)) ++ rest)) ≡ Ok (ms, rest)
   unfolding object_at
-  object_again ms rest are = rw (number_again (length ms) (bytes_of (members_parts (on_values parts ms)) ++ rest) are.few) (members_again None ms rest are.each)
+  object_again ms rest are = rw (count_again (length ms) (bytes_of (members_parts (on_values parts ms)) ++ rest) are.few) (members_again None ms rest are.each)
 
 at_list : (levels : ℕ) (rest : List ℕ) → value_at (suc levels) (6 ∷ rest) ≡ as_list (list_at (value_at levels) rest)
 unfolding value_at

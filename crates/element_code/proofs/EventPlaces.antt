@@ -7,18 +7,19 @@ use Rattle.event_tree.specs.Values.{Members, on_values}
 use Rattle.event_tree.specs.Events.{both}
 use Rattle.event_tree.specs.declared.value.Value.{Value}
 use Rattle.event_tree.specs.declared.value.Value.TheVariants as v
-use Rattle.element_code.specs.Parts.{Part, plain, text, many, count, key, bytes_of, count_bytes, items_parts, members_parts, parts, object_parts}
+use Rattle.byte_reader.specs.Fronts.{Reads, count_bytes, number_at, repeated, ◌>>=◌}
+use Rattle.byte_reader.proofs.Fronts.{chosen, count_takes}
+use Rattle.byte_reader.proofs.Cuts.{bind_err, number_err, count_cut}
+use Rattle.element_code.specs.Parts.{Part, plain, text, many, count, key, bytes_of, items_parts, members_parts, parts, object_parts}
 use Rattle.element_code.specs.Values.{IsValue, AreMembersOf, IsEventObject}
-use Rattle.element_code.specs.Reading.{◌>>=◌, number_at, items_at, members_at, list_at, object_at, as_list, as_object, leaf_at, value_at, whole, event_at}
+use Rattle.element_code.specs.Reading.{members_at, list_at, object_at, as_list, as_object, leaf_at, value_at, whole, event_at}
 use Rattle.element_code.specs.Faults.{cut, AreEventParts, IsRefusedAt, stops, behind}
 use Rattle.event_tree.proofs.Shapes.{Shape, shape_of, is_null, is_bool, is_number, is_text, is_time, is_list, is_object}
 use Rattle.element_code.proofs.PartsOf.{bytes_of-append, null_value, parts-Null, parts-Bool, parts-Num, parts-Text, parts-Time, parts-List, parts-Object, list_value, object_value, no_list_value, no_object_value, items_of_value, members_of_value}
-use Rattle.element_code.proofs.Runs.{chosen, number_takes}
 use Rattle.element_code.proofs.Again.{object_parts_are}
 use Rattle.element_code.proofs.Sound.{same_tag, object_sound, value_sound}
 use Rattle.element_code.proofs.Within.{StandsIn, Stopped, stopped_in}
 use Rattle.element_code.proofs.PartLists.{ValueParts, ItemsParts, MembersParts, ObjectParts, items_free, members_free, object_free}
-use Rattle.element_code.proofs.Cuts.{bind_err, number_err, count_cut}
 use Rattle.element_code.proofs.LeafPlaces.{cut_part, leaf_stops, not_tag}
 use Rattle.element_code.proofs.Places.{same_head, same_tail, same_behind, StopsAt, items_stop}
 use Rattle.element_code.proofs.MemberPlaces.{Base, members_stop}
@@ -101,35 +102,32 @@ no_base : Base None
 no_base = record { utf8 = IsUtf8-nil; short = omega arith }
 
 module _ (levels : ℕ) (stop : StopsAt levels (value_at levels)) where
-  list_stops : (rest : List ℕ) (left : ℕ) → IsBytes rest → length rest ≤ 16777216 → list_at (value_at levels) rest ≡ Err left → Stopped (ValueParts (suc levels)) (6 ∷ rest) left
-  unfolding list_at
-  list_stops rest left fit short h = elim (bind_err (number_at rest) (λ n. items_at (value_at levels) n.0 n.1) left h) [
+  -- a list or an object: its count is cut, or what it holds stops
+  group_stops : {X : Type 0} (tag : ℕ) (Inner : ℕ → List Part → Type 0) (read : ℕ → Reads X) → ValueParts (suc levels) (many tag 0 ∷ []) → ((n : ℕ) → n < 2 ^ 32 → StandsIn (Inner n) (ValueParts (suc levels)) (many tag n ∷ []))
+      → ((n : ℕ) (bytes : List ℕ) (left : ℕ) → n < 2 ^ 32 → IsBytes bytes → length bytes ≤ 16777216 → read n bytes ≡ Err left → Stopped (Inner n) bytes left)
+      → (rest : List ℕ) (left : ℕ) → IsBytes rest → length rest ≤ 16777216 → (number_at 4 rest >>= λ n. read n.0 n.1) ≡ Err left → Stopped (ValueParts (suc levels)) (tag ∷ rest) left
+  group_stops tag Inner read empty stands inner rest left fit short h = elim (bind_err (number_at 4 rest) (λ n. read n.0 n.1) left h) [
     | inl w ↦
-        let e = number_err rest left w in
+        let e = number_err 4 rest left w in
         let c = count_cut rest e.0 fit in
-        cut_part (suc levels) (6 ∷ rest) left (many 6 0) ([], (v.List [], list_value levels [] (record { few = omega arith; each = tt }), sym (parts-List []))) (c.0, (c.2.0, c.2.1, ap (λ b. 6 ∷ b) c.2.2)) e.1
+        cut_part (suc levels) (tag ∷ rest) left (many tag 0) ([], empty) (c.0, (c.2.0, c.2.1, ap (λ b. tag ∷ b) c.2.2)) e.1
     | inr w ↦
         let n = w.0 in
-        let t = number_takes rest n fit w.1 in
-        stopped_in (ItemsParts levels n.0) (ValueParts (suc levels)) (many 6 n.0 ∷ []) n.1 (6 ∷ rest) left (items_stand levels n.0 t.1)
-        (ap (λ b. 6 ∷ b) (t.0 ∙ ap (λ b. b ++ n.1) (sym (append-nil (count_bytes n.0)))))
-        (items_stop levels (value_at levels) (value_sound levels) stop n.0 n.1 left t.2 (omega (arith, short, ap length t.0, length-append (count_bytes n.0) n.1)) w.2)
+        let t = count_takes rest n fit w.1 in
+        stopped_in (Inner n.0) (ValueParts (suc levels)) (many tag n.0 ∷ []) n.1 (tag ∷ rest) left (stands n.0 t.1)
+        (ap (λ b. tag ∷ b) (t.0 ∙ ap (λ b. b ++ n.1) (sym (append-nil (count_bytes n.0)))))
+        (inner n.0 n.1 left t.1 t.2 (omega (arith, short, ap length t.0, length-append (count_bytes n.0) n.1)) w.2)
   ]
+
+  list_stops : (rest : List ℕ) (left : ℕ) → IsBytes rest → length rest ≤ 16777216 → list_at (value_at levels) rest ≡ Err left → Stopped (ValueParts (suc levels)) (6 ∷ rest) left
+  unfolding list_at
+  list_stops = group_stops 6 (ItemsParts levels) (repeated (value_at levels)) (v.List [], list_value levels [] (record { few = omega arith; each = tt }), sym (parts-List [])) (items_stand levels)
+      (λ n bytes left few fit short h. items_stop levels (value_at levels) (value_sound levels) stop n bytes left fit short h)
 
   object_stops : (rest : List ℕ) (left : ℕ) → IsBytes rest → length rest ≤ 16777216 → object_at (value_at levels) rest ≡ Err left → Stopped (ValueParts (suc levels)) (7 ∷ rest) left
   unfolding object_at
-  object_stops rest left fit short h = elim (bind_err (number_at rest) (λ n. members_at (value_at levels) None n.0 n.1) left h) [
-    | inl w ↦
-        let e = number_err rest left w in
-        let c = count_cut rest e.0 fit in
-        cut_part (suc levels) (7 ∷ rest) left (many 7 0) ([], (v.Object [], object_value levels [] (record { few = omega arith; each = tt }), sym (parts-Object []))) (c.0, (c.2.0, c.2.1, ap (λ b. 7 ∷ b) c.2.2)) e.1
-    | inr w ↦
-        let n = w.0 in
-        let t = number_takes rest n fit w.1 in
-        stopped_in (MembersParts levels None n.0) (ValueParts (suc levels)) (many 7 n.0 ∷ []) n.1 (7 ∷ rest) left (members_stand levels n.0 t.1)
-        (ap (λ b. 7 ∷ b) (t.0 ∙ ap (λ b. b ++ n.1) (sym (append-nil (count_bytes n.0)))))
-        (members_stop levels (value_at levels) (value_sound levels) stop None n.0 n.1 left t.2 (omega (arith, short, ap length t.0, length-append (count_bytes n.0) n.1)) no_base (omega (arith, t.1)) w.2)
-  ]
+  object_stops = group_stops 7 (MembersParts levels None) (members_at (value_at levels) None) (v.Object [], object_value levels [] (record { few = omega arith; each = tt }), sym (parts-Object [])) (members_stand levels)
+      (λ n bytes left few fit short h. members_stop levels (value_at levels) (value_sound levels) stop None n bytes left fit short no_base (omega (arith, few)) h)
 
 empty_stops : (levels left : ℕ) → left ≡ 0 → Stopped (ValueParts levels) [] left
 empty_stops levels left e = cut_part levels [] left (plain 0 []) ([], (v.Null, null_value levels, sym parts-Null)) ([], refl, (0, [], refl)) e
@@ -169,14 +167,14 @@ own_members_stand n few = record {
 
 own_object_stops : (bytes : List ℕ) (left : ℕ) → IsBytes bytes → length bytes ≤ 16777216 → object_at (value_at 127) bytes ≡ Err left → Stopped (ObjectParts 127) bytes left
 unfolding object_at
-own_object_stops bytes left fit short h = elim (bind_err (number_at bytes) (λ n. members_at (value_at 127) None n.0 n.1) left h) [
+own_object_stops bytes left fit short h = elim (bind_err (number_at 4 bytes) (λ n. members_at (value_at 127) None n.0 n.1) left h) [
   | inl w ↦
-      let e = number_err bytes left w in
+      let e = number_err 4 bytes left w in
       let c = count_cut bytes e.0 fit in
       record { at = length bytes; sum = omega (arith, e.1); stops = cut [] (count 0) bytes ([], ([], record { few = omega arith; each = tt }, refl)) refl (c.0, c.2) refl }
   | inr w ↦
       let n = w.0 in
-      let t = number_takes bytes n fit w.1 in
+      let t = count_takes bytes n fit w.1 in
       stopped_in (MembersParts 127 None n.0) (ObjectParts 127) (count n.0 ∷ []) n.1 bytes left (own_members_stand n.0 t.1)
       (t.0 ∙ ap (λ b. b ++ n.1) (sym (append-nil (count_bytes n.0))))
       (members_stop 127 (value_at 127) (value_sound 127) (value_stops 127) None n.0 n.1 left t.2 (omega (arith, short, ap length t.0, length-append (count_bytes n.0) n.1)) no_base (omega (arith, t.1)) w.2)

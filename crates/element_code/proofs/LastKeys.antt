@@ -1,9 +1,9 @@
 -- A key is above all keys that rise exactly where it is above the last of them.
 use Rattle.std.proofs.Common.{◌≡◌, ◌↔◌, ℕ, List, [], ◌∷◌, ◌++◌, Bool, true, false, Some, refl, sym, ap, IsTrue}
 use Rattle.std.specs.Ordering.{is_lt}
-use Rattle.plain_lists.specs.Members.{Rises, AllBelow}
-use Rattle.plain_lists.specs.Keys.{text_cmp}
-use Rattle.plain_lists.proofs.KeyLemmas.{Less-from_is_lt, text_cmp-trans}
+use Rattle.plain_data.specs.Members.{Rises, AllBelow}
+use Rattle.plain_data.specs.Keys.{text_cmp}
+use Rattle.plain_data.proofs.KeyLemmas.{Less-from_is_lt, text_cmp-trans}
 use Rattle.event_tree.specs.Values.{Members}
 use Rattle.event_tree.specs.declared.value.Value.{Value}
 use Rattle.element_code.specs.Reading.{is_above, last_key}

@@ -10,19 +10,20 @@ use Rattle.event_tree.specs.Number.{Num}
 use Rattle.event_tree.specs.Values.{Members}
 use Rattle.event_tree.specs.declared.value.Value.{Value}
 use Rattle.event_tree.specs.declared.value.Value.TheVariants as v
-use Rattle.element_code.specs.Parts.{Part, plain, text, many, count, key, count_bytes, number_bytes, time_bytes, parts}
+use Rattle.byte_reader.specs.Fronts.{EndIn, count_bytes, front_at, run_at, ◌>>=◌}
+use Rattle.byte_reader.proofs.Fronts.{chosen, front_again, front_takes, run_again, run_takes}
+use Rattle.byte_reader.proofs.Cuts.{bind_err, front_err, filled, run_cut}
+use Rattle.element_code.specs.Parts.{Part, plain, text, many, count, key, number_bytes, time_bytes, parts}
 use Rattle.element_code.specs.Values.{IsNumber, IsText, IsValue}
-use Rattle.element_code.specs.Reading.{◌>>=◌, split_at, run_at, fits, number_in, time_in, text_in, leaf_at}
-use Rattle.element_code.specs.Faults.{EndIn, EndWithin, CanBe, MayFollow, cut, misfit}
+use Rattle.element_code.specs.Reading.{fits, number_in, time_in, text_in, leaf_at}
+use Rattle.element_code.specs.Faults.{EndWithin, CanBe, MayFollow, cut, misfit}
 use Rattle.element_code.proofs.Leaves.{is_text}
 use Rattle.element_code.proofs.Numbers.{number_again, time_again, length-number_bytes, length-time_bytes}
 use Rattle.event_tree.proofs.Shapes.{Shape, is_null, is_bool, is_number, is_text as text_shape, is_time, is_list, is_object, shape_of}
 use Rattle.element_code.proofs.PartsOf.{parts-Null, parts-Bool, parts-Num, parts-Text, parts-Time, parts-List, parts-Object, null_value, number_value, text_value, time_value, number_of_value, text_of_value, time_of_value}
-use Rattle.element_code.proofs.Runs.{chosen, split_again, split_takes, run_again, run_takes}
 use Rattle.element_code.proofs.Sound.{same_tag}
 use Rattle.element_code.proofs.Within.{Stopped}
 use Rattle.element_code.proofs.PartLists.{ValueParts}
-use Rattle.element_code.proofs.Cuts.{bind_err, split_err, filled, run_cut}
 
 -- the byte with which the bytes of such a part begin
 same_first : (tag t : ℕ) (own rest more : List ℕ) → (t ∷ rest) ++ more ≡ tag ∷ own → t ≡ tag
@@ -113,17 +114,17 @@ ended left x y r e f = search (sym e ∙ f, rules)
 
 -- a field of so many bytes behind its tag, which the bytes there don't fit
 module _ (levels tag n : ℕ) (rest : List ℕ) (left : ℕ) (found : List ℕ → Option Value) (own : List ℕ) where
-  no_field : (x : List ℕ × List ℕ) → split_at n rest ≡ Ok x → length x.0 ≡ n → rest ≡ x.0 ++ x.1 → found x.0 ≡ None → length own ≡ n → CanBe (plain tag own) (tag ∷ rest) → ((d : Value) × (found own ≡ Some d)) → ⊥
+  no_field : (x : List ℕ × List ℕ) → front_at n rest ≡ Ok x → length x.0 ≡ n → rest ≡ x.0 ++ x.1 → found x.0 ≡ None → length own ≡ n → CanBe (plain tag own) (tag ∷ rest) → ((d : Value) × (found own ≡ Some d)) → ⊥
   no_field x h long is none same (inl w) some =
       let e : rest ≡ own ++ w.0 = same_tail tag rest (own ++ w.0) w.1 in
-      let f : x ≡ (own, w.0) = ended left x (own, w.0) (split_at n rest) h (ap (split_at n) e ∙ split_again own w.0 n (sym same)) in
+      let f : x ≡ (own, w.0) = ended left x (own, w.0) (front_at n rest) h (ap (front_at n) e ∙ front_again own w.0 n (sym same)) in
       absurd (search (sym none ∙ ap (λ y. found y.0) f ∙ some.1, rules))
   no_field x h long is none same (inr w) some =
       omega (arith, ap length w.2.2, length-append rest (w.2.0 ∷ w.2.1), w.1, same, ap length is, length-append x.0 x.1, long)
 
 -- such a field, or a run of bytes, as a value
 abbrev fixed_at : ℕ → (List ℕ → Option Value) → List ℕ → Result (Value × List ℕ) ℕ
-fixed_at n found rest = split_at n rest >>= λ y. (fits rest (found y.0) >>= λ d. Ok (d, y.1))
+fixed_at n found rest = front_at n rest >>= λ y. (fits rest (found y.0) >>= λ d. Ok (d, y.1))
 
 abbrev text_at : List ℕ → Result (Value × List ℕ) ℕ
 text_at rest = run_at rest >>= λ y. (fits rest (text_in y.0) >>= λ d. Ok (d, y.1))
@@ -139,15 +140,15 @@ epoch : IsMoment (pos 0)
 epoch = record { from_first = omega (arith, ints); to_last = omega (arith, ints) }
 
 number_stops : (levels : ℕ) (rest : List ℕ) (left : ℕ) → IsBytes rest → fixed_at 9 number_in rest ≡ Err left → Stopped (ValueParts levels) (3 ∷ rest) left
-number_stops levels rest left fit h = elim (bind_err (split_at 9 rest) (λ y. (fits rest (number_in y.0) >>= λ d. Ok (d, y.1))) left h) [
+number_stops levels rest left fit h = elim (bind_err (front_at 9 rest) (λ y. (fits rest (number_in y.0) >>= λ d. Ok (d, y.1))) left h) [
   | inl w ↦
-      let s = split_err 9 rest left w in
+      let s = front_err 9 rest left w in
       let f = filled 9 rest s.0 in
       cut_part levels (3 ∷ rest) left (plain 3 (number_bytes zero_number)) ([], (v.Num zero_number, number_value levels zero_number zero_valid, sym (parts-Num zero_number)))
       (f.0, f.1 ∙ sym (length-number_bytes zero_number), (f.2.0, f.2.1, ap (λ b. 3 ∷ b) f.2.2)) s.1
   | inr w ↦
       let x = w.0 in
-      let t = split_takes 9 rest x fit w.1 in
+      let t = front_takes 9 rest x fit w.1 in
       elim (bind_err (fits rest (number_in x.0)) (λ d. Ok (d, x.1)) left w.2) [
         | inl u ↦
             let none = fits_err rest (number_in x.0) left u in
@@ -166,15 +167,15 @@ number_stops levels rest left fit h = elim (bind_err (split_at 9 rest) (λ y. (f
 ]
 
 time_stops : (levels : ℕ) (rest : List ℕ) (left : ℕ) → IsBytes rest → fixed_at 12 time_in rest ≡ Err left → Stopped (ValueParts levels) (5 ∷ rest) left
-time_stops levels rest left fit h = elim (bind_err (split_at 12 rest) (λ y. (fits rest (time_in y.0) >>= λ d. Ok (d, y.1))) left h) [
+time_stops levels rest left fit h = elim (bind_err (front_at 12 rest) (λ y. (fits rest (time_in y.0) >>= λ d. Ok (d, y.1))) left h) [
   | inl w ↦
-      let s = split_err 12 rest left w in
+      let s = front_err 12 rest left w in
       let f = filled 12 rest s.0 in
       cut_part levels (5 ∷ rest) left (plain 5 (time_bytes (pos 0))) ([], (v.Time (pos 0), time_value levels (pos 0) epoch, sym (parts-Time (pos 0))))
       (f.0, f.1 ∙ sym (length-time_bytes (pos 0)), (f.2.0, f.2.1, ap (λ b. 5 ∷ b) f.2.2)) s.1
   | inr w ↦
       let x = w.0 in
-      let t = split_takes 12 rest x fit w.1 in
+      let t = front_takes 12 rest x fit w.1 in
       elim (bind_err (fits rest (time_in x.0)) (λ d. Ok (d, x.1)) left w.2) [
         | inl u ↦
             let none = fits_err rest (time_in x.0) left u in

@@ -13,7 +13,8 @@ use Rattle.std.proofs.lemmas.Bool.Decides.{Decides-int_eq, nat_tests}
 use Rattle.byteorder.specs.Endian.{big_number}
 use Rattle.event_tree.specs.Number.{Num, least}
 use Rattle.event_tree.specs.declared.value.Value.TheVariants as v
-use Rattle.element_code.specs.Reading.{exact_number, same_number, moment_of, is_moment, text_in, run_at, is_above, key_at}
+use Rattle.byte_reader.specs.Fronts.{run_at}
+use Rattle.element_code.specs.Reading.{exact_number, same_number, moment_of, is_moment, text_in, is_above, key_at}
 use Rattle.time_instant.specs.Calendar.{first_moment, last_moment}
 use Rattle.event_tree.proofs.Orders.{both_true}
 

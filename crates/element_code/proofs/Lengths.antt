@@ -1,9 +1,9 @@
 -- How long spellings are, and that what has a spelling nests and rises as an event does.
 use Rattle.std.proofs.Common.{◌≡◌, ℕ, zero, suc, ◌-◌, ◌≤◌, List, [], ◌∷◌, ◌++◌, length, map, true, Option, Some, None, refl, sym, ap, subst, ◌∙◌, arith, length-append}
 use Rattle.std.specs.Map.{keys_of}
-use Rattle.plain_lists.specs.Keys.{Below}
-use Rattle.plain_lists.specs.Members.{Rises}
-use Rattle.plain_lists.proofs.KeyLemmas.{Below-trans}
+use Rattle.plain_data.specs.Keys.{Below}
+use Rattle.plain_data.specs.Members.{Rises}
+use Rattle.plain_data.proofs.KeyLemmas.{Below-trans}
 use Rattle.event_tree.specs.Values.{Members, on_values, depth, items_depth, members_depth}
 use Rattle.event_tree.specs.Sizes.{size, items_size, members_size}
 use Rattle.event_tree.specs.Ordered.{ordered, items_ordered, members_ordered}
@@ -13,12 +13,13 @@ use Rattle.event_tree.specs.declared.value.Value.TheVariants as v
 use Rattle.event_tree.proofs.Depths.{depth-Null, depth-Bool, depth-Num, depth-Text, depth-Time, depth-List, depth-Object}
 use Rattle.event_tree.proofs.Sizes.{size-Null, size-Bool, size-Num, size-Text, size-Time, size-List, size-Object}
 use Rattle.event_tree.proofs.Orders.{ordered-Null, ordered-Bool, ordered-Num, ordered-Text, ordered-Time, ordered-List, ordered_rises, both_true}
-use Rattle.element_code.specs.Parts.{plain, text, count, key, part_bytes, bytes_of, count_bytes, number_bytes, time_bytes, items_parts, members_parts, parts, spelling, object_parts, event_spelling}
+use Rattle.byte_reader.specs.Fronts.{count_bytes}
+use Rattle.byte_reader.proofs.Fronts.{length-count_bytes}
+use Rattle.element_code.specs.Parts.{plain, text, count, key, part_bytes, bytes_of, number_bytes, time_bytes, items_parts, members_parts, parts, spelling, object_parts, event_spelling}
 use Rattle.element_code.specs.Values.{IsValue, AreValues, AreMembers, AreMembersOf, IsEventObject, IsWhole}
 use Rattle.element_code.proofs.Numbers.{length-number_bytes, length-time_bytes}
 use Rattle.event_tree.proofs.Shapes.{Shape, is_null, is_bool, is_number, is_text, is_time, is_list, is_object, shape_of}
 use Rattle.element_code.proofs.PartsOf.{bytes_of-append, parts-Null, parts-Bool, parts-Num, parts-Text, parts-Time, parts-List, parts-Object, no_list_value, no_object_value, items_of_value, members_of_value}
-use Rattle.element_code.proofs.Runs.{length-count_bytes}
 use Rattle.element_code.proofs.Again.{one_part, object_parts_are}
 
 -- ---- the length of a spelling is the encoded size

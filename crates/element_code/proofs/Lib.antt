@@ -2,7 +2,6 @@ pub mod Leaves
 pub mod LastKeys
 pub mod Loops
 pub mod PartsOf
-pub mod Runs
 pub mod Numbers
 pub mod Again
 pub mod Sound
@@ -12,7 +11,6 @@ pub mod Spellings
 pub mod Within
 pub mod PartLists
 pub mod RisingKeys
-pub mod Cuts
 pub mod LeafPlaces
 pub mod Places
 pub mod MemberPlaces

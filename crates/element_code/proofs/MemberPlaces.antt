@@ -8,17 +8,18 @@ use Rattle.event_tree.specs.Values.{on_values}
 use Rattle.event_tree.specs.declared.value.Value.{Value}
 use Rattle.event_tree.specs.declared.value.Value.TheVariants as v
 use Rattle.event_tree.proofs.Orders.{both_true}
-use Rattle.element_code.specs.Parts.{Part, key, part_bytes, count_bytes, members_parts, parts, spelling}
+use Rattle.byte_reader.specs.Fronts.{Reads, count_bytes, run_at, ◌>>=◌}
+use Rattle.byte_reader.proofs.Fronts.{chosen, run_takes, length-count_bytes}
+use Rattle.byte_reader.proofs.Cuts.{bind_err, run_cut}
+use Rattle.element_code.specs.Parts.{Part, key, part_bytes, members_parts, parts, spelling}
 use Rattle.element_code.specs.Values.{IsText, IsAbove, IsValue, AreMembers}
-use Rattle.element_code.specs.Reading.{◌>>=◌, Reads, run_at, is_above, key_at, members_at}
+use Rattle.element_code.specs.Reading.{is_above, key_at, members_at}
 use Rattle.element_code.specs.Faults.{CanBe, MayFollow, cut, misfit}
-use Rattle.element_code.proofs.Runs.{chosen, run_takes, length-count_bytes}
 use Rattle.element_code.proofs.Again.{above_true}
 use Rattle.element_code.proofs.Sound.{IsSound, key_sound}
 use Rattle.element_code.proofs.Within.{StandsIn, Stopped, stopped_in}
 use Rattle.element_code.proofs.PartLists.{ValueParts, MembersParts, value_free, members_free}
 use Rattle.element_code.proofs.RisingKeys.{next_key, next_members, length-next_members, are_next, base_of, above_base}
-use Rattle.element_code.proofs.Cuts.{bind_err, run_cut}
 use Rattle.element_code.proofs.LeafPlaces.{same_run, no_end}
 use Rattle.element_code.proofs.Places.{same_head, same_tail, behind_value, cons, StopsAt}
 
@@ -108,7 +109,7 @@ module _ (levels : ℕ) (last : Option (List ℕ)) (n : ℕ) where
     free = members_free levels (Some k) n;
   }
 
-module _ (levels : ℕ) (read : Reads) (sound : IsSound levels read) (stop : StopsAt levels read) where
+module _ (levels : ℕ) (read : Reads Value) (sound : IsSound levels read) (stop : StopsAt levels read) where
   pub members_stop : (last : Option (List ℕ)) (n : ℕ) (bytes : List ℕ) (left : ℕ) → IsBytes bytes → length bytes ≤ 16777216 → Base last → n ≤ 2 ^ 32 → members_at read last n bytes ≡ Err left → Stopped (MembersParts levels last n) bytes left
   members_stop last zero bytes left fit short base few h = absurd (search (h, rules))
   members_stop last (suc n) bytes left fit short base few h = elim (bind_err (key_at last bytes) (λ k. (read k.1 >>= λ y. (members_at read (Some k.0) n y.1 >>= λ ms. Ok ((k.0, y.0) ∷ ms.0, ms.1)))) left h) [

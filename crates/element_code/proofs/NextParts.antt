@@ -5,13 +5,13 @@ use Rattle.event_tree.specs.Values.{Members, on_values}
 use Rattle.event_tree.specs.Events.{Ev}
 use Rattle.event_tree.specs.declared.value.Value.{Value}
 use Rattle.event_tree.specs.declared.value.Value.TheVariants as v
-use Rattle.element_code.specs.Parts.{Part, plain, text, many, count, key, part_bytes, count_bytes, number_bytes, time_bytes, items_parts, members_parts, parts, object_parts, event_parts}
+use Rattle.byte_reader.specs.Fronts.{count_bytes, number_at, run_at}
+use Rattle.byte_reader.proofs.Fronts.{count_again, run_again, ok_is}
+use Rattle.element_code.specs.Parts.{Part, plain, text, many, count, key, part_bytes, number_bytes, time_bytes, items_parts, members_parts, parts, object_parts, event_parts}
 use Rattle.element_code.specs.Values.{IsValue, AreValues, AreMembers, IsEventObject, IsWhole}
-use Rattle.element_code.specs.Reading.{number_at, run_at}
 use Rattle.element_code.proofs.Numbers.{length-number_bytes, length-time_bytes}
 use Rattle.event_tree.proofs.Shapes.{Shape, is_null, is_bool, is_number, is_text, is_time, is_list, is_object, shape_of}
 use Rattle.element_code.proofs.PartsOf.{parts-Null, parts-Bool, parts-Num, parts-Text, parts-Time, parts-List, parts-Object, no_list_value, no_object_value, items_of_value, members_of_value, text_of_value}
-use Rattle.element_code.proofs.Runs.{number_again, run_again, ok_is}
 use Rattle.element_code.proofs.Again.{object_parts_are}
 use Rattle.element_code.proofs.Places.{same_head, same_tail}
 
@@ -152,7 +152,7 @@ same_length (x ∷ xs) (y ∷ ys) zs ws e h =
     λ i. a i ∷ b i
 
 same_count : (n m : ℕ) (x y : List ℕ) → n < 2 ^ 32 → m < 2 ^ 32 → count_bytes n ++ x ≡ count_bytes m ++ y → n ≡ m
-same_count n m x y low high e = ap (λ z. z.0) (ok_is (n, x) (m, y) (sym (number_again n x low) ∙ ap number_at e ∙ number_again m y high))
+same_count n m x y low high e = ap (λ z. z.0) (ok_is (n, x) (m, y) (sym (count_again n x low) ∙ ap (number_at 4) e ∙ count_again m y high))
 
 same_run : (s r x y : List ℕ) → length s < 2 ^ 32 → length r < 2 ^ 32 → (count_bytes (length s) ++ s) ++ x ≡ (count_bytes (length r) ++ r) ++ y → s ≡ r
 same_run s r x y low high e =

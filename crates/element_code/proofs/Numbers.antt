@@ -18,11 +18,11 @@ use Rattle.event_tree.proofs.Orders.{first, second as second_true}
 use Rattle.event_tree.specs.Number.{Num, IsLeast, least}
 use Rattle.event_tree.specs.declared.value.Value.{Value}
 use Rattle.event_tree.specs.declared.value.Value.TheVariants as v
+use Rattle.byte_reader.proofs.Fronts.{chosen, length-big_bytes}
 use Rattle.element_code.specs.Parts.{number_bytes, time_bytes, second}
 use Rattle.element_code.specs.Values.{IsNumber}
 use Rattle.element_code.specs.Reading.{number_in, exact_number, same_number, time_in, moment_of, is_moment, text_in}
 use Rattle.element_code.proofs.Leaves.{same_parts, moment_is}
-use Rattle.element_code.proofs.Runs.{chosen, length-big_bytes}
 
 some_is : {A : Type 0} (x y : A) → Some x ≡ Some y → x ≡ y
 some_is x y h = search (h, rules)

@@ -1,11 +1,11 @@
 -- Bytes are refused at one place at most.
 use Rattle.std.proofs.Common.{◌≡◌, ℕ, ◌+◌, ◌<◌, ◌^◌, ◌⊎◌, inl, inr, List, [], ◌∷◌, ◌++◌, length, refl, sym, ap, subst, ◌∙◌, append_assoc, length-append, arith, rules}
 use Rattle.std.proofs.lemmas.List.{append-nil}
-use Rattle.element_code.specs.Parts.{Part, plain, text, many, count, key, part_bytes, bytes_of, count_bytes, event_parts, event_spelling}
-use Rattle.element_code.specs.Reading.{run_at}
+use Rattle.byte_reader.specs.Fronts.{count_bytes, run_at}
+use Rattle.byte_reader.proofs.Fronts.{run_again, length-count_bytes, ok_is}
+use Rattle.element_code.specs.Parts.{Part, plain, text, many, count, key, part_bytes, bytes_of, event_parts, event_spelling}
 use Rattle.element_code.specs.Faults.{EndWithin, CanBe, MayFollow, Stops, cut, misfit, place_in, AreEventParts, IsRefusedAt, long, stops, behind}
 use Rattle.element_code.proofs.PartsOf.{bytes_of-append}
-use Rattle.element_code.proofs.Runs.{run_again, length-count_bytes, ok_is}
 use Rattle.element_code.proofs.Sound.{none_begins}
 use Rattle.element_code.proofs.Places.{same_head, same_tail, same_behind}
 use Rattle.element_code.proofs.NextParts.{Kind, of_value, of_key, of_count, of_nothing, kind, IsPart, Due, AreDue, kind_due, after, after_all, next_due, same_part, own_length, both_objects, event_due}

@@ -3,11 +3,12 @@ use Rattle.std.proofs.Common.{◌≡◌, ℕ, zero, suc, List, [], ◌∷◌, �
 use Rattle.event_tree.specs.Values.{Members, on_values}
 use Rattle.event_tree.specs.declared.value.Value.{Value}
 use Rattle.event_tree.specs.declared.value.Value.TheVariants as v
-use Rattle.element_code.specs.Parts.{Part, count, bytes_of, count_bytes, items_parts, members_parts, parts}
+use Rattle.byte_reader.specs.Fronts.{count_bytes, repeated}
+use Rattle.byte_reader.proofs.Fronts.{ok_is}
+use Rattle.element_code.specs.Parts.{Part, count, bytes_of, items_parts, members_parts, parts}
 use Rattle.element_code.specs.Values.{IsValue, AreValues, AreMembers, AreMembersOf}
-use Rattle.element_code.specs.Reading.{value_at, items_at, members_at, object_at}
+use Rattle.element_code.specs.Reading.{value_at, members_at, object_at}
 use Rattle.element_code.proofs.PartsOf.{bytes_of-append, null_value}
-use Rattle.element_code.proofs.Runs.{ok_is}
 use Rattle.element_code.proofs.Again.{value_again, items_again, members_again, object_again}
 
 abbrev pub ValueParts : ℕ → List Part → Type 0
@@ -39,9 +40,9 @@ items_free levels n a b x y p q e =
     let view : List Value → List Part = λ vs. items_parts (map parts vs) in
     let h : view p.0 ++ x ≡ view q.0 ++ y = ap (λ l. l ++ x) (sym p.3) ∙ e ∙ ap (λ l. l ++ y) q.3 in
     let again = items_again (value_at levels) (IsValue levels) (λ d rest. value_again levels d rest) in
-    let rp = ap (λ k. items_at (value_at levels) k (bytes_of (view p.0) ++ bytes_of x)) (sym p.1) ∙ again p.0 (bytes_of x) p.2 in
-    let rq = ap (λ k. items_at (value_at levels) k (bytes_of (view q.0) ++ bytes_of y)) (sym q.1) ∙ again q.0 (bytes_of y) q.2 in
-    p.3 ∙ ap view (same_read view (items_at (value_at levels) n) p.0 q.0 x y rp rq h) ∙ sym q.3
+    let rp = ap (λ k. repeated (value_at levels) k (bytes_of (view p.0) ++ bytes_of x)) (sym p.1) ∙ again p.0 (bytes_of x) p.2 in
+    let rq = ap (λ k. repeated (value_at levels) k (bytes_of (view q.0) ++ bytes_of y)) (sym q.1) ∙ again q.0 (bytes_of y) q.2 in
+    p.3 ∙ ap view (same_read view (repeated (value_at levels) n) p.0 q.0 x y rp rq h) ∙ sym q.3
 
 pub members_free : (levels : ℕ) (last : Option (List ℕ)) (n : ℕ) (a b x y : List Part) → MembersParts levels last n a → MembersParts levels last n b → a ++ x ≡ b ++ y → a ≡ b
 members_free levels last n a b x y p q e =

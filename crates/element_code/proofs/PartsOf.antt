@@ -6,40 +6,35 @@ use Rattle.event_tree.specs.Number.{Num}
 use Rattle.event_tree.specs.Values.{Members, on_values}
 use Rattle.event_tree.specs.declared.value.Value.{Value, out-Value}
 use Rattle.event_tree.specs.declared.value.Value.TheOpen.{Value-F}
-use Rattle.event_tree.specs.declared.value.Value.TheFolds.{fold-Value, fold-roll-Value}
 use Rattle.event_tree.specs.declared.value.Value.TheVariants as v
+use Rattle.event_tree.proofs.Folds.{IsFold, fold_is}
 use Rattle.element_code.specs.Parts.{Part, plain, text, many, part_bytes, bytes_of, number_bytes, time_bytes, items_parts, members_parts, parts, parts_step}
 use Rattle.element_code.specs.Values.{IsNumber, IsText, IsValue, IsValueIn, AreItemsOf, AreMembersOf}
 
-pub parts-Null : parts v.Null ≡ plain 0 [] ∷ []
+parts_equations : IsFold (List Part) parts_step parts
 unfolding parts
-parts-Null = ap (fold-Value (List Part) parts_step) (sym v.rolls-Null) ∙ fold-roll-Value (List Part) parts_step Value-F.Null
+parts_equations = fold_is (List Part) parts_step
+
+pub parts-Null : parts v.Null ≡ plain 0 [] ∷ []
+parts-Null = parts_equations.null
 
 pub parts-Bool : (b : Bool) → parts (v.Bool b) ≡ plain (if b then 2 else 1) [] ∷ []
-unfolding parts
-parts-Bool b = ap (fold-Value (List Part) parts_step) (sym (v.rolls-Bool b)) ∙ fold-roll-Value (List Part) parts_step (Value-F.Bool b)
+parts-Bool b = parts_equations.bool b
 
 pub parts-Num : (n : Num) → parts (v.Num n) ≡ plain 3 (number_bytes n) ∷ []
-unfolding parts
-parts-Num n = ap (fold-Value (List Part) parts_step) (sym (v.rolls-Num n)) ∙ fold-roll-Value (List Part) parts_step (Value-F.Num n)
+parts-Num n = parts_equations.number n
 
 pub parts-Text : (s : List ℕ) → parts (v.Text s) ≡ text s ∷ []
-unfolding parts
-parts-Text s = ap (fold-Value (List Part) parts_step) (sym (v.rolls-Text s)) ∙ fold-roll-Value (List Part) parts_step (Value-F.Text s)
+parts-Text s = parts_equations.text s
 
 pub parts-Time : (t : ℤ) → parts (v.Time t) ≡ plain 5 (time_bytes t) ∷ []
-unfolding parts
-parts-Time t = ap (fold-Value (List Part) parts_step) (sym (v.rolls-Time t)) ∙ fold-roll-Value (List Part) parts_step (Value-F.Time t)
+parts-Time t = parts_equations.time t
 
 pub parts-List : (vs : List Value) → parts (v.List vs) ≡ many 6 (length vs) ∷ items_parts (map parts vs)
-unfolding parts
-parts-List vs = ap (fold-Value (List Part) parts_step) (sym (v.rolls-List vs)) ∙ fold-roll-Value (List Part) parts_step (Value-F.List vs) ∙ ap (λ n. many 6 n ∷ items_parts (map parts vs)) (length-map vs parts)
+parts-List vs = parts_equations.list vs ∙ ap (λ n. many 6 n ∷ items_parts (map parts vs)) (length-map vs parts)
 
 pub parts-Object : (ms : Members) → parts (v.Object ms) ≡ many 7 (length ms) ∷ members_parts (on_values parts ms)
-unfolding parts
-parts-Object ms = ap (fold-Value (List Part) parts_step) (sym (v.rolls-Object ms)) ∙ fold-roll-Value (List Part) parts_step (Value-F.Object ms) ∙ ap (λ n. many 7 n ∷ members_parts (on_values parts ms)) (length-map ms (λ m. (m.0, parts m.1)))
-
-pub ruleset all_parts = (parts-Null, parts-Bool, parts-Num, parts-Text, parts-Time, parts-List, parts-Object)
+parts-Object ms = parts_equations.object ms ∙ ap (λ n. many 7 n ∷ members_parts (on_values parts ms)) (length-map ms (λ m. (m.0, parts m.1)))
 
 pub bytes_of-append : (ps qs : List Part) → bytes_of (ps ++ qs) ≡ bytes_of ps ++ bytes_of qs
 bytes_of-append [] qs = refl

@@ -3,13 +3,13 @@ use Rattle.std.proofs.Common.{◌≡◌, ℕ, zero, suc, ◌≤◌, inl, inr, Li
 use Rattle.std.proofs.lemmas.List.{append-nil}
 use Rattle.crc_frame.proofs.Numbers.{IsBytes}
 use Rattle.event_tree.specs.declared.value.Value.{Value}
+use Rattle.byte_reader.specs.Fronts.{Reads, repeated, ◌>>=◌}
+use Rattle.byte_reader.proofs.Cuts.{bind_err}
 use Rattle.element_code.specs.Parts.{Part, items_parts, parts, spelling}
 use Rattle.element_code.specs.Values.{IsValue, AreValues}
-use Rattle.element_code.specs.Reading.{◌>>=◌, Reads, items_at}
 use Rattle.element_code.proofs.Sound.{IsSound}
 use Rattle.element_code.proofs.Within.{StandsIn, Stopped, stopped_in}
 use Rattle.element_code.proofs.PartLists.{ValueParts, ItemsParts, value_free, items_free, nulls, length-nulls, are_nulls}
-use Rattle.element_code.proofs.Cuts.{bind_err}
 
 -- ---- lists
 
@@ -41,7 +41,7 @@ cons (x ∷ xs) n e = record { head = x; tail = xs; is = refl; length_is = omega
 
 -- ---- items
 
-abbrev pub StopsAt : ℕ → Reads → Type 0
+abbrev pub StopsAt : ℕ → Reads Value → Type 0
 StopsAt levels read = (bytes : List ℕ) (left : ℕ) → IsBytes bytes → length bytes ≤ 16777216 → read bytes ≡ Err left → Stopped (ValueParts levels) bytes left
 
 item_stands : (levels n : ℕ) → StandsIn (ValueParts levels) (ItemsParts levels (suc n)) []
@@ -60,15 +60,15 @@ later_items_stand levels n d is = record {
   free = items_free levels n;
 }
 
-module _ (levels : ℕ) (read : Reads) (sound : IsSound levels read) (stop : StopsAt levels read) where
-  pub items_stop : (n : ℕ) (bytes : List ℕ) (left : ℕ) → IsBytes bytes → length bytes ≤ 16777216 → items_at read n bytes ≡ Err left → Stopped (ItemsParts levels n) bytes left
+module _ (levels : ℕ) (read : Reads Value) (sound : IsSound levels read) (stop : StopsAt levels read) where
+  pub items_stop : (n : ℕ) (bytes : List ℕ) (left : ℕ) → IsBytes bytes → length bytes ≤ 16777216 → repeated read n bytes ≡ Err left → Stopped (ItemsParts levels n) bytes left
   items_stop zero bytes left fit short h = absurd (search (h, rules))
-  items_stop (suc n) bytes left fit short h = elim (bind_err (read bytes) (λ x. items_at read n x.1 >>= λ xs. Ok (x.0 ∷ xs.0, xs.1)) left h) [
+  items_stop (suc n) bytes left fit short h = elim (bind_err (read bytes) (λ x. repeated read n x.1 >>= λ xs. Ok (x.0 ∷ xs.0, xs.1)) left h) [
     | inl w ↦ stopped_in (ValueParts levels) (ItemsParts levels (suc n)) [] bytes bytes left (item_stands levels n) refl (stop bytes left fit short w)
     | inr w ↦
         let x = w.0 in
         let s = sound bytes x fit w.1 in
-        elim (bind_err (items_at read n x.1) (λ xs. Ok (x.0 ∷ xs.0, xs.1)) left w.2) [
+        elim (bind_err (repeated read n x.1) (λ xs. Ok (x.0 ∷ xs.0, xs.1)) left w.2) [
           | inl u ↦ stopped_in (ItemsParts levels n) (ItemsParts levels (suc n)) (parts x.0) x.1 bytes left (later_items_stand levels n x.0 s.value) s.is (items_stop n x.1 left s.fits (omega (arith, short, ap length s.is, length-append (spelling x.0) x.1)) u)
           | inr u ↦ absurd (search (u.2, rules))
         ]

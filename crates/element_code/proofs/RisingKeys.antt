@@ -6,9 +6,10 @@ use Rattle.std.specs.Str.{IsUtf8, IsAscii}
 use Rattle.std.specs.Ordering.{nat_cmp}
 use Rattle.std.specs.Cmp.{nat_cmp_is}
 use Rattle.std.specs.declared.cmp.Ordering.TheVariants.{Less, Equal}
-use Rattle.plain_lists.specs.Keys.{text_cmp}
+use Rattle.plain_data.specs.Keys.{text_cmp}
 use Rattle.event_tree.specs.Values.{Members}
 use Rattle.event_tree.specs.declared.value.Value.TheVariants as v
+use Rattle.byte_reader.proofs.Cuts.{zeros, length-zeros}
 use Rattle.element_code.specs.Values.{IsText, IsAbove, IsValue, AreMembers}
 use Rattle.element_code.proofs.PartsOf.{null_value}
 
@@ -31,14 +32,6 @@ text_cmp-front (x ∷ b) xs ys = text_cmp-same x (b ++ xs) (b ++ ys) ∙ text_cm
 longer : (b : List ℕ) (x : ℕ) (xs : List ℕ) → text_cmp b (b ++ x ∷ xs) ≡ Less
 longer [] x xs = refl
 longer (y ∷ b) x xs = text_cmp-same y b (b ++ x ∷ xs) ∙ longer b x xs
-
-abbrev pub zeros : ℕ → List ℕ
-zeros zero = []
-zeros (suc n) = 0 ∷ zeros n
-
-pub length-zeros : (n : ℕ) → length (zeros n) ≡ n
-length-zeros zero = refl
-length-zeros (suc n) = ap suc (length-zeros n)
 
 zeros-ascii : (n : ℕ) → IsAscii (zeros n)
 zeros-ascii zero i = omega arith

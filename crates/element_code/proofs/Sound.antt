@@ -5,19 +5,20 @@ use Rattle.std.proofs.lemmas.Bool.Decides.{nat_tests}
 use Rattle.std.specs.Str.{is_utf8}
 use Rattle.std.proofs.lemmas.Str.{IsUtf8-from_is_utf8}
 use Rattle.crc_frame.proofs.Numbers.{IsBytes}
-use Rattle.plain_lists.proofs.KeyLemmas.{Less-from_is_lt}
-use Rattle.plain_lists.specs.Keys.{text_cmp}
+use Rattle.plain_data.proofs.KeyLemmas.{Less-from_is_lt}
+use Rattle.plain_data.specs.Keys.{text_cmp}
 use Rattle.event_tree.specs.Values.{Members, on_values}
 use Rattle.event_tree.specs.Events.{Ev, both}
 use Rattle.event_tree.specs.declared.value.Value.{Value}
 use Rattle.event_tree.specs.declared.value.Value.TheVariants as v
 use Rattle.event_tree.proofs.Orders.{first, second as second_true}
-use Rattle.element_code.specs.Parts.{Part, plain, text, key, part_bytes, bytes_of, count_bytes, number_bytes, time_bytes, items_parts, members_parts, parts, spelling, object_parts, event_parts, event_spelling}
+use Rattle.byte_reader.specs.Fronts.{Reads, count_bytes, front_at, number_at, repeated, run_at, ◌>>=◌}
+use Rattle.byte_reader.proofs.Fronts.{bind_ok, chosen, ok_is, front_takes, count_takes, run_takes}
+use Rattle.element_code.specs.Parts.{Part, plain, text, key, part_bytes, bytes_of, number_bytes, time_bytes, items_parts, members_parts, parts, spelling, object_parts, event_parts, event_spelling}
 use Rattle.element_code.specs.Values.{IsText, IsAbove, IsValue, AreValues, AreMembers, AreItemsOf, AreMembersOf, IsWhole}
-use Rattle.element_code.specs.Reading.{◌>>=◌, Reads, split_at, run_at, number_at, fits, number_in, time_in, text_in, leaf_at, is_above, key_at, items_at, members_at, list_at, object_at, as_list, as_object, value_at, whole, event_at}
+use Rattle.element_code.specs.Reading.{fits, number_in, time_in, text_in, leaf_at, is_above, key_at, members_at, list_at, object_at, as_list, as_object, value_at, whole, event_at}
 use Rattle.element_code.proofs.Numbers.{number_takes as number_in_takes, time_takes, text_takes}
 use Rattle.element_code.proofs.PartsOf.{bytes_of-append, parts-Null, parts-Bool, parts-Num, parts-Text, parts-Time, parts-List, parts-Object, null_value, bool_value, number_value, text_value, time_value, list_value, object_value}
-use Rattle.element_code.proofs.Runs.{bind_ok, chosen, ok_is, split_takes, number_takes, run_takes}
 use Rattle.element_code.proofs.Again.{one_part, object_parts_are, event_and_more, event_again, objects_are}
 
 -- a value was read from the front of the bytes
@@ -34,18 +35,18 @@ fits_some : (behind : List ℕ) (found : Option Value) (d : Value) → fits behi
 fits_some behind None d h = absurd (search (h, rules))
 fits_some behind (Some y) d h = ap Some (ok_is y d h)
 
-number_sound : (levels : ℕ) (rest : List ℕ) (x : Value × List ℕ) → IsBytes rest → (split_at 9 rest >>= λ y. (fits rest (number_in y.0) >>= λ d. Ok (d, y.1))) ≡ Ok x → Sound levels (3 ∷ rest) x
+number_sound : (levels : ℕ) (rest : List ℕ) (x : Value × List ℕ) → IsBytes rest → (front_at 9 rest >>= λ y. (fits rest (number_in y.0) >>= λ d. Ok (d, y.1))) ≡ Ok x → Sound levels (3 ∷ rest) x
 number_sound levels rest x fit h =
-    let b = bind_ok (split_at 9 rest) (λ y. (fits rest (number_in y.0) >>= λ d. Ok (d, y.1))) x h in
-    let t = split_takes 9 rest b.0 fit b.1 in
+    let b = bind_ok (front_at 9 rest) (λ y. (fits rest (number_in y.0) >>= λ d. Ok (d, y.1))) x h in
+    let t = front_takes 9 rest b.0 fit b.1 in
     let f = bind_ok (fits rest (number_in b.0.0)) (λ d. Ok (d, b.0.1)) x b.2 in
     let n = number_in_takes b.0.0 f.0 t.0.front_fits t.1 (fits_some rest (number_in b.0.0) f.0 f.1) in
     leaf_sound levels (3 ∷ rest) b.0.0 b.0.1 f.0 (plain 3 (number_bytes n.number)) x (ok_is (f.0, b.0.1) x f.2) (ap parts n.is ∙ parts-Num n.number) (ap (λ bs. 3 ∷ bs) (t.0.is ∙ ap (λ bs. bs ++ b.0.1) n.spelled)) (subst (IsValue levels) (sym n.is) (number_value levels n.number n.valid)) t.0.fits
 
-time_sound : (levels : ℕ) (rest : List ℕ) (x : Value × List ℕ) → IsBytes rest → (split_at 12 rest >>= λ y. (fits rest (time_in y.0) >>= λ d. Ok (d, y.1))) ≡ Ok x → Sound levels (5 ∷ rest) x
+time_sound : (levels : ℕ) (rest : List ℕ) (x : Value × List ℕ) → IsBytes rest → (front_at 12 rest >>= λ y. (fits rest (time_in y.0) >>= λ d. Ok (d, y.1))) ≡ Ok x → Sound levels (5 ∷ rest) x
 time_sound levels rest x fit h =
-    let b = bind_ok (split_at 12 rest) (λ y. (fits rest (time_in y.0) >>= λ d. Ok (d, y.1))) x h in
-    let t = split_takes 12 rest b.0 fit b.1 in
+    let b = bind_ok (front_at 12 rest) (λ y. (fits rest (time_in y.0) >>= λ d. Ok (d, y.1))) x h in
+    let t = front_takes 12 rest b.0 fit b.1 in
     let f = bind_ok (fits rest (time_in b.0.0)) (λ d. Ok (d, b.0.1)) x b.2 in
     let n = time_takes b.0.0 f.0 t.0.front_fits t.1 (fits_some rest (time_in b.0.0) f.0 f.1) in
     leaf_sound levels (5 ∷ rest) b.0.0 b.0.1 f.0 (plain 5 (time_bytes n.nanos)) x (ok_is (f.0, b.0.1) x f.2) (ap parts n.is ∙ parts-Time n.nanos) (ap (λ bs. 5 ∷ bs) (t.0.is ∙ ap (λ bs. bs ++ b.0.1) n.spelled)) (subst (IsValue levels) (sym n.is) (time_value levels n.nanos n.valid)) t.0.fits
@@ -82,7 +83,7 @@ leaves_sound levels tag rest x fit h = elim (chosen (tag == 0) _ _ _ h) [
   ]
 ]
 
-abbrev pub IsSound : ℕ → Reads → Type 0
+abbrev pub IsSound : ℕ → Reads Value → Type 0
 IsSound levels read = (bytes : List ℕ) (x : Value × List ℕ) → IsBytes bytes → read bytes ≡ Ok x → Sound levels bytes x
 
 record ItemsSound (levels n : ℕ) (bytes : List ℕ) (x : List Value × List ℕ) : Type 0 where
@@ -121,13 +122,13 @@ key_sound last bytes x fit h =
       | inr w ↦ absurd (search (w.1, rules))
     ]
 
-module _ (levels : ℕ) (read : Reads) (sound : IsSound levels read) where
-  items_sound : (n : ℕ) (bytes : List ℕ) (x : List Value × List ℕ) → IsBytes bytes → items_at read n bytes ≡ Ok x → ItemsSound levels n bytes x
+module _ (levels : ℕ) (read : Reads Value) (sound : IsSound levels read) where
+  items_sound : (n : ℕ) (bytes : List ℕ) (x : List Value × List ℕ) → IsBytes bytes → repeated read n bytes ≡ Ok x → ItemsSound levels n bytes x
   items_sound zero bytes x fit h = subst (ItemsSound levels zero bytes) (ok_is ([], bytes) x h) (record { is = refl; length_is = refl; values = tt; fits = fit })
   items_sound (suc n) bytes x fit h =
-      let b = bind_ok (read bytes) (λ y. (items_at read n y.1 >>= λ ys. Ok (y.0 ∷ ys.0, ys.1))) x h in
+      let b = bind_ok (read bytes) (λ y. (repeated read n y.1 >>= λ ys. Ok (y.0 ∷ ys.0, ys.1))) x h in
       let one = sound bytes b.0 fit b.1 in
-      let c = bind_ok (items_at read n b.0.1) (λ ys. Ok (b.0.0 ∷ ys.0, ys.1)) x b.2 in
+      let c = bind_ok (repeated read n b.0.1) (λ ys. Ok (b.0.0 ∷ ys.0, ys.1)) x b.2 in
       let more = items_sound n b.0.1 c.0 one.fits c.1 in
       let inner = items_parts (map parts c.0.0) in
       subst (ItemsSound levels (suc n) bytes) (ok_is (b.0.0 ∷ c.0.0, c.0.1) x c.2) (record {
@@ -169,8 +170,8 @@ module _ (levels : ℕ) (read : Reads) (sound : IsSound levels read) where
   pub list_sound : (bytes : List ℕ) (x : List Value × List ℕ) → IsBytes bytes → list_at read bytes ≡ Ok x → ListSound bytes x
   unfolding list_at
   list_sound bytes x fit h =
-      let b = bind_ok (number_at bytes) (λ n. items_at read n.0 n.1) x h in
-      let n = number_takes bytes b.0 fit b.1 in
+      let b = bind_ok (number_at 4 bytes) (λ n. repeated read n.0 n.1) x h in
+      let n = count_takes bytes b.0 fit b.1 in
       let s = items_sound b.0.0 b.0.1 x n.2 b.2 in
       record {
         is = n.0 ∙ ap (λ k. count_bytes k ++ b.0.1) (sym s.length_is) ∙ ap (λ bs. count_bytes (length x.0) ++ bs) s.is;
@@ -181,8 +182,8 @@ module _ (levels : ℕ) (read : Reads) (sound : IsSound levels read) where
   pub object_sound : (bytes : List ℕ) (x : Members × List ℕ) → IsBytes bytes → object_at read bytes ≡ Ok x → ObjectSound bytes x
   unfolding object_at
   object_sound bytes x fit h =
-      let b = bind_ok (number_at bytes) (λ n. members_at read None n.0 n.1) x h in
-      let n = number_takes bytes b.0 fit b.1 in
+      let b = bind_ok (number_at 4 bytes) (λ n. members_at read None n.0 n.1) x h in
+      let n = count_takes bytes b.0 fit b.1 in
       let s = members_sound None b.0.0 b.0.1 x n.2 b.2 in
       record {
         is = n.0 ∙ ap (λ k. count_bytes k ++ b.0.1) (sym s.length_is) ∙ ap (λ bs. count_bytes (length x.0) ++ bs) s.is;

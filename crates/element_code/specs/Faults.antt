@@ -1,12 +1,9 @@
 -- Where bytes stop being the spelling of an event: a place is counted from the first byte.
 use Rattle.std.specs.Prelude.{◌≡◌, ◌≢◌, ℕ, ◌+◌, ◌<◌, ◌≤◌, ◌^◌, ◌⊎◌, List, [], ◌∷◌, ◌++◌, length}
 use Rattle.event_tree.specs.Events.{Ev}
+use Rattle.byte_reader.specs.Fronts.{EndIn}
 use Rattle.element_code.specs.Parts.{Part, plain, text, many, count, key, part_bytes, bytes_of, event_parts}
 use Rattle.element_code.specs.Values.{IsWhole}
-
--- the bytes end before these do
-abbrev pub EndIn : List ℕ → List ℕ → Type 0
-EndIn whole bytes = (b : ℕ) × (more : List ℕ) × (bytes ++ b ∷ more ≡ whole)
 
 -- The bytes end within a part like this one. Its tag and its length say how far it goes, and what it says doesn't count.
 abbrev pub EndWithin : Part → List ℕ → Type 0
@@ -46,3 +43,7 @@ pub data IsRefusedAt (bytes : List ℕ) (at : ℕ) : Type 0 where
   long : 16777216 < length bytes → at ≡ 16777216 → IsRefusedAt bytes at
   stops : length bytes ≤ 16777216 → Stops AreEventParts bytes at → IsRefusedAt bytes at
   behind : length bytes ≤ 16777216 → (parts : List Part) (rest : List ℕ) → AreEventParts parts → bytes ≡ bytes_of parts ++ rest → rest ≢ [] → at ≡ length (bytes_of parts) → IsRefusedAt bytes at
+
+-- bytes are refused at one place at most
+abbrev pub HasOnePlace : (List ℕ → ℕ → Type 0) → Type 0
+HasOnePlace IsRefused = (bytes : List ℕ) (at other : ℕ) → IsRefused bytes at → IsRefused bytes other → at ≡ other

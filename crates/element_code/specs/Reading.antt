@@ -1,33 +1,18 @@
 -- Bytes as values, read once from the front: what was read and the bytes behind it, or how many bytes are left at the place of the fault.
-use Rattle.std.specs.Prelude.{ℕ, zero, suc, ◌+◌, ◌-◌, ◌==◌, ℤ, pos, ◌+ℤ◌, ◌*ℤ◌, List, [], ◌∷◌, length, take, drop, Bool, true, false, ◌&&◌, if◌then◌else◌, nat_lt, Option, Some, None, Result, Ok, Err, int_le}
+use Rattle.std.specs.Prelude.{ℕ, zero, suc, ◌+◌, ◌-◌, ◌==◌, ℤ, pos, ◌+ℤ◌, ◌*ℤ◌, List, [], ◌∷◌, length, drop, Bool, true, false, ◌&&◌, if◌then◌else◌, nat_lt, Option, Some, None, Result, Ok, Err, int_le}
 use Rattle.std.specs.Int.{w64, cast_signed}
 use Rattle.std.specs.Ordering.{is_lt, int_eq}
 use Rattle.std.specs.Str.{is_utf8}
 use Rattle.byteorder.specs.Endian.{big_number}
-use Rattle.plain_lists.specs.Keys.{text_cmp}
+use Rattle.plain_data.specs.Keys.{text_cmp}
 use Rattle.time_instant.specs.Calendar.{first_moment, last_moment}
 use Rattle.event_tree.specs.Number.{Num, least}
 use Rattle.event_tree.specs.Values.{Members}
 use Rattle.event_tree.specs.Events.{Ev, both}
 use Rattle.event_tree.specs.declared.value.Value.{Value}
 use Rattle.event_tree.specs.declared.value.Value.TheVariants as v
-
-infixl 10 ◌>>=◌
-abbrev pub ◌>>=◌ : {A B : Type 0} → Result A ℕ → (A → Result B ℕ) → Result B ℕ
-(Ok x) >>= f = f x
-(Err left) >>= f = Err left
-
--- the front of so many bytes, if they are there
-abbrev pub split_at : ℕ → List ℕ → Result (List ℕ × List ℕ) ℕ
-split_at n bytes = if nat_lt (length bytes) n then Err 0 else Ok (take n bytes, drop n bytes)
-
--- a count or a length
-abbrev pub number_at : List ℕ → Result (ℕ × List ℕ) ℕ
-number_at bytes = split_at 4 bytes >>= λ x. Ok (big_number 4 x.0, x.1)
-
--- as many bytes as their length says
-abbrev pub run_at : List ℕ → Result (List ℕ × List ℕ) ℕ
-run_at bytes = number_at bytes >>= λ n. split_at n.0 n.1
+use Rattle.element_code.specs.Parts.{null_tag, false_tag, true_tag, number_tag, text_tag, time_tag, list_tag, object_tag}
+use Rattle.byte_reader.specs.Fronts.{◌>>=◌, Reads, front_at, number_at, run_at, repeated}
 
 -- what fits its tag, or the fault at the tag, which stands before the bytes behind it
 abbrev pub fits : List ℕ → Option Value → Result Value ℕ
@@ -60,20 +45,13 @@ text_in bytes = if is_utf8 bytes then Some (v.Text bytes) else None
 -- a value that holds no others, behind its tag
 abbrev pub leaf_at : ℕ → List ℕ → Result (Value × List ℕ) ℕ
 leaf_at tag rest =
-    if tag == 0 then Ok (v.Null, rest)
-    else (if tag == 1 then Ok (v.Bool false, rest)
-    else (if tag == 2 then Ok (v.Bool true, rest)
-    else (if tag == 3 then (split_at 9 rest >>= λ x. (fits rest (number_in x.0) >>= λ d. Ok (d, x.1)))
-    else (if tag == 4 then (run_at rest >>= λ x. (fits rest (text_in x.0) >>= λ d. Ok (d, x.1)))
-    else (if tag == 5 then (split_at 12 rest >>= λ x. (fits rest (time_in x.0) >>= λ d. Ok (d, x.1)))
+    if tag == null_tag then Ok (v.Null, rest)
+    else (if tag == false_tag then Ok (v.Bool false, rest)
+    else (if tag == true_tag then Ok (v.Bool true, rest)
+    else (if tag == number_tag then (front_at 9 rest >>= λ x. (fits rest (number_in x.0) >>= λ d. Ok (d, x.1)))
+    else (if tag == text_tag then (run_at rest >>= λ x. (fits rest (text_in x.0) >>= λ d. Ok (d, x.1)))
+    else (if tag == time_tag then (front_at 12 rest >>= λ x. (fits rest (time_in x.0) >>= λ d. Ok (d, x.1)))
     else Err (length rest + 1))))))
-
-abbrev pub Reads : Type 0
-Reads = List ℕ → Result (Value × List ℕ) ℕ
-
-abbrev pub items_at : Reads → ℕ → List ℕ → Result (List Value × List ℕ) ℕ
-items_at read zero bytes = Ok ([], bytes)
-items_at read (suc n) bytes = read bytes >>= λ x. (items_at read n x.1 >>= λ xs. Ok (x.0 ∷ xs.0, xs.1))
 
 abbrev pub is_above : Option (List ℕ) → List ℕ → Bool
 is_above None k = true
@@ -88,15 +66,15 @@ last_key (m ∷ n ∷ ms) = last_key (n ∷ ms)
 abbrev pub key_at : Option (List ℕ) → List ℕ → Result (List ℕ × List ℕ) ℕ
 key_at last bytes = run_at bytes >>= λ k. (if is_utf8 k.0 && is_above last k.0 then Ok k else Err (length bytes - 4))
 
-abbrev pub members_at : Reads → Option (List ℕ) → ℕ → List ℕ → Result (Members × List ℕ) ℕ
+abbrev pub members_at : Reads Value → Option (List ℕ) → ℕ → List ℕ → Result (Members × List ℕ) ℕ
 members_at read last zero bytes = Ok ([], bytes)
 members_at read last (suc n) bytes = key_at last bytes >>= λ k. (read k.1 >>= λ x. (members_at read (Some k.0) n x.1 >>= λ ms. Ok ((k.0, x.0) ∷ ms.0, ms.1)))
 
-unfoldable pub list_at : Reads → List ℕ → Result (List Value × List ℕ) ℕ
-list_at read bytes = number_at bytes >>= λ n. items_at read n.0 n.1
+unfoldable pub list_at : Reads Value → List ℕ → Result (List Value × List ℕ) ℕ
+list_at read bytes = number_at 4 bytes >>= λ n. repeated read n.0 n.1
 
-unfoldable pub object_at : Reads → List ℕ → Result (Members × List ℕ) ℕ
-object_at read bytes = number_at bytes >>= λ n. members_at read None n.0 n.1
+unfoldable pub object_at : Reads Value → List ℕ → Result (Members × List ℕ) ℕ
+object_at read bytes = number_at 4 bytes >>= λ n. members_at read None n.0 n.1
 
 abbrev pub as_list : Result (List Value × List ℕ) ℕ → Result (Value × List ℕ) ℕ
 as_list read = read >>= λ x. Ok (v.List x.0, x.1)
@@ -105,10 +83,10 @@ abbrev pub as_object : Result (Members × List ℕ) ℕ → Result (Value × Lis
 as_object read = read >>= λ x. Ok (v.Object x.0, x.1)
 
 -- a value of at most so many levels
-unfoldable pub value_at : ℕ → Reads
+unfoldable pub value_at : ℕ → Reads Value
 value_at levels [] = Err 0
 value_at zero (tag ∷ rest) = leaf_at tag rest
-value_at (suc levels) (tag ∷ rest) = if tag == 6 then as_list (list_at (value_at levels) rest) else (if tag == 7 then as_object (object_at (value_at levels) rest) else leaf_at tag rest)
+value_at (suc levels) (tag ∷ rest) = if tag == list_tag then as_list (list_at (value_at levels) rest) else (if tag == object_tag then as_object (object_at (value_at levels) rest) else leaf_at tag rest)
 
 -- nothing stands behind an event
 abbrev pub whole : Members → Members → List ℕ → Result Ev ℕ

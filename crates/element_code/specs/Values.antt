@@ -3,7 +3,7 @@ use Rattle.std.specs.Prelude.{◌≡◌, ℕ, zero, suc, ◌<◌, ◌^◌, List,
 use Rattle.std.proofs.Common.{w64, SFits}
 use Rattle.std.specs.Str.{IsUtf8}
 use Rattle.std.specs.declared.cmp.Ordering.TheVariants.{Less}
-use Rattle.plain_lists.specs.Keys.{text_cmp}
+use Rattle.plain_data.specs.Keys.{text_cmp}
 use Rattle.time_instant.specs.Calendar.{IsMoment}
 use Rattle.event_tree.specs.Number.{Num, IsLeast}
 use Rattle.event_tree.specs.Values.{Members}

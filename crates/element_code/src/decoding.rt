@@ -1,13 +1,13 @@
-ghost use Rattle.std.specs.Prelude.{◌≡◌, ◌≤◌, length, IfOk, Err};
-ghost use Rattle.event_tree.specs.Events.{Ev};
+ghost use Rattle.std.specs.Prelude.{◌≡◌, IfOk, Err};
 ghost use Rattle.element_code.specs.Parts.{event_spelling};
 ghost use Rattle.element_code.specs.Values.{IsWhole};
 ghost use Rattle.element_code.specs.Faults.{IsRefusedAt};
-ghost use Rattle.element_code.specs.Gives.{ReadsAs, IsAt};
+ghost use Rattle.element_code.specs.Gives.{ReadsWhatIsSpelled, IsAt};
 ghost use Rattle.element_code.specs.declared.fault.ElementFault.TheVariants.{At};
 
-use crate::fault::{ElementFault, Stop};
+use crate::fault::ElementFault;
 use crate::reading::event_of;
+use byte_reader::Stop;
 use event_tree::Event;
 use std::alloc::Global;
 
@@ -25,7 +25,7 @@ pub fn decode(alloc: Global, bytes: &[u8]) -> Result<Event, ElementFault>
     ensures spelled { IfOk result (λ e. event_spelling e ≡ bytes.now) }
 
     // What is spelled so is read, unless memory runs out.
-    ensures only { (e : Ev) → IsWhole e → event_spelling e ≡ bytes.now → length bytes.now ≤ 16777216 → ReadsAs result e }
+    ensures only { ReadsWhatIsSpelled result bytes.now }
 
     // A fault is where the bytes stop being the spelling of an event.
     ensures at { IsAt result (IsRefusedAt bytes.now) }

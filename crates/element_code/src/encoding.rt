@@ -1,9 +1,10 @@
-ghost use Rattle.std.specs.Prelude.{◌≡◌, ◌∷◌, ◌++◌, length, map, OnOk, OnErr};
-ghost use Rattle.event_tree.specs.Values.{on_values};
+ghost use Rattle.std.specs.Prelude.{◌≡◌, ◌∷◌, ◌++◌, length, OnOk, OnErr};
 ghost use Rattle.event_tree.specs.Events.{event_size};
-ghost use Rattle.element_code.specs.Parts.{bytes_of, count_bytes, number_bytes, time_bytes, items_parts, members_parts, parts, object_parts, spelling, event_spelling};
+ghost use Rattle.byte_reader.specs.Fronts.{count_bytes, run_bytes};
+ghost use Rattle.element_code.specs.Parts.{number_tag, text_tag, time_tag, bytes_of, number_bytes, time_bytes, items_bytes, members_bytes, object_parts, spelling, event_spelling};
 ghost use Rattle.element_code.specs.Adds.{Writes};
 
+use crate::tags;
 use byteorder::{BigEndian, ByteOrder};
 use event_tree::{Event, Instant, Items, Number, Text, Value};
 use std::alloc::AllocError;
@@ -53,18 +54,18 @@ fn add_value(to: &mut Vec<u8>, value: &Value) -> Result<(), AllocError>
     ensures { Writes result (spelling value.now) to.old.items to.new.items }
 {
     match value {
-        Value::Null => add(to, &[0]),
-        Value::Bool(false) => add(to, &[1]),
-        Value::Bool(true) => add(to, &[2]),
+        Value::Null => add(to, &[tags::NULL]),
+        Value::Bool(false) => add(to, &[tags::FALSE]),
+        Value::Bool(true) => add(to, &[tags::TRUE]),
         Value::Num(number) => add(to, &number_of(*number)),
         Value::Text(text) => add_text(to, text.as_str()),
         Value::Time(moment) => add(to, &time_of(*moment)),
         Value::List(items) => {
-            add(to, &head_of(6, items.len()))?;
+            add(to, &head_of(tags::LIST, items.len()))?;
             add_items(to, items.as_slice())
         }
         Value::Object(fields) => {
-            add(to, &head_of(7, fields.len()))?;
+            add(to, &head_of(tags::OBJECT, fields.len()))?;
             add_members(to, fields.members())
         }
     }
@@ -73,7 +74,7 @@ fn add_value(to: &mut Vec<u8>, value: &Value) -> Result<(), AllocError>
 #[tactic(auto, using(event_tree::proofs::Depths::falls, crate::proofs::Spellings::leaves))]
 #[cycle(write)]
 fn add_items(to: &mut Vec<u8>, items: &[Value]) -> Result<(), AllocError>
-    ensures { Writes result (bytes_of (items_parts (map parts items.now))) to.old.items to.new.items }
+    ensures { Writes result (items_bytes items.now) to.old.items to.new.items }
 {
     for item in items {
         add_value(to, item)?;
@@ -84,7 +85,7 @@ fn add_items(to: &mut Vec<u8>, items: &[Value]) -> Result<(), AllocError>
 #[tactic(auto, using(event_tree::proofs::Depths::falls, crate::proofs::Spellings::leaves))]
 #[cycle(write)]
 fn add_members(to: &mut Vec<u8>, members: &[(Text, Value)]) -> Result<(), AllocError>
-    ensures { Writes result (bytes_of (members_parts (on_values parts members.now))) to.old.items to.new.items }
+    ensures { Writes result (members_bytes members.now) to.old.items to.new.items }
 {
     for member in members {
         add_key(to, member.0.as_str())?;
@@ -94,21 +95,21 @@ fn add_members(to: &mut Vec<u8>, members: &[(Text, Value)]) -> Result<(), AllocE
 }
 
 fn add_text(to: &mut Vec<u8>, text: &str) -> Result<(), AllocError>
-    ensures { Writes result (4 ∷ (count_bytes (length text.now) ++ text.now)) to.old.items to.new.items }
+    ensures { Writes result (text_tag ∷ run_bytes text.now) to.old.items to.new.items }
 {
-    add(to, &head_of(4, text.len()))?;
+    add(to, &head_of(tags::TEXT, text.len()))?;
     add(to, text.as_bytes())
 }
 
 fn add_key(to: &mut Vec<u8>, key: &str) -> Result<(), AllocError>
-    ensures { Writes result (count_bytes (length key.now) ++ key.now) to.old.items to.new.items }
+    ensures { Writes result (run_bytes key.now) to.old.items to.new.items }
 {
     add(to, &count_of(key.len()))?;
     add(to, key.as_bytes())
 }
 
 // A count or a length, of which the lowest four bytes are written.
-#[tactic(auto, unfolding(crate::specs::Parts::count_bytes))]
+#[tactic(auto, unfolding(byte_reader::specs::Fronts::count_bytes))]
 fn count_of(count: usize) -> [u8; 4]
     ensures { result ≡ count_bytes count }
 {
@@ -121,7 +122,7 @@ fn count_of(count: usize) -> [u8; 4]
 }
 
 // A tag, and a count or a length.
-#[tactic(auto, unfolding(crate::specs::Parts::count_bytes))]
+#[tactic(auto, unfolding(byte_reader::specs::Fronts::count_bytes))]
 fn head_of(tag: u8, count: usize) -> [u8; 5]
     ensures { result ≡ tag ∷ count_bytes count }
 {
@@ -131,9 +132,9 @@ fn head_of(tag: u8, count: usize) -> [u8; 5]
 
 #[tactic(auto, unfolding(crate::specs::Parts::number_bytes))]
 fn number_of(number: Number) -> [u8; 10]
-    ensures { result ≡ 3 ∷ number_bytes number }
+    ensures { result ≡ number_tag ∷ number_bytes number }
 {
-    let mut bytes = [3; 10];
+    let mut bytes = [tags::NUMBER; 10];
     BigEndian::write_i64(&mut bytes[1..], number.mantissa());
     bytes[9] = number.scale();
     bytes
@@ -141,10 +142,10 @@ fn number_of(number: Number) -> [u8; 10]
 
 #[tactic(auto, unfolding(crate::specs::Parts::time_bytes))]
 fn time_of(moment: Instant) -> [u8; 13]
-    ensures { result ≡ 5 ∷ time_bytes moment }
+    ensures { result ≡ time_tag ∷ time_bytes moment }
 {
     let nanos = moment.nanos();
-    let mut bytes = [5; 13];
+    let mut bytes = [tags::TIME; 13];
     BigEndian::write_i64(&mut bytes[1..], nanos.div_euclid(SECOND) as i64);
     BigEndian::write_u32(&mut bytes[9..], nanos.rem_euclid(SECOND) as u32);
     bytes

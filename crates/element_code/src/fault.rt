@@ -1,4 +1,3 @@
-use std::alloc::{AllocError, AllocFailed};
 use thiserror::Error;
 
 /// Why bytes are no event.
@@ -13,35 +12,4 @@ pub enum ElementFault {
     /// Memory ran out.
     #[error("out of memory")]
     Memory,
-}
-
-/// Why reading stopped.
-#[derive(Clone, Copy, Debug, PartialEq, Eq, Drop)]
-pub(crate) enum Stop {
-    /// At the fault, at whose place so many bytes are left.
-    Left(usize),
-    /// Memory ran out.
-    Memory,
-}
-
-impl From<AllocError> for Stop {
-    ghost use Rattle.std.specs.Prelude.{◌≡◌};
-    ghost use Rattle.element_code.specs.declared.fault.Stop.TheVariants.{Memory};
-
-    ghost from_gives = { λ _ stop. stop ≡ Memory };
-
-    fn from(_error: AllocError) -> Stop {
-        Stop::Memory
-    }
-}
-
-impl<T: Drop> From<AllocFailed<T>> for Stop {
-    ghost use Rattle.std.specs.Prelude.{◌≡◌};
-    ghost use Rattle.element_code.specs.declared.fault.Stop.TheVariants.{Memory};
-
-    ghost from_gives = { λ _ stop. stop ≡ Memory };
-
-    fn from(_error: AllocFailed<T>) -> Stop {
-        Stop::Memory
-    }
 }

@@ -3,7 +3,7 @@ ghost use Rattle.std.specs.Prelude.{◌≡◌, List, ℕ, ◌++◌, []};
 ghost use Rattle.event_tree.specs.Events.{Ev};
 ghost use Rattle.element_code.specs.Parts.{event_spelling};
 ghost use Rattle.element_code.specs.Values.{IsWhole};
-ghost use Rattle.element_code.specs.Faults.{IsRefusedAt};
+ghost use Rattle.element_code.specs.Faults.{HasOnePlace, IsRefusedAt};
 
 /// No spelling of an event begins another: bytes that go on are those of no event, or of the same one
 /// with nothing behind it.
@@ -15,5 +15,5 @@ pub fn no_spelling_begins_another()
 /// Bytes are refused at one place at most: what `decode` answers where it reads no event is the one
 /// place that the definition allows.
 pub fn bytes_are_refused_at_one_place()
-    ensures { (bytes : List ℕ) (at other : ℕ) → IsRefusedAt bytes at → IsRefusedAt bytes other → at ≡ other }
+    ensures { HasOnePlace IsRefusedAt }
 {}

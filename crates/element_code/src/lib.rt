@@ -6,6 +6,7 @@ mod encoding;
 mod fault;
 pub mod laws;
 mod reading;
+mod tags;
 
 pub use decoding::decode;
 pub use encoding::encode;

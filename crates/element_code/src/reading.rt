@@ -1,10 +1,12 @@
 // Reading values from the front of bytes.
 ghost use Rattle.std.specs.Prelude.{◌≡◌, ◌≤◌, length, Ok, IfOk, IsTrue};
-ghost use Rattle.plain_lists.specs.Members.{AllBelow};
-ghost use Rattle.element_code.specs.Gives.{Gives};
-ghost use Rattle.element_code.specs.Reading.{split_at, number_at, run_at, fits, number_in, time_in, text_in, leaf_at, is_above, last_key, key_at, items_at, members_at, list_at, object_at, value_at, event_at};
+ghost use Rattle.plain_data.specs.Members.{AllBelow};
+ghost use Rattle.byte_reader.specs.Fronts.{front_at, number_at, repeated, run_at};
+ghost use Rattle.byte_reader.specs.Gives.{Gives};
+ghost use Rattle.element_code.specs.Reading.{fits, number_in, time_in, text_in, leaf_at, is_above, last_key, key_at, members_at, list_at, object_at, value_at, event_at};
 
-use crate::fault::Stop;
+use crate::tags;
+use byte_reader::{Stop, read_front, read_run, read_u32};
 use byteorder::{BigEndian, ByteOrder};
 use event_tree::{Event, Fields, Instant, Items, Number, Text, Value};
 use std::alloc::Global;
@@ -20,32 +22,6 @@ fn room_for(count: u32) -> usize
     ensures no_more { result ≤ count }
 {
     (count as usize).min(16)
-}
-
-// The front of so many bytes, and those behind it.
-fn front_of(bytes: &[u8], len: usize) -> Result<(&[u8], &[u8]), Stop>
-    ensures { Gives (λ x. (x.0.now, x.1.now)) result (split_at len bytes.now) }
-{
-    if bytes.len() < len {
-        return Err(Stop::Left(0));
-    }
-    Ok(bytes.split_at(len))
-}
-
-// A count or a length.
-fn number_of(bytes: &[u8]) -> Result<(u32, &[u8]), Stop>
-    ensures { Gives (λ x. (x.0, x.1.now)) result (number_at bytes.now) }
-{
-    let (front, rest) = front_of(bytes, 4)?;
-    Ok((BigEndian::read_u32(front), rest))
-}
-
-// As many bytes as the length before them says.
-fn run_of(bytes: &[u8]) -> Result<(&[u8], &[u8]), Stop>
-    ensures { Gives (λ x. (x.0.now, x.1.now)) result (run_at bytes.now) }
-{
-    let (len, rest) = number_of(bytes)?;
-    front_of(rest, len as usize)
 }
 
 // What fits its tag, or the fault at the tag, which stands before the bytes behind it.
@@ -100,25 +76,25 @@ fn text_from(alloc: Global, bytes: &[u8]) -> Result<Option<Value>, Stop>
 fn leaf_of(alloc: Global, tag: u8, rest: &[u8]) -> Result<(Value, &[u8]), Stop>
     ensures { Gives (λ x. (x.0, x.1.now)) result (leaf_at tag rest.now) }
 {
-    if tag == 0 {
+    if tag == tags::NULL {
         return Ok((Value::Null, rest));
     }
-    if tag == 1 {
+    if tag == tags::FALSE {
         return Ok((Value::Bool(false), rest));
     }
-    if tag == 2 {
+    if tag == tags::TRUE {
         return Ok((Value::Bool(true), rest));
     }
-    if tag == 3 {
-        let (own, behind) = front_of(rest, 9)?;
+    if tag == tags::NUMBER {
+        let (own, behind) = read_front(rest, 9)?;
         return Ok((fitting_of(rest, number_from(own))?, behind));
     }
-    if tag == 4 {
-        let (own, behind) = run_of(rest)?;
+    if tag == tags::TEXT {
+        let (own, behind) = read_run(rest)?;
         return Ok((fitting_of(rest, text_from(alloc, own)?)?, behind));
     }
-    if tag == 5 {
-        let (own, behind) = front_of(rest, 12)?;
+    if tag == tags::TIME {
+        let (own, behind) = read_front(rest, 12)?;
         return Ok((fitting_of(rest, time_from(own))?, behind));
     }
     Err(Stop::Left(rest.len() + 1))
@@ -141,7 +117,7 @@ fn key_of<'b>(
     ensures key { Gives (λ x. (x.0, x.1.now)) result (key_at (last_key fields.now) bytes.now) }
     ensures below { IfOk result (λ x. AllBelow fields.now x.0) }
 {
-    let (own, behind) = run_of(bytes)?;
+    let (own, behind) = read_run(bytes)?;
     let fault = Stop::Left(bytes.len() - 4);
     let Ok(key) = str::from_utf8(own) else {
         return Err(fault);
@@ -161,11 +137,11 @@ fn value_of(alloc: Global, levels: usize, bytes: &[u8]) -> Result<(Value, &[u8])
     let Some((tag, rest)) = bytes.split_first() else {
         return Err(Stop::Left(0));
     };
-    if levels > 0 && *tag == 6 {
+    if levels > 0 && *tag == tags::LIST {
         let (items, behind) = items_of(alloc, levels - 1, rest)?;
         return Ok((Value::List(items), behind));
     }
-    if levels > 0 && *tag == 7 {
+    if levels > 0 && *tag == tags::OBJECT {
         let (fields, behind) = fields_of(alloc, levels - 1, rest)?;
         return Ok((Value::Object(fields), behind));
     }
@@ -177,7 +153,7 @@ fn value_of(alloc: Global, levels: usize, bytes: &[u8]) -> Result<(Value, &[u8])
 fn items_of(alloc: Global, levels: usize, bytes: &[u8]) -> Result<(Items<Value>, &[u8]), Stop>
     ensures { Gives (λ x. (x.0, x.1.now)) result (list_at (value_at levels) bytes.now) }
 {
-    let (count, behind) = number_of(bytes)?;
+    let (count, behind) = read_u32(bytes)?;
     let mut items = Items::with_capacity(alloc, room_for(count))?;
     let mut rest = behind;
     for _ in 0..count {
@@ -193,7 +169,7 @@ fn items_of(alloc: Global, levels: usize, bytes: &[u8]) -> Result<(Items<Value>,
 fn fields_of(alloc: Global, levels: usize, bytes: &[u8]) -> Result<(Fields<Value>, &[u8]), Stop>
     ensures { Gives (λ x. (x.0, x.1.now)) result (object_at (value_at levels) bytes.now) }
 {
-    let (count, behind) = number_of(bytes)?;
+    let (count, behind) = read_u32(bytes)?;
     let mut fields = Fields::with_capacity(alloc, room_for(count))?;
     let mut rest = behind;
     for _ in 0..count {

@@ -6,12 +6,12 @@ use Rattle.std.proofs.lemmas.List.{append-nil}
 use Rattle.std.proofs.lemmas.Bool.Decides.{nat_tests}
 use Rattle.std.specs.Str.{IsAscii}
 use Rattle.std.proofs.lemmas.Str.{IsAscii-append}
-use Rattle.json_grammar.specs.Strings.{is_plain, lone, joined, held, hex_of, short_of}
-use Rattle.json_grammar.specs.Reading.{Fault, At, Deep, ◌>>=◌, Inside, plainly, escaped, digits_in, inside_at, turn, turned}
+use Rattle.event_json_laws.specs.Strings.{is_plain, lone, joined, held, hex_of, short_of}
+use Rattle.event_json_laws.specs.Reading.{Fault, At, Deep, ◌>>=◌, Inside, plainly, escaped, digits_in, inside_at, turn, turned}
 use Rattle.std.proofs.lemmas.Bool.{false_from_ne_true}
-use Rattle.event_json.specs.declared.fault.Stop.{Stop}
-use Rattle.event_json.specs.declared.fault.Stop.TheVariants as stops
-use Rattle.event_json.specs.Stops.{Fails, IsRest, run, after_run, IsSpecial, hex_at, hex_behind, unit_at}
+use Rattle.event_json.specs.declared.fault.JsonStop.{JsonStop}
+use Rattle.event_json.specs.declared.fault.JsonStop.TheVariants as stops
+use Rattle.event_json.specs.Stops.{Fails, IsRest, plain_run, after_plain_run, IsSpecial, hex_at, hex_behind, unit_at}
 use Rattle.event_json.proofs.Fronts.{one_rest}
 
 pub bool_cases : {P : Type 0} (t : Bool) → (t ≡ true → P) → (t ≡ false → P) → P
@@ -25,20 +25,20 @@ run_first : (b : ℕ) (bs : List ℕ) (w : Option ℕ) (found : List ℕ) → is
 unfolding inside_at
 run_first b bs w found e = let t = plain_tests b e in rw (t.0, t.1, t.2) refl
 
-run_all : (bs found : List ℕ) → inside_at bs plainly None found ≡ inside_at (after_run bs) plainly None (found ++ run bs)
+run_all : (bs found : List ℕ) → inside_at bs plainly None found ≡ inside_at (after_plain_run bs) plainly None (found ++ plain_run bs)
 run_all [] found = ap (inside_at [] plainly None) (sym (append-nil found))
 run_all (b ∷ bs) found = bool_cases (is_plain b)
-    (λ e. rw e (run_first b bs None found e ∙ run_all bs (found ++ b ∷ []) ∙ ap (inside_at (after_run bs) plainly None) (append_assoc found (b ∷ []) (run bs))))
+    (λ e. rw e (run_first b bs None found e ∙ run_all bs (found ++ b ∷ []) ∙ ap (inside_at (after_plain_run bs) plainly None) (append_assoc found (b ∷ []) (plain_run bs))))
     (λ e. rw e (ap (inside_at (b ∷ bs) plainly None) (sym (append-nil found))))
 
 -- a run that isn't empty
-pub run_taken : (bs : List ℕ) (w : Option ℕ) (found : List ℕ) → (run bs ≡ [] → ⊥) → inside_at bs plainly w found ≡ inside_at (after_run bs) plainly None (found ++ (lone w ++ run bs))
+pub run_taken : (bs : List ℕ) (w : Option ℕ) (found : List ℕ) → (plain_run bs ≡ [] → ⊥) → inside_at bs plainly w found ≡ inside_at (after_plain_run bs) plainly None (found ++ (lone w ++ plain_run bs))
 run_taken [] w found some = absurd (some refl)
 run_taken (b ∷ bs) w found some = bool_cases (is_plain b)
-    (λ e. rw e (run_first b bs w found e ∙ run_all bs (found ++ (lone w ++ b ∷ [])) ∙ ap (inside_at (after_run bs) plainly None) (append_assoc found (lone w ++ b ∷ []) (run bs) ∙ ap (λ ys. found ++ ys) (append_assoc (lone w) (b ∷ []) (run bs)))))
+    (λ e. rw e (run_first b bs w found e ∙ run_all bs (found ++ (lone w ++ b ∷ [])) ∙ ap (inside_at (after_plain_run bs) plainly None) (append_assoc found (lone w ++ b ∷ []) (plain_run bs) ∙ ap (λ ys. found ++ ys) (append_assoc (lone w) (b ∷ []) (plain_run bs)))))
     (λ e. absurd (some (rw e refl)))
 
-pub after_run_special : (bs : List ℕ) → IsSpecial (after_run bs)
+pub after_run_special : (bs : List ℕ) → IsSpecial (after_plain_run bs)
 after_run_special [] = tt
 after_run_special (b ∷ bs) = bool_cases (is_plain b) (λ e. rw e (after_run_special bs)) (λ e. rw e e)
 
@@ -51,12 +51,12 @@ bind_same (Err e) f g h = refl
 digit_step : (bs : List ℕ) (n u : ℕ) (w : Option ℕ) (f : List ℕ) → inside_at bs (digits_in (suc n) u) w f ≡ (hex_at bs >>= λ x. inside_at x.1 (digits_in n (16 * u + x.0)) w f)
 unfolding inside_at
 digit_step [] n u w f = refl
-digit_step (b ∷ bs) n u w f = elim (hex_of b) as (λ o. turned (Rattle.json_grammar.specs.Reading.digit_turn o (suc n) u w f) (inside_at bs) bs ≡ (hex_behind o bs >>= λ x. inside_at x.1 (digits_in n (16 * u + x.0)) w f)) [ None ↦ refl | Some d ↦ refl ]
+digit_step (b ∷ bs) n u w f = elim (hex_of b) as (λ o. turned (Rattle.event_json_laws.specs.Reading.digit_turn o (suc n) u w f) (inside_at bs) bs ≡ (hex_behind o bs >>= λ x. inside_at x.1 (digits_in n (16 * u + x.0)) w f)) [ None ↦ refl | Some d ↦ refl ]
 
 last_digit : (bs : List ℕ) (u : ℕ) (w : Option ℕ) (f : List ℕ) → inside_at bs (digits_in 0 u) w f ≡ (hex_at bs >>= λ x. inside_at x.1 plainly (held (16 * u + x.0)) (f ++ joined w (16 * u + x.0)))
 unfolding inside_at
 last_digit [] u w f = refl
-last_digit (b ∷ bs) u w f = elim (hex_of b) as (λ o. turned (Rattle.json_grammar.specs.Reading.digit_turn o 0 u w f) (inside_at bs) bs ≡ (hex_behind o bs >>= λ x. inside_at x.1 plainly (held (16 * u + x.0)) (f ++ joined w (16 * u + x.0)))) [ None ↦ refl | Some d ↦ refl ]
+last_digit (b ∷ bs) u w f = elim (hex_of b) as (λ o. turned (Rattle.event_json_laws.specs.Reading.digit_turn o 0 u w f) (inside_at bs) bs ≡ (hex_behind o bs >>= λ x. inside_at x.1 plainly (held (16 * u + x.0)) (f ++ joined w (16 * u + x.0)))) [ None ↦ refl | Some d ↦ refl ]
 
 abbrev behind_unit : Option ℕ → List ℕ → ℕ × List ℕ → Result (List ℕ × List ℕ) Fault
 behind_unit w f x = inside_at x.1 plainly (held x.0) (f ++ joined w x.0)
@@ -82,7 +82,7 @@ pub unit_read : (bs rest : List ℕ) (u : ℕ) (w : Option ℕ) (f : List ℕ) �
 unfolding inside_at
 unit_read bs rest u w f e = unit_inside bs w f ∙ ap (λ (r : Result (ℕ × List ℕ) Fault). r >>= behind_unit w f) e
 
-pub unit_refused : (bs : List ℕ) (w : Option ℕ) (f : List ℕ) (stop : Stop) → Fails stop (unit_at bs) → Fails stop (inside_at (117 ∷ bs) escaped w f)
+pub unit_refused : (bs : List ℕ) (w : Option ℕ) (f : List ℕ) (stop : JsonStop) → Fails stop (unit_at bs) → Fails stop (inside_at (117 ∷ bs) escaped w f)
 unfolding inside_at
 unit_refused bs w f stops.Memory h = tt
 unit_refused bs w f (stops.At k) h = unit_inside bs w f ∙ ap (λ (r : Result (ℕ × List ℕ) Fault). r >>= behind_unit w f) h
@@ -180,23 +180,23 @@ unit_rest bs rest u e = rest_at bs rest u (unit_at bs) e (unit_rests bs)
 pub added_short : (old middle new : List ℕ) (w : Option ℕ) (c : ℕ) → c < 128 → middle ≡ old ++ lone w → new ≡ middle ++ encode_utf8 c → old ++ (lone w ++ c ∷ []) ≡ new
 added_short old middle new w c lt h k = sym (append_assoc old (lone w) (c ∷ [])) ∙ ap (λ ys. ys ++ c ∷ []) (sym h) ∙ ap (λ ys. middle ++ ys) (sym (encode_ascii c lt)) ∙ sym k
 
-run_some : (text : List ℕ) (n : ℕ) → run text ≡ take n text → n ≤ length text → (n ≡ 0 → ⊥) → run text ≡ [] → ⊥
+run_some : (text : List ℕ) (n : ℕ) → plain_run text ≡ take n text → n ≤ length text → (n ≡ 0 → ⊥) → plain_run text ≡ [] → ⊥
 run_some text n h le some e = some (omega (arith, ap length (sym h ∙ e), length-take n text))
 
-pub run_passes : (bs text piece rest : List ℕ) (n : ℕ) (w : Option ℕ) (old middle new : List ℕ) → bs ≡ text → run bs ≡ take n bs → after_run bs ≡ drop n bs → n ≤ length bs → (n ≡ 0 → ⊥) → piece ≡ take (n - 0) text → rest ≡ drop n text → middle ≡ old ++ lone w → new ≡ middle ++ piece
+pub run_passes : (bs text piece rest : List ℕ) (n : ℕ) (w : Option ℕ) (old middle new : List ℕ) → bs ≡ text → plain_run bs ≡ take n bs → after_plain_run bs ≡ drop n bs → n ≤ length bs → (n ≡ 0 → ⊥) → piece ≡ take (n - 0) text → rest ≡ drop n text → middle ≡ old ++ lone w → new ≡ middle ++ piece
     → (inside_at text plainly w old ≡ inside_at rest plainly None new) × (length rest ≤ length text)
 run_passes bs text piece rest n w old middle new same h k le some p r m e =
     let z : n - 0 ≡ n = omega arith in
-    let front : run text ≡ piece = ap run (sym same) ∙ h ∙ ap (take n) same ∙ ap (λ i. take i text) (sym z) ∙ sym p in
-    let behind : after_run text ≡ rest = ap after_run (sym same) ∙ k ∙ ap (drop n) same ∙ sym r in
-    let here : run text ≡ take n text = ap run (sym same) ∙ h ∙ ap (take n) same in
-    let all : old ++ (lone w ++ run text) ≡ new = ap (λ ys. old ++ (lone w ++ ys)) front ∙ sym (append_assoc old (lone w) piece) ∙ ap (λ ys. ys ++ piece) (sym m) ∙ sym e in
-    let one : inside_at text plainly w old ≡ inside_at rest plainly None new = run_taken text w old (run_some text n here (omega (arith, ap length same)) some) ∙ ap (λ r. inside_at r plainly None (old ++ (lone w ++ run text))) behind ∙ ap (inside_at rest plainly None) all in
+    let front : plain_run text ≡ piece = ap plain_run (sym same) ∙ h ∙ ap (take n) same ∙ ap (λ i. take i text) (sym z) ∙ sym p in
+    let behind : after_plain_run text ≡ rest = ap after_plain_run (sym same) ∙ k ∙ ap (drop n) same ∙ sym r in
+    let here : plain_run text ≡ take n text = ap plain_run (sym same) ∙ h ∙ ap (take n) same in
+    let all : old ++ (lone w ++ plain_run text) ≡ new = ap (λ ys. old ++ (lone w ++ ys)) front ∙ sym (append_assoc old (lone w) piece) ∙ ap (λ ys. ys ++ piece) (sym m) ∙ sym e in
+    let one : inside_at text plainly w old ≡ inside_at rest plainly None new = run_taken text w old (run_some text n here (omega (arith, ap length same)) some) ∙ ap (λ r. inside_at r plainly None (old ++ (lone w ++ plain_run text))) behind ∙ ap (inside_at rest plainly None) all in
     (one, omega (arith, ap length r, length-drop n text))
 
-pub run_leaves : (bs text rest : List ℕ) (n : ℕ) → bs ≡ text → after_run bs ≡ drop n bs → rest ≡ drop n text → IsSpecial rest
+pub run_leaves : (bs text rest : List ℕ) (n : ℕ) → bs ≡ text → after_plain_run bs ≡ drop n bs → rest ≡ drop n text → IsSpecial rest
 run_leaves bs text rest n same k r = subst (λ (ys : List ℕ). IsSpecial ys) (k ∙ ap (drop n) same ∙ sym r) (after_run_special bs)
 
 -- where no plain byte stands in front
-pub run_none : (bs text : List ℕ) → bs ≡ text → after_run bs ≡ drop 0 bs → IsSpecial text
+pub run_none : (bs text : List ℕ) → bs ≡ text → after_plain_run bs ≡ drop 0 bs → IsSpecial text
 run_none bs text same k = subst (λ (ys : List ℕ). IsSpecial ys) (k ∙ same) (after_run_special bs)

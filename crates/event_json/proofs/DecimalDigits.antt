@@ -1,7 +1,6 @@
 -- Decimal digits: what they write, with zeros in front and without, and parts of them.
 use Rattle.std.proofs.Common.{◌≡◌, ℕ, zero, suc, ◌+◌, ◌-◌, ◌*◌, ◌/◌, ◌%◌, ◌^◌, ◌<◌, ◌≤◌, true, List, [], ◌∷◌, ◌++◌, length, take, drop, refl, ap, ◌∙◌, arith, length-append}
 use Rattle.std.specs.Prelude.{decimal}
-use Rattle.std.specs.List.{list_all}
 use Rattle.std.proofs.lemmas.Bool.Decides.{nat_tests}
 use Rattle.std.proofs.lemmas.Fmt.{decimal_by_steps}
 use Rattle.event_tree.specs.NumberTexts.{is_digit, AreDigits, number}
@@ -57,8 +56,3 @@ drop_digits (suc n) (d ∷ ds) h = drop_digits n ds h.1
 
 pub length-padded : (least n : ℕ) → length (padded least n) ≡ least - length (decimal n) + length (decimal n)
 length-padded least n = length-append (zeros (least - length (decimal n))) (decimal n) ∙ ap (λ k. k + length (decimal n)) (length-zeros (least - length (decimal n)))
-
--- the same as a test of each
-pub digits_pass : (ds : List ℕ) → AreDigits ds → list_all is_digit ds ≡ true
-digits_pass [] h = refl
-digits_pass (d ∷ ds) h = rw h.0 (digits_pass ds h.1)

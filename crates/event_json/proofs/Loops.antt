@@ -1,13 +1,13 @@
 -- Reading elements one after the other, as a loop does, and values by their first byte.
 use Rattle.std.proofs.Common.{◌≡◌, ℕ, zero, suc, ◌-◌, ◌+◌, ◌≤◌, ◌<◌, List, [], ◌∷◌, ◌++◌, length, Result, Ok, Err, refl, sym, ap, subst, ◌∙◌, arith, true, false, ◌==◌, eqb-true}
 use Rattle.std.proofs.lemmas.Bool.{false_from_ne_true}
-use Rattle.plain_lists.specs.Members.{insert_member}
+use Rattle.plain_data.specs.Members.{insert_member}
 use Rattle.event_tree.specs.Values.{Members}
 use Rattle.event_tree.specs.declared.value.Value.{Value}
 use Rattle.event_tree.specs.declared.value.Value.TheVariants as v
-use Rattle.json_grammar.specs.Reading.{◌>>=◌, Fault, At, Deep, Reads, skip, spaced_at, after_element, elements_at, group_from, group_at, item_at, entry_at, member_at, list_at, object_at, text_at, scalar_at, node_at, string_at}
-use Rattle.event_json.specs.declared.fault.Stop.{Stop}
-use Rattle.event_json.specs.declared.fault.Stop.TheVariants as stops
+use Rattle.event_json_laws.specs.Reading.{◌>>=◌, Fault, At, Deep, Reads, skip, spaced_at, after_element, elements_at, group_from, group_at, item_at, entry_at, member_at, list_at, object_at, text_at, scalar_at, node_at, string_at}
+use Rattle.event_json.specs.declared.fault.JsonStop.{JsonStop}
+use Rattle.event_json.specs.declared.fault.JsonStop.TheVariants as stops
 use Rattle.event_json.specs.Stops.{Fails}
 
 -- the bytes don't begin with b
@@ -18,12 +18,12 @@ pub never : (x b : ℕ) (bs : List ℕ) → Never (x ∷ bs) b → (x == b) ≡ 
 never x b bs h = false_from_ne_true (x == b) (λ t. h bs (ap (λ (y : ℕ). y ∷ bs) (eqb-true x b t)))
 
 -- a reading that fails goes on to fail
-pub fails_on : {A B : Type 0} (e : Stop) (read : Result A Fault) (f : A → Result B Fault) → Fails e read → Fails e (read >>= f)
+pub fails_on : {A B : Type 0} (e : JsonStop) (read : Result A Fault) (f : A → Result B Fault) → Fails e read → Fails e (read >>= f)
 fails_on stops.Memory read f h = tt
 fails_on (stops.At k) read f h = ap (λ r. r >>= f) h
 fails_on (stops.Deep k) read f h = ap (λ r. r >>= f) h
 
-pub fails_as : {A : Type 0} (e : Stop) (x y : Result A Fault) → x ≡ y → Fails e x → Fails e y
+pub fails_as : {A : Type 0} (e : JsonStop) (x y : Result A Fault) → x ≡ y → Fails e x → Fails e y
 fails_as e x y h f = subst (Fails e) h f
 
 module _ {A : Type 0} (c : ℕ) (element : A → Reads A) where
@@ -51,7 +51,7 @@ module _ {A : Type 0} (c : ℕ) (element : A → Reads A) where
   pub stops_after : (n i : ℕ) (found new : A) (bytes after : List ℕ) (total : Result (A × List ℕ) Fault) → i < n → element found bytes ≡ Ok (new, after) → Never after c → Never after 44 → elements_at c element (n - i) found bytes ≡ total → total ≡ Err (At (length after))
   stops_after n i found new bytes after total lt e h k so_far = read_one n i found new bytes after total lt e so_far ∙ neither (elements_at c element (n - (i + 1))) new after h k
 
-  pub fails : (e : Stop) (n i : ℕ) (found : A) (bytes : List ℕ) (total : Result (A × List ℕ) Fault) → i < n → Fails e (element found bytes) → elements_at c element (n - i) found bytes ≡ total → Fails e total
+  pub fails : (e : JsonStop) (n i : ℕ) (found : A) (bytes : List ℕ) (total : Result (A × List ℕ) Fault) → i < n → Fails e (element found bytes) → elements_at c element (n - i) found bytes ≡ total → Fails e total
   fails e n i found bytes total lt f so_far = fails_as e _ total (sym (one_more n i found bytes lt) ∙ so_far) (fails_on e (element found bytes) (λ x. after_element c (elements_at c element (n - (i + 1))) x.0 x.1) f)
 
   pub runs_out : (n i : ℕ) (found : A) (bytes : List ℕ) (total : Result (A × List ℕ) Fault) → n ≤ i → elements_at c element (n - i) found bytes ≡ total → total ≡ Err (At (length bytes))
@@ -66,9 +66,6 @@ module _ {A : Type 0} (c : ℕ) (element : A → Reads A) where
   -- what doesn't close at once has elements
   pub group_more : (found : A) (text inside : List ℕ) → inside ≡ skip text → Never inside c → group_at c element found text ≡ elements_at c element (length inside) found inside
   group_more found text inside is h = ap (group_from c (elements_at c element) found) (sym is) ∙ from_more found inside h
-
-  pub group_none : (found : A) (text inside rest : List ℕ) → (c == c) ≡ true → inside ≡ skip text → inside ≡ c ∷ rest → group_at c element found text ≡ Ok (found, rest)
-  group_none found text inside rest same is e = ap (group_from c (elements_at c element) found) (sym is ∙ e) ∙ rw same refl
 
 -- ---- one element
 
@@ -117,17 +114,17 @@ node_scalar (suc n) (b ∷ bs) q l o = rw (never b 34 bs q, never b 91 bs l, nev
 pub list_ok : (node : Reads Value) (text inside rest : List ℕ) (ds : List Value) → inside ≡ skip text → Never inside 93 → elements_at 93 (item_at node) (length inside) [] inside ≡ Ok (ds, rest) → list_at node text ≡ Ok (v.List ds, rest)
 list_ok node text inside rest ds is h e = ap (λ r. r >>= λ x. Ok (v.List x.0, x.1)) (group_more 93 (item_at node) [] text inside is h ∙ e)
 
-pub list_fails : (node : Reads Value) (e : Stop) (text inside : List ℕ) → inside ≡ skip text → Never inside 93 → Fails e (elements_at 93 (item_at node) (length inside) [] inside) → Fails e (list_at node text)
+pub list_fails : (node : Reads Value) (e : JsonStop) (text inside : List ℕ) → inside ≡ skip text → Never inside 93 → Fails e (elements_at 93 (item_at node) (length inside) [] inside) → Fails e (list_at node text)
 list_fails node e text inside is h f = fails_on e (group_at 93 (item_at node) [] text) (λ x. Ok (v.List x.0, x.1)) (fails_as e _ _ (sym (group_more 93 (item_at node) [] text inside is h)) f)
 
 pub object_ok : (node : Reads Value) (text inside rest : List ℕ) (ms : Members) → inside ≡ skip text → Never inside 125 → elements_at 125 (member_at node) (length inside) [] inside ≡ Ok (ms, rest) → object_at node text ≡ Ok (v.Object ms, rest)
 object_ok node text inside rest ms is h e = ap (λ r. r >>= λ x. Ok (v.Object x.0, x.1)) (group_more 125 (member_at node) [] text inside is h ∙ e)
 
-pub object_fails : (node : Reads Value) (e : Stop) (text inside : List ℕ) → inside ≡ skip text → Never inside 125 → Fails e (elements_at 125 (member_at node) (length inside) [] inside) → Fails e (object_at node text)
+pub object_fails : (node : Reads Value) (e : JsonStop) (text inside : List ℕ) → inside ≡ skip text → Never inside 125 → Fails e (elements_at 125 (member_at node) (length inside) [] inside) → Fails e (object_at node text)
 object_fails node e text inside is h f = fails_on e (group_at 125 (member_at node) [] text) (λ x. Ok (v.Object x.0, x.1)) (fails_as e _ _ (sym (group_more 125 (member_at node) [] text inside is h)) f)
 
 pub text_ok : (levels : ℕ) (text inside rest s : List ℕ) → text ≡ 34 ∷ inside → string_at inside ≡ Ok (s, rest) → node_at levels text ≡ Ok (v.Text s, rest)
 text_ok levels text inside rest s is e = node_text levels text inside is ∙ ap (λ r. r >>= λ x. Ok (v.Text x.0, x.1)) e
 
-pub text_fails : (levels : ℕ) (text inside : List ℕ) (e : Stop) → text ≡ 34 ∷ inside → Fails e (string_at inside) → Fails e (node_at levels text)
+pub text_fails : (levels : ℕ) (text inside : List ℕ) (e : JsonStop) → text ≡ 34 ∷ inside → Fails e (string_at inside) → Fails e (node_at levels text)
 text_fails levels text inside e is f = fails_as e _ _ (sym (node_text levels text inside is)) (fails_on e (string_at inside) (λ x. Ok (v.Text x.0, x.1)) f)

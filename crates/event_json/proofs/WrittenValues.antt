@@ -8,30 +8,29 @@ use Rattle.event_tree.specs.Number.{Num, IsLeast}
 use Rattle.event_tree.specs.NumberTexts.{IsI64}
 use Rattle.event_tree.specs.Values.{Members, on_values, depth, items_depth, members_depth}
 use Rattle.event_tree.specs.declared.value.Value.{Value}
-use Rattle.event_tree.specs.declared.value.Value.TheOpen.{Value-F}
 use Rattle.event_tree.specs.declared.value.Value.TheVariants as v
 use Rattle.std.specs.Map.{keys_of}
 use Rattle.std.specs.declared.cmp.Ordering.TheVariants.{Less, Greater}
-use Rattle.plain_lists.specs.Keys.{text_cmp, Below}
-use Rattle.plain_lists.specs.Members.{Rises, AllBelow, insert_member}
-use Rattle.plain_lists.proofs.KeyLemmas.{text_cmp-flip}
-use Rattle.json_grammar.specs.Strings.{pieces_bytes, pieces_text}
-use Rattle.json_grammar.specs.Grammar.{Pairs, last_pair, more_pairs, no_members, members, ArePairs, pairs_bytes, pairs_levels, key_bytes}
-use Rattle.json_grammar.specs.Json.{pairs_members}
+use Rattle.plain_data.specs.Keys.{text_cmp, Below}
+use Rattle.plain_data.specs.Members.{Rises, AllBelow, insert_member}
+use Rattle.plain_data.proofs.KeyLemmas.{text_cmp-flip}
+use Rattle.event_json_laws.specs.Strings.{pieces_bytes, pieces_text}
+use Rattle.event_json_laws.specs.Grammar.{Pairs, last_pair, more_pairs, no_members, members, ArePairs, pairs_bytes, pairs_levels, key_bytes}
+use Rattle.event_json_laws.specs.Json.{pairs_members}
 use Rattle.event_json.specs.Json.{members_json}
 use Rattle.event_json.proofs.Jsons.{json-Object}
 use Rattle.event_tree.proofs.Depths.{depth-Null, depth-Bool, depth-Num, depth-Text, depth-List, depth-Object}
-use Rattle.json_grammar.specs.Grammar as g
-use Rattle.json_grammar.proofs.Ascii.{number_ascii}
+use Rattle.event_json_laws.specs.Grammar as g
+use Rattle.event_json_laws.proofs.Ascii.{number_ascii}
 use Rattle.std.proofs.lemmas.Str.{IsUtf8-from_ascii}
 use Rattle.event_json.specs.Json.{number_text}
-use Rattle.json_grammar.specs.Numbers.{number_or_text, number_of}
-use Rattle.json_grammar.specs.Grammar.{Text, spaced, Node, null_word, true_word, false_word, number, string, no_items, items, Elements, last, more, IsNode, AreElements, IsText, node_bytes, elements_bytes, text_bytes, node_levels, elements_levels, text_levels}
-use Rattle.json_grammar.specs.Json.{node_value, elements_values, text_value}
+use Rattle.event_json_laws.specs.Numbers.{number_or_text, number_of}
+use Rattle.event_json_laws.specs.Grammar.{Text, spaced, Node, null_word, true_word, false_word, number, string, no_items, items, Elements, last, more, IsNode, AreElements, IsText, node_bytes, elements_bytes, text_bytes, node_levels, elements_levels, text_levels}
+use Rattle.event_json_laws.specs.Json.{node_value, elements_values, text_value}
 use Rattle.event_json.specs.Json.{json, quoted, items_json}
 use Rattle.event_json.specs.Timeless.{IsTimeless, IsTimelessIn, AreTimeless, AreTimelessMembers}
 use Rattle.event_tree.proofs.Shapes.{Shape, is_null, is_bool, is_number, is_text, is_time, is_list, is_object, shape_of}
-use Rattle.json_grammar.specs.Json.{JsonWithin}
+use Rattle.event_json_laws.specs.Json.{JsonWithin}
 use Rattle.event_tree.specs.declared.value.Value.{out-Value}
 use Rattle.event_json.proofs.Jsons.{json-Null, json-Bool, json-Num, json-Text, json-List}
 use Rattle.event_json.proofs.WrittenStrings.{pieces_of, pieces_say, IsUtf8-are_ascii}
@@ -185,10 +184,6 @@ object_written ms rises w =
 
 abbrev Written : ℕ → Value → Type 0
 Written levels d = IsWritten d × (depth d ≤ levels)
-
--- what a value is by its variant
-abbrev Holds : (Value-F Value → Type 0) → Value → Value-F Value → Type 0
-Holds is d f = is (out-Value d) → is f
 
 each_written : (levels : ℕ) → ((d : Value) → IsTimeless levels d → Written levels d) → (ds : List Value) → AreTimeless (IsTimeless levels) ds → EachWritten ds × (items_depth ds ≤ levels)
 each_written levels f [] are = (tt, omega arith)

@@ -1,23 +1,24 @@
 -- The number that a text of the grammar of JSON stands for (RFC 8259, section 6).
 use Rattle.std.specs.Prelude.{◌≡◌, ℕ, ◌==◌, ◌||◌, List, [], ◌∷◌, Bool, false, if◌then◌else◌, Option, Some, None}
+use Rattle.event_tree.specs.Characters.{minus, plus}
 use Rattle.event_tree.specs.Number.{Num, IsLeast}
 use Rattle.event_tree.specs.NumberTexts.{Decimal, StandsFor, IsI64}
-use Rattle.json_grammar.specs.Grammar.{Number, IsNumber, number_bytes}
+use Rattle.event_json_laws.specs.Grammar.{Number, IsNumber, number_bytes}
 
 -- what stands behind the first byte
 abbrev pub behind_first : List ℕ → List ℕ
 behind_first [] = []
 behind_first (b ∷ bs) = bs
 
--- whether a `-` (45) stands in front
+-- whether a `-` stands in front
 abbrev pub is_negative : List ℕ → Bool
 is_negative [] = false
-is_negative (b ∷ bs) = b == 45
+is_negative (b ∷ bs) = b == minus
 
--- the digits behind a `+` (43) or a `-`, if one of them stands in front
+-- the digits behind a `+` or a `-`, if one of them stands in front
 abbrev pub without_sign : List ℕ → List ℕ
 without_sign [] = []
-without_sign (b ∷ bs) = if b == 43 || b == 45 then bs else b ∷ bs
+without_sign (b ∷ bs) = if b == plus || b == minus then bs else b ∷ bs
 
 -- the signs and the digits of a number: the fraction without its point, the exponent without its `e`
 abbrev pub parts_of : Number → Decimal

@@ -1,11 +1,12 @@
 -- The text of an instant: a date-time of RFC 3339, section 5.6, in UTC, with three, six or nine decimals.
 use Rattle.std.specs.Prelude.{ℕ, zero, suc, ◌+◌, ◌-◌, ◌*◌, ◌/◌, ◌%◌, ◌^◌, ◌==◌, ℤ, pos, unsigned_abs, List, [], ◌∷◌, ◌++◌, length, take, drop, if◌then◌else◌, int_le, ◌+ℤ◌, ◌-ℤ◌, ◌*ℤ◌}
+use Rattle.event_tree.specs.Characters.{colon, digit_zero, minus, point}
 use Rattle.std.specs.Int.{int_div_euclid, int_rem_euclid}
 use Rattle.jiff_core.specs.Calendar.{days_from_civil}
 
 -- the digit of n at the place that p, a power of ten, names
 abbrev pub digit : ℕ → ℕ → ℕ
-digit p n = 48 + n / p % 10
+digit p n = digit_zero + n / p % 10
 
 abbrev pub two_digits : ℕ → List ℕ
 two_digits n = digit 10 n ∷ digit 1 n ∷ []
@@ -49,11 +50,11 @@ day_in_month nanos = unsigned_abs (day_of nanos -ℤ days_from_civil (pos (year_
 
 -- year-month-day
 abbrev pub date_text : ℕ → ℕ → ℕ → List ℕ
-date_text year month day = four_digits year ++ 45 ∷ (two_digits month ++ 45 ∷ two_digits day)
+date_text year month day = four_digits year ++ minus ∷ (two_digits month ++ minus ∷ two_digits day)
 
 -- hour:minute:second
 abbrev pub clock_text : ℕ → ℕ → ℕ → List ℕ
-clock_text hour minute second = two_digits hour ++ 58 ∷ (two_digits minute ++ 58 ∷ two_digits second)
+clock_text hour minute second = two_digits hour ++ colon ∷ (two_digits minute ++ colon ∷ two_digits second)
 
 -- how many decimals hold these nanoseconds of a second: three, six or nine, the least that do
 abbrev pub decimals_of : ℕ → ℕ
@@ -63,9 +64,16 @@ decimals_of nanos = if nanos % 1000000 == 0 then 3 else (if nanos % 1000 == 0 th
 abbrev pub fraction_text : ℕ → List ℕ
 fraction_text nanos = take (decimals_of nanos) (nine_digits nanos)
 
+-- `T` and `Z`
+abbrev pub capital_t : ℕ
+capital_t = 84
+
+abbrev pub capital_z : ℕ
+capital_z = 90
+
 -- a date, a time of day and the nanoseconds of its second, in UTC
 abbrev pub date_time_text : List ℕ → List ℕ → List ℕ → List ℕ
-date_time_text date clock fraction = date ++ 84 ∷ (clock ++ 46 ∷ (fraction ++ 90 ∷ []))
+date_time_text date clock fraction = date ++ capital_t ∷ (clock ++ point ∷ (fraction ++ capital_z ∷ []))
 
 -- the text of an instant in years 1 to 9999
 unfoldable pub time_text_of : ℤ → List ℕ

@@ -1,10 +1,12 @@
 -- Values in which no time stands: JSON has none.
 use Rattle.std.specs.Prelude.{ℕ, zero, suc, List, [], ◌∷◌, ⊤}
 use Rattle.std.specs.Str.{IsUtf8}
-use Rattle.plain_lists.specs.Members.{Rises}
+use Rattle.plain_data.specs.Members.{Rises}
 use Rattle.event_tree.specs.Number.{IsLeast}
 use Rattle.event_tree.specs.NumberTexts.{IsI64}
 use Rattle.event_tree.specs.Values.{Members}
+use Rattle.event_json_laws.specs.Json.{JsonWithin}
+use Rattle.event_json.specs.Json.{json}
 use Rattle.event_tree.specs.declared.value.Value.{Value, out-Value}
 use Rattle.event_tree.specs.declared.value.Value.TheOpen.{Value-F}
 
@@ -30,3 +32,7 @@ IsTimelessIn items members (Value-F.Object ms) = members ms
 abbrev pub IsTimeless : ℕ → Value → Type 0
 IsTimeless zero d = IsTimelessIn (λ _. ⊥) (λ _. ⊥) (out-Value d)
 IsTimeless (suc levels) d = IsTimelessIn (AreTimeless (IsTimeless levels)) (λ ms. Rises ms × AreTimelessMembers (IsTimeless levels) ms) (out-Value d)
+
+-- the text that is written of the value is a text of it, of as many levels
+abbrev pub ReadsBack : ℕ → Value → Type 0
+ReadsBack levels value = JsonWithin levels (json value) value

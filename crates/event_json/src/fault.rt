@@ -23,18 +23,18 @@ pub enum JsonFault {
 
 // Where reading stopped, as the number of bytes from there to the end.
 #[derive(Debug, Drop)]
-pub(crate) enum Stop {
+pub(crate) enum JsonStop {
     Memory,
     At(usize),
     Deep(usize),
 }
 
-impl From<AllocError> for Stop {
-    ghost use Rattle.event_json.specs.declared.fault.Stop.TheVariants as stops;
+impl From<AllocError> for JsonStop {
+    ghost use Rattle.event_json.specs.declared.fault.JsonStop.TheVariants as stops;
 
     ghost from_gives = { λ _ stop. stop ≡ stops.Memory };
 
-    fn from(_error: AllocError) -> Stop {
-        Stop::Memory
+    fn from(_error: AllocError) -> JsonStop {
+        JsonStop::Memory
     }
 }

@@ -1,7 +1,5 @@
-ghost use Rattle.std.specs.Prelude.{◌≡◌, ◌<◌, ◌≤◌, ◌+◌, ◌-◌, length, ◌∷◌, [], ◌++◌, true, false, OnOk, OnErr, IsUtf8, map};
-ghost use Rattle.event_tree.specs.Values.{on_values};
-ghost use Rattle.event_json.specs.TimeText.{time_text_of};
-ghost use Rattle.event_json.specs.Json.{json, quoted, escaped, items_json, members_json, comma_if, number_text, sign_of, pointed, zeros, hex_digit};
+ghost use Rattle.std.specs.Prelude.{◌≡◌, ◌<◌, ◌≤◌, length, ◌++◌, OnOk, OnErr, IsUtf8};
+ghost use Rattle.event_json.specs.Json.{json, quoted, quoted_time, escaped, items_text, members_text, comma_if, number_text, sign_of, pointed_digits, zeros, hex_digit};
 ghost use Rattle.event_tree.specs.Adds.{Adds, Keeps};
 
 use crate::string::run_length;
@@ -57,7 +55,7 @@ fn add_value(to: &mut Vec<u8>, value: &Value) -> Result<(), AllocError>
 #[tactic(auto, using(event_tree::proofs::Depths::falls, crate::proofs::Jsons::jsons))]
 #[cycle(write)]
 fn add_items(to: &mut Vec<u8>, items: &[Value]) -> Result<(), AllocError>
-    ensures ok { OnOk result (Adds (items_json false (map json items.now)) to.old.items to.new.items) }
+    ensures ok { OnOk result (Adds (items_text items.now) to.old.items to.new.items) }
     ensures err { OnErr result (Keeps to.old.items to.new.items) }
     ensures utf8 { IsUtf8 to.old.items → OnOk result (IsUtf8 to.new.items) }
 {
@@ -73,7 +71,7 @@ fn add_items(to: &mut Vec<u8>, items: &[Value]) -> Result<(), AllocError>
 #[tactic(auto, using(event_tree::proofs::Depths::falls, crate::proofs::Jsons::jsons))]
 #[cycle(write)]
 fn add_members(to: &mut Vec<u8>, members: &[(Text, Value)]) -> Result<(), AllocError>
-    ensures ok { OnOk result (Adds (members_json false (on_values json members.now)) to.old.items to.new.items) }
+    ensures ok { OnOk result (Adds (members_text members.now) to.old.items to.new.items) }
     ensures err { OnErr result (Keeps to.old.items to.new.items) }
     ensures utf8 { IsUtf8 to.old.items → OnOk result (IsUtf8 to.new.items) }
 {
@@ -121,11 +119,11 @@ fn add_escaped(to: &mut Vec<u8>, byte: u8) -> Result<(), AllocError>
     match byte {
         b'"' => add(to, b"\\\""),
         b'\\' => add(to, b"\\\\"),
-        8 => add(to, b"\\b"),
-        9 => add(to, b"\\t"),
-        10 => add(to, b"\\n"),
-        12 => add(to, b"\\f"),
-        13 => add(to, b"\\r"),
+        b'\x08' => add(to, b"\\b"),
+        b'\t' => add(to, b"\\t"),
+        b'\n' => add(to, b"\\n"),
+        b'\x0C' => add(to, b"\\f"),
+        b'\r' => add(to, b"\\r"),
         0..=31 => add(
             to,
             &[b'\\', b'u', b'0', b'0', hex(byte / 16), hex(byte % 16)],
@@ -143,7 +141,7 @@ fn hex(n: u8) -> u8
 }
 
 fn add_time(to: &mut Vec<u8>, moment: Instant) -> Result<(), AllocError>
-    ensures ok { OnOk result (Adds (34 ∷ (time_text_of moment ++ 34 ∷ [])) to.old.items to.new.items) }
+    ensures ok { OnOk result (Adds (quoted_time moment) to.old.items to.new.items) }
     ensures err { OnErr result (Keeps to.old.items to.new.items) }
     ensures utf8 { IsUtf8 to.old.items → OnOk result (IsUtf8 to.new.items) }
 {
@@ -176,7 +174,7 @@ fn add_sign(to: &mut Vec<u8>, number: i64) -> Result<(), AllocError>
 fn add_pointed(to: &mut Vec<u8>, digits: &[u8], places: usize) -> Result<(), AllocError>
     requires few { places ≤ 18 }
     requires some { 0 < length digits.now }
-    ensures ok { OnOk result (Adds (pointed places (zeros (places + 1 - length digits.now) ++ digits.now)) to.old.items to.new.items) }
+    ensures ok { OnOk result (Adds (pointed_digits places digits.now) to.old.items to.new.items) }
     ensures err { OnErr result (Keeps to.old.items to.new.items) }
 {
     if places == 0 {

@@ -3,16 +3,14 @@ ghost use Rattle.std.specs.Prelude.{◌≡◌, ◌↔◌, ℕ, ℤ, List, Option
 ghost use Rattle.event_tree.specs.Number.{Num, IsLeast, least};
 ghost use Rattle.event_tree.specs.NumberTexts.{NumberReads};
 ghost use Rattle.event_tree.specs.declared.value.Value.{Value};
-ghost use Rattle.json_grammar.specs.Json.{JsonWithin};
-ghost use Rattle.event_json.specs.Json.{json};
 ghost use Rattle.event_json.specs.LeastForms.{IsValueOf};
 ghost use Rattle.event_json.specs.NumberGrammar.{IsNumberText};
-ghost use Rattle.event_json.specs.Timeless.{IsTimeless};
+ghost use Rattle.event_json.specs.Timeless.{IsTimeless, ReadsBack};
 
 /// What `write_json` writes of a value without times is a JSON text of that value, of as many levels as
 /// the value has. With at most 100 of them `read_json` therefore reads it as the same value.
 pub fn what_is_written_reads_back()
-    ensures { (levels : ℕ) (value : Value) → IsTimeless levels value → JsonWithin levels (json value) value }
+    ensures { (levels : ℕ) (value : Value) → IsTimeless levels value → ReadsBack levels value }
 {}
 
 /// What `Number::read` answers is what the grammar of JSON says (RFC 8259, section 6): the number of 64

@@ -1,15 +1,15 @@
 // From bytes to a value.
 ghost use Rattle.std.specs.Prelude.{◌≡◌, [], length, OnOk, IfOk, IfErr};
 ghost use Rattle.std.specs.Str.{IsAscii};
-ghost use Rattle.json_grammar.specs.Numbers.{number_of as computed_number, number_value as value_of_number};
-ghost use Rattle.json_grammar.specs.Reading.{skip as skipped, number_at, scalar_at, after_word as behind_word, key_at, after_colon as behind_colon, entry_at, spaced_at, item_at, member_at, elements_at, list_at, object_at, node_at, read as read_all};
-ghost use Rattle.plain_lists.specs.Members.{insert_member};
-ghost use Rattle.json_grammar.specs.Json.{JsonWithin};
+ghost use Rattle.event_json_laws.specs.Numbers.{number_of as computed_number, number_value as value_of_number};
+ghost use Rattle.event_json_laws.specs.Reading.{skip as skipped, number_at, scalar_at, after_word as behind_word, key_at, after_colon as behind_colon, entry_at, spaced_at, item_at, member_at, elements_at, list_at, object_at, node_at, read as read_all};
+ghost use Rattle.plain_data.specs.Members.{insert_member};
+ghost use Rattle.event_json_laws.specs.Json.{JsonWithin};
 ghost use Rattle.event_tree.specs.declared.value.Value.{Value};
-ghost use Rattle.event_json.specs.Stops.{Gives, fault_at};
+ghost use Rattle.event_json.specs.Stops.{Gives, items_at, members_at, fault_at};
 ghost use Rattle.event_json.specs.Faults.{IsFault, IsOnly};
 
-use crate::fault::{JsonFault, Stop};
+use crate::fault::{JsonFault, JsonStop};
 use crate::front::{after_byte, rest_of};
 use crate::scan::{after_word, number_end, skip, stopped};
 use crate::string::string;
@@ -44,8 +44,8 @@ fn number_value(alloc: Global, spelling: &str) -> Result<Value, AllocError>
     }
 }
 
-#[tactic(auto, unfolding(json_grammar::specs::Reading::number_at))]
-fn number(alloc: Global, text: &str) -> Result<(Value, &str), Stop>
+#[tactic(auto, unfolding(event_json_laws::specs::Reading::number_at))]
+fn number(alloc: Global, text: &str) -> Result<(Value, &str), JsonStop>
     ensures { Gives (λ x. (x.0, x.1.now)) result (number_at text.now) }
 {
     let rest = number_end(text.as_bytes())?;
@@ -53,7 +53,7 @@ fn number(alloc: Global, text: &str) -> Result<(Value, &str), Stop>
     Ok((value, rest_of(text, rest)))
 }
 
-fn word<'t>(text: &'t str, word: &[u8]) -> Result<&'t str, Stop>
+fn word<'t>(text: &'t str, word: &[u8]) -> Result<&'t str, JsonStop>
     requires { IsAscii word.now }
     ensures { Gives (λ x. x.now) result (behind_word word.now text.now) }
 {
@@ -62,7 +62,7 @@ fn word<'t>(text: &'t str, word: &[u8]) -> Result<&'t str, Stop>
 }
 
 // A literal or a number.
-fn scalar(alloc: Global, text: &str) -> Result<(Value, &str), Stop>
+fn scalar(alloc: Global, text: &str) -> Result<(Value, &str), JsonStop>
     ensures { Gives (λ x. (x.0, x.1.now)) result (scalar_at text.now) }
 {
     let Some((first, _)) = text.as_bytes().split_first() else {
@@ -80,7 +80,7 @@ fn scalar(alloc: Global, text: &str) -> Result<(Value, &str), Stop>
     number(alloc, text)
 }
 
-fn key(alloc: Global, text: &str) -> Result<(Text, &str), Stop>
+fn key(alloc: Global, text: &str) -> Result<(Text, &str), JsonStop>
     ensures { Gives (λ x. (x.0, x.1.now)) result (key_at text.now) }
 {
     match after_byte(text, b'"') {
@@ -89,7 +89,7 @@ fn key(alloc: Global, text: &str) -> Result<(Text, &str), Stop>
     }
 }
 
-fn after_colon(text: &str) -> Result<&str, Stop>
+fn after_colon(text: &str) -> Result<&str, JsonStop>
     ensures { Gives (λ x. x.now) result (behind_colon text.now) }
 {
     match after_byte(text, b':') {
@@ -108,7 +108,7 @@ fn put_last(found: &mut Fields<Value>, key: Text, value: Value) -> Result<(), Al
 
 // A value whose arrays and objects nest no deeper than `levels`.
 #[cycle(read)]
-fn node(alloc: Global, text: &str, levels: usize) -> Result<(Value, &str), Stop>
+fn node(alloc: Global, text: &str, levels: usize) -> Result<(Value, &str), JsonStop>
     ensures { Gives (λ x. (x.0, x.1.now)) result (node_at levels text.now) }
 {
     if let Some(rest) = after_byte(text, b'"') {
@@ -117,13 +117,13 @@ fn node(alloc: Global, text: &str, levels: usize) -> Result<(Value, &str), Stop>
     }
     if let Some(rest) = after_byte(text, b'[') {
         if levels == 0 {
-            return Err(Stop::Deep(text.len()));
+            return Err(JsonStop::Deep(text.len()));
         }
         return list(alloc, rest, levels - 1);
     }
     if let Some(rest) = after_byte(text, b'{') {
         if levels == 0 {
-            return Err(Stop::Deep(text.len()));
+            return Err(JsonStop::Deep(text.len()));
         }
         return object(alloc, rest, levels - 1);
     }
@@ -131,7 +131,7 @@ fn node(alloc: Global, text: &str, levels: usize) -> Result<(Value, &str), Stop>
 }
 
 #[cycle(read)]
-fn spaced(alloc: Global, text: &str, levels: usize) -> Result<(Value, &str), Stop>
+fn spaced(alloc: Global, text: &str, levels: usize) -> Result<(Value, &str), JsonStop>
     ensures { Gives (λ x. (x.0, x.1.now)) result (spaced_at (node_at levels) text.now) }
 {
     let (value, rest) = node(alloc, unspaced(text), levels)?;
@@ -139,7 +139,7 @@ fn spaced(alloc: Global, text: &str, levels: usize) -> Result<(Value, &str), Sto
 }
 
 #[cycle(read)]
-fn list(alloc: Global, text: &str, levels: usize) -> Result<(Value, &str), Stop>
+fn list(alloc: Global, text: &str, levels: usize) -> Result<(Value, &str), JsonStop>
     ensures { Gives (λ x. (x.0, x.1.now)) result (list_at (node_at levels) text.now) }
 {
     let inside = unspaced(text);
@@ -151,8 +151,8 @@ fn list(alloc: Global, text: &str, levels: usize) -> Result<(Value, &str), Stop>
 }
 
 #[cycle(read)]
-fn items(alloc: Global, text: &str, levels: usize) -> Result<(Items<Value>, &str), Stop>
-    ensures { Gives (λ x. (x.0, x.1.now)) result (elements_at 93 (item_at (node_at levels)) (length text.now) [] text.now) }
+fn items(alloc: Global, text: &str, levels: usize) -> Result<(Items<Value>, &str), JsonStop>
+    ensures { Gives (λ x. (x.0, x.1.now)) result (items_at levels text.now) }
 {
     let mut found = Items::new(alloc);
     let mut rest = text;
@@ -171,7 +171,7 @@ fn items(alloc: Global, text: &str, levels: usize) -> Result<(Items<Value>, &str
 }
 
 #[cycle(read)]
-fn object(alloc: Global, text: &str, levels: usize) -> Result<(Value, &str), Stop>
+fn object(alloc: Global, text: &str, levels: usize) -> Result<(Value, &str), JsonStop>
     ensures { Gives (λ x. (x.0, x.1.now)) result (object_at (node_at levels) text.now) }
 {
     let inside = unspaced(text);
@@ -183,8 +183,8 @@ fn object(alloc: Global, text: &str, levels: usize) -> Result<(Value, &str), Sto
 }
 
 #[cycle(read)]
-fn members(alloc: Global, text: &str, levels: usize) -> Result<(Fields<Value>, &str), Stop>
-    ensures { Gives (λ x. (x.0, x.1.now)) result (elements_at 125 (member_at (node_at levels)) (length text.now) [] text.now) }
+fn members(alloc: Global, text: &str, levels: usize) -> Result<(Fields<Value>, &str), JsonStop>
+    ensures { Gives (λ x. (x.0, x.1.now)) result (members_at levels text.now) }
 {
     let mut found = Fields::new(alloc);
     let mut rest = text;
@@ -203,7 +203,7 @@ fn members(alloc: Global, text: &str, levels: usize) -> Result<(Fields<Value>, &
 }
 
 #[cycle(read)]
-fn entry(alloc: Global, text: &str, levels: usize) -> Result<(Text, Value, &str), Stop>
+fn entry(alloc: Global, text: &str, levels: usize) -> Result<(Text, Value, &str), JsonStop>
     ensures { Gives (λ x. ((x.0, x.1), x.2.now)) result (entry_at (node_at levels) text.now) }
 {
     let (key, rest) = key(alloc, unspaced(text))?;
@@ -212,8 +212,8 @@ fn entry(alloc: Global, text: &str, levels: usize) -> Result<(Text, Value, &str)
     Ok((key, value, rest))
 }
 
-#[tactic(auto, unfolding(json_grammar::specs::Reading::read))]
-fn read_text(alloc: Global, text: &str, levels: usize) -> Result<Value, Stop>
+#[tactic(auto, unfolding(event_json_laws::specs::Reading::read))]
+fn read_text(alloc: Global, text: &str, levels: usize) -> Result<Value, JsonStop>
     ensures { Gives (λ value. value) result (read_all levels text.now) }
 {
     let (value, rest) = spaced(alloc, text, levels)?;
@@ -225,13 +225,13 @@ fn read_text(alloc: Global, text: &str, levels: usize) -> Result<Value, Stop>
 }
 
 // A place from the front of so many bytes, for one from their end.
-fn fault_of(stop: Stop, length: usize) -> JsonFault
+fn fault_of(stop: JsonStop, length: usize) -> JsonFault
     ensures { result ≡ fault_at stop length }
 {
     match stop {
-        Stop::Memory => JsonFault::Memory,
-        Stop::At(left) => JsonFault::At(length.saturating_sub(left)),
-        Stop::Deep(left) => JsonFault::Deep(length.saturating_sub(left)),
+        JsonStop::Memory => JsonFault::Memory,
+        JsonStop::At(left) => JsonFault::At(length.saturating_sub(left)),
+        JsonStop::Deep(left) => JsonFault::Deep(length.saturating_sub(left)),
     }
 }
 

@@ -1,14 +1,14 @@
 // Blanks, numbers and literals, on bytes: what follows them, or where they stop.
 ghost use Rattle.std.specs.Prelude.{◌≡◌, length};
-ghost use Rattle.json_grammar.specs.Reading.{skip as skipped, skip_digits as skipped_digits, digits as some_digits, after_minus as unsigned, after_sign as unsigned_exponent, whole as whole_part, fraction as fraction_part, exponent as exponent_part, after_number, after_word as behind_word};
+ghost use Rattle.event_json_laws.specs.Reading.{skip as skipped, skip_digits as skipped_digits, digits as some_digits, after_minus as unsigned, after_sign as unsigned_exponent, whole as whole_part, fraction as fraction_part, exponent as exponent_part, after_number, after_word as behind_word};
 ghost use Rattle.event_json.specs.Stops.{Gives};
 
-use crate::fault::Stop;
+use crate::fault::JsonStop;
 
-pub(crate) fn stopped(rest: &[u8]) -> Stop
-    ensures { result ≡ Stop.At (length rest.now) }
+pub(crate) fn stopped(rest: &[u8]) -> JsonStop
+    ensures { result ≡ JsonStop.At (length rest.now) }
 {
-    Stop::At(rest.len())
+    JsonStop::At(rest.len())
 }
 
 pub(crate) fn skip(bytes: &[u8]) -> &[u8]
@@ -31,7 +31,7 @@ fn skip_digits(bytes: &[u8]) -> &[u8]
     rest
 }
 
-fn digits(bytes: &[u8]) -> Result<&[u8], Stop>
+fn digits(bytes: &[u8]) -> Result<&[u8], JsonStop>
     ensures { Gives (λ x. x.now) result (some_digits bytes.now) }
 {
     match bytes {
@@ -58,7 +58,7 @@ fn after_sign(bytes: &[u8]) -> &[u8]
     }
 }
 
-fn whole(bytes: &[u8]) -> Result<&[u8], Stop>
+fn whole(bytes: &[u8]) -> Result<&[u8], JsonStop>
     ensures { Gives (λ x. x.now) result (whole_part bytes.now) }
 {
     match bytes {
@@ -67,7 +67,7 @@ fn whole(bytes: &[u8]) -> Result<&[u8], Stop>
     }
 }
 
-fn fraction(bytes: &[u8]) -> Result<&[u8], Stop>
+fn fraction(bytes: &[u8]) -> Result<&[u8], JsonStop>
     ensures { Gives (λ x. x.now) result (fraction_part bytes.now) }
 {
     match bytes {
@@ -76,7 +76,7 @@ fn fraction(bytes: &[u8]) -> Result<&[u8], Stop>
     }
 }
 
-fn exponent(bytes: &[u8]) -> Result<&[u8], Stop>
+fn exponent(bytes: &[u8]) -> Result<&[u8], JsonStop>
     ensures { Gives (λ x. x.now) result (exponent_part bytes.now) }
 {
     match bytes {
@@ -85,8 +85,8 @@ fn exponent(bytes: &[u8]) -> Result<&[u8], Stop>
     }
 }
 
-#[tactic(auto, unfolding(json_grammar::specs::Reading::after_number))]
-pub(crate) fn number_end(bytes: &[u8]) -> Result<&[u8], Stop>
+#[tactic(auto, unfolding(event_json_laws::specs::Reading::after_number))]
+pub(crate) fn number_end(bytes: &[u8]) -> Result<&[u8], JsonStop>
     ensures { Gives (λ x. x.now) result (after_number bytes.now) }
 {
     let rest = whole(after_minus(bytes))?;
@@ -94,7 +94,7 @@ pub(crate) fn number_end(bytes: &[u8]) -> Result<&[u8], Stop>
     exponent(rest)
 }
 
-pub(crate) fn after_word<'t>(bytes: &'t [u8], word: &[u8]) -> Result<&'t [u8], Stop>
+pub(crate) fn after_word<'t>(bytes: &'t [u8], word: &[u8]) -> Result<&'t [u8], JsonStop>
     ensures { Gives (λ x. x.now) result (behind_word word.now bytes.now) }
 {
     let mut rest = bytes;

@@ -1,23 +1,23 @@
 // The content of strings, up to the quote.
 ghost use Rattle.std.specs.Prelude.{◌≡◌, ◌≤◌, ◌<◌, ◌++◌, ℕ, slice_index, length, take, drop, string_bytes, OnOk, IfOk, IfErr, IfSome, encode_utf8};
 ghost use Rattle.std.specs.Char.{IsScalar};
-ghost use Rattle.json_grammar.specs.Strings.{is_plain, is_high, is_low, alone, joined, lone, held as held_unit, replacement};
-ghost use Rattle.json_grammar.specs.Reading.{plainly, escaped, inside_at, string_at};
-ghost use Rattle.event_json.specs.Stops.{Gives, Fails, GoesOn, Passes, IsHeld, IsSpecial, run, after_run, hex_at, unit_at};
+ghost use Rattle.event_json_laws.specs.Strings.{is_plain, is_high, is_low, alone, joined, lone, held as held_unit, replacement};
+ghost use Rattle.event_json_laws.specs.Reading.{plainly, escaped, inside_at, string_at};
+ghost use Rattle.event_json.specs.Stops.{Gives, FailsInside, GoesOn, Passes, IsHeld, IsSpecial, plain_run, after_plain_run, hex_at, unit_at};
 
-use crate::fault::Stop;
+use crate::fault::JsonStop;
 use crate::front::{after_byte, rest_of};
 use crate::scan::stopped;
+use event_json_laws::{hex, short};
 use event_tree::Text;
-use json_grammar::{hex, short};
 use std::alloc::{AllocError, Global};
 
 const REPLACEMENT: char = '\u{FFFD}';
 
 // How many plain bytes stand in front.
 pub(crate) fn run_length(bytes: &[u8]) -> usize
-    ensures run { run bytes.now ≡ take result bytes.now }
-    ensures after { after_run bytes.now ≡ drop result bytes.now }
+    ensures run { plain_run bytes.now ≡ take result bytes.now }
+    ensures after { after_plain_run bytes.now ≡ drop result bytes.now }
     ensures within { result ≤ length bytes.now }
     ensures stops { result < length bytes.now → slice_index bytes.now result < 128 }
 {
@@ -31,7 +31,7 @@ pub(crate) fn run_length(bytes: &[u8]) -> usize
     count
 }
 
-fn hex_digit(bytes: &[u8]) -> Result<(u32, &[u8]), Stop>
+fn hex_digit(bytes: &[u8]) -> Result<(u32, &[u8]), JsonStop>
     ensures digit { Gives (λ x. (x.0, x.1.now)) result (hex_at bytes.now) }
     ensures small { IfOk result (λ x. x.0 < 16) }
 {
@@ -46,7 +46,7 @@ fn hex_digit(bytes: &[u8]) -> Result<(u32, &[u8]), Stop>
 
 // A unit of UTF-16, in four digits.
 #[tactic(auto, unfolding(crate::specs::Stops::unit_at))]
-fn unit(bytes: &[u8]) -> Result<(u32, &[u8]), Stop>
+fn unit(bytes: &[u8]) -> Result<(u32, &[u8]), JsonStop>
     ensures unit { Gives (λ x. (x.0, x.1.now)) result (unit_at bytes.now) }
     ensures small { IfOk result (λ x. x.0 < 65536) }
 {
@@ -57,7 +57,7 @@ fn unit(bytes: &[u8]) -> Result<(u32, &[u8]), Stop>
     Ok((16 * (16 * (16 * a + b) + c) + d, rest))
 }
 
-fn unit_in(text: &str) -> Result<(u32, &str), Stop>
+fn unit_in(text: &str) -> Result<(u32, &str), JsonStop>
     ensures unit { Gives (λ x. (x.0, x.1.now)) result (unit_at text.now) }
     ensures small { IfOk result (λ x. x.0 < 65536) }
     ensures shorter { IfOk result (λ x. length x.1.now ≤ length text.now) }
@@ -153,7 +153,7 @@ fn add_run<'t>(
     text: &'t str,
 ) -> Result<(Option<u32>, &'t str), AllocError>
     requires { IsHeld waits }
-    ensures goes { IfOk result (λ x. Passes plainly waits text.now (string_bytes to.old) (string_bytes to.new) x.0 x.1.now) }
+    ensures goes { IfOk result (λ x. Passes plainly waits text.now to.old to.new x.0 x.1.now) }
     ensures waits { IfOk result (λ x. IsHeld x.0) }
     ensures special { IfOk result (λ x. IsSpecial x.1.now) }
 {
@@ -171,11 +171,11 @@ fn add_escaped<'t>(
     to: &mut String,
     waits: Option<u32>,
     text: &'t str,
-) -> Result<(Option<u32>, &'t str), Stop>
+) -> Result<(Option<u32>, &'t str), JsonStop>
     requires { IsHeld waits }
-    ensures goes { IfOk result (λ x. GoesOn escaped waits text.now (string_bytes to.old) (string_bytes to.new) x.0 x.1.now) }
+    ensures goes { IfOk result (λ x. GoesOn escaped waits text.now to.old to.new x.0 x.1.now) }
     ensures waits { IfOk result (λ x. IsHeld x.0) }
-    ensures stops { IfErr result (λ stop. Fails stop (inside_at text.now escaped waits (string_bytes to.old))) }
+    ensures stops { IfErr result (FailsInside escaped waits text.now to.old) }
 {
     if let Some(digits) = after_byte(text, b'u') {
         let (unit, rest) = unit_in(digits)?;
@@ -194,7 +194,7 @@ fn add_escaped<'t>(
 }
 
 // The text up to the quote that ends the string, and what follows the quote.
-pub(crate) fn string(alloc: Global, text: &str) -> Result<(Text, &str), Stop>
+pub(crate) fn string(alloc: Global, text: &str) -> Result<(Text, &str), JsonStop>
     ensures { Gives (λ x. (x.0, x.1.now)) result (string_at text.now) }
 {
     let mut found = String::new(alloc);

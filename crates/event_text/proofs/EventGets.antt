@@ -3,13 +3,13 @@ use Rattle.std.proofs.Common.{◌≡◌, ◌≢◌, ℕ, ◌<◌, List, [], ◌�
 use Rattle.std.proofs.lemmas.Option.{same_Some}
 use Rattle.event_tree.specs.Values.{Members}
 use Rattle.event_tree.specs.Paths.{at, put, take}
-use Rattle.event_tree.specs.Events.{Ev, IsEvent, event_depth, event_size, event_at, event_put, event_take, take_meta, object_in, object, object_put, with_fields, with_meta, limited}
+use Rattle.event_tree.specs.Events.{Ev, IsEvent, event_depth, event_size, event_at, event_put, event_take, take_meta, object_in, object, object_put, with_fields, with_meta, limited, to}
 use Rattle.event_tree.specs.declared.fault.PutFault.{PutFault}
 use Rattle.event_tree.specs.declared.fault.PutFault.TheVariants.{Deep, Large}
 use Rattle.event_tree.specs.declared.value.Value.{Value, out-Value, roll-Value, roll-out-Value}
 use Rattle.event_tree.specs.declared.value.Value.TheOpen.{Value-F}
 use Rattle.event_tree.specs.declared.value.Value.TheVariants as v
-use Rattle.event_text.specs.PathLaws.{IsNoList, event_passes_end, to}
+use Rattle.event_text.specs.PathLaws.{IsNoList, event_passes_end}
 use Rattle.event_text.proofs.PutGets.{at_put, at_put_other}
 use Rattle.event_text.proofs.TakeGets.{taken, at_take, at_take_other}
 

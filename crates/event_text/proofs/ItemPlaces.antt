@@ -1,8 +1,9 @@
 -- The places that a part names in a list before and after an item is set or added.
-use Rattle.std.proofs.Common.{◌≡◌, ℕ, zero, suc, ◌-◌, ◌≤◌, ◌==◌, List, [], ◌∷◌, ◌++◌, length, Bool, true, false, if◌then◌else◌, Option, Some, None, option_map, option_and_then, refl, sym, ap, ◌∙◌, rules, arith, slice_get, slice_set}
+use Rattle.std.proofs.Common.{◌≡◌, ℕ, zero, suc, ◌-◌, ◌≤◌, ◌==◌, List, [], ◌∷◌, ◌++◌, length, Bool, true, false, if◌then◌else◌, Option, Some, None, option_map, option_and_then, refl, sym, ap, ◌∙◌, rules, arith, slice_get, slice_set, length-append}
 use Rattle.std.proofs.lemmas.Option.{slice_get_past, same_Some}
+use Rattle.std.proofs.lemmas.List.{length-set}
 use Rattle.event_tree.proofs.Tens.{at_most_some, at_most_within}
-use Rattle.event_tree.specs.Paths.{digits, at_most, place}
+use Rattle.event_tree.specs.Paths.{digits, at_most, list_place}
 use Rattle.event_text.specs.PathLaws.{is_from_end}
 
 pub get_set : {X : Type 0} (xs : List X) (i : ℕ) (x y : X) → slice_get xs i ≡ Some x → slice_get (slice_set xs i y) i ≡ Some y
@@ -10,14 +11,8 @@ get_set [] i x y h = absurd (search (h, rules))
 get_set (z ∷ xs) zero x y h = refl
 get_set (z ∷ xs) (suc i) x y h = get_set xs i x y h
 
-pub set_length : {X : Type 0} (xs : List X) (i : ℕ) (y : X) → length (slice_set xs i y) ≡ length xs
-set_length [] i y = refl
-set_length (z ∷ xs) zero y = refl
-set_length (z ∷ xs) (suc i) y = ap suc (set_length xs i y)
-
-pub push_length : {X : Type 0} (xs : List X) (y : X) → length (xs ++ y ∷ []) ≡ suc (length xs)
-push_length [] y = refl
-push_length (z ∷ xs) y = ap suc (push_length xs y)
+push_length : {X : Type 0} (xs : List X) (y : X) → length (xs ++ y ∷ []) ≡ suc (length xs)
+push_length xs y = length-append xs (y ∷ []) ∙ omega arith
 
 pub get_pushed : {X : Type 0} (xs : List X) (y : X) → slice_get (xs ++ y ∷ []) (length xs) ≡ Some y
 get_pushed [] y = refl
@@ -45,11 +40,11 @@ back_more n (Some k) i h le = cases (at_most n (Some k)) refl h
         ap (option_map (λ k. suc n - k)) (at_most_within (suc n) k (omega (arith, m.1))) ∙ ap Some first
 
 -- A part names the place of an item that it adds: it still does where it counts from the front, and names the next place where it counts from the end.
-pub placed : (p : List ℕ) (n i : ℕ) → place p n ≡ Some i → n ≤ i → place p (suc n) ≡ Some (if is_from_end p then suc n else n)
+pub placed : (p : List ℕ) (n i : ℕ) → list_place p n ≡ Some i → n ≤ i → list_place p (suc n) ≡ Some (if is_from_end p then suc n else n)
 placed [] n i h le = absurd (search (h, rules))
 placed (b ∷ bs) n i h le = cases (b == 45) refl
   where
-    cases : (c : Bool) → (b == 45) ≡ c → place (b ∷ bs) (suc n) ≡ Some (if is_from_end (b ∷ bs) then suc n else n)
+    cases : (c : Bool) → (b == 45) ≡ c → list_place (b ∷ bs) (suc n) ≡ Some (if is_from_end (b ∷ bs) then suc n else n)
     cases true e = rw e (back_more n (digits bs) i (rw e at h) le)
     cases false e = rw e (front_more n (digits (b ∷ bs)) i (rw e at h) ∙ ap Some (front_end n (digits (b ∷ bs)) i (rw e at h) le))
       where
@@ -58,9 +53,9 @@ placed (b ∷ bs) n i h le = cases (b == 45) refl
         front_end n (Some k) i h le = let m = at_most_some n k i h in omega (arith, m.0, m.1, le)
 
 -- what a part leads to once an item was added at the place that it named
-pub step_pushed : {X : Type 0} (p : List ℕ) (xs : List X) (i : ℕ) (y : X) → place p (length xs) ≡ Some i → slice_get xs i ≡ None
-    → option_and_then (λ j. slice_get (xs ++ y ∷ []) j) (place p (length (xs ++ y ∷ []))) ≡ (if is_from_end p then None else Some y)
-step_pushed p xs i y at none = ap (λ n. option_and_then (λ j. slice_get (xs ++ y ∷ []) j) (place p n)) (push_length xs y)
+pub step_pushed : {X : Type 0} (p : List ℕ) (xs : List X) (i : ℕ) (y : X) → list_place p (length xs) ≡ Some i → slice_get xs i ≡ None
+    → option_and_then (λ j. slice_get (xs ++ y ∷ []) j) (list_place p (length (xs ++ y ∷ []))) ≡ (if is_from_end p then None else Some y)
+step_pushed p xs i y at none = ap (λ n. option_and_then (λ j. slice_get (xs ++ y ∷ []) j) (list_place p n)) (push_length xs y)
     ∙ ap (option_and_then (λ j. slice_get (xs ++ y ∷ []) j)) (placed p (length xs) i at (none_past xs i none)) ∙ cases (is_from_end p)
   where
     cases : (b : Bool) → slice_get (xs ++ y ∷ []) (if b then suc (length xs) else length xs) ≡ (if b then None else Some y)
@@ -68,11 +63,11 @@ step_pushed p xs i y at none = ap (λ n. option_and_then (λ j. slice_get (xs ++
     cases false = get_pushed xs y
 
 -- what a part leads to once the item that it names was set
-pub step_set : {X : Type 0} (p : List ℕ) (xs : List X) (i : ℕ) (x y : X) → place p (length xs) ≡ Some i → slice_get xs i ≡ Some x
-    → option_and_then (λ j. slice_get (slice_set xs i y) j) (place p (length (slice_set xs i y))) ≡ Some y
-step_set p xs i x y at is = ap (λ n. option_and_then (λ j. slice_get (slice_set xs i y) j) (place p n)) (set_length xs i y)
+pub step_set : {X : Type 0} (p : List ℕ) (xs : List X) (i : ℕ) (x y : X) → list_place p (length xs) ≡ Some i → slice_get xs i ≡ Some x
+    → option_and_then (λ j. slice_get (slice_set xs i y) j) (list_place p (length (slice_set xs i y))) ≡ Some y
+step_set p xs i x y at is = ap (λ n. option_and_then (λ j. slice_get (slice_set xs i y) j) (list_place p n)) (length-set xs i y)
     ∙ ap (option_and_then (λ j. slice_get (slice_set xs i y) j)) at ∙ get_set xs i x y is
 
 -- the same before
-pub step_is : {X : Type 0} (p : List ℕ) (xs : List X) (i : ℕ) (o : Option X) → place p (length xs) ≡ Some i → slice_get xs i ≡ o → option_and_then (λ j. slice_get xs j) (place p (length xs)) ≡ o
+pub step_is : {X : Type 0} (p : List ℕ) (xs : List X) (i : ℕ) (o : Option X) → list_place p (length xs) ≡ Some i → slice_get xs i ≡ o → option_and_then (λ j. slice_get xs j) (list_place p (length xs)) ≡ o
 step_is p xs i o at is = ap (option_and_then (λ j. slice_get xs j)) at ∙ is

@@ -6,8 +6,8 @@ use Rattle.std.proofs.lemmas.Bool.Decides.{nat_tests}
 use Rattle.std.specs.Str.{IsUtf8, IsCharBoundary}
 use Rattle.std.proofs.lemmas.Str.{IsCharBoundary-before_ascii, IsCharBoundary-after_ascii}
 use Rattle.event_tree.proofs.Orders.{first, second}
-use Rattle.event_text.specs.Template.{opens, before_close, placed, piece_of, placeholder}
-use Rattle.event_text.specs.declared.template.Piece.{Piece}
+use Rattle.event_text.specs.Template.{opens, before_close, placed, template_part_of, placeholder}
+use Rattle.event_text.specs.declared.template.TemplatePart.{TemplatePart}
 
 is_close : (b : ℕ) → b ≡ 125 → (b == 125) ≡ true
 is_close b h = grind (arith, nat_tests)
@@ -77,8 +77,8 @@ not_closed bytes at is none =
     ap (λ t. if t then option_and_then placed (before_close (drop 2 (drop at bytes))) else None) is
     ∙ ap (λ l. option_and_then placed (before_close l)) (inside_is bytes at) ∙ ap (option_and_then placed) none
 
-pub closed : (bytes : List ℕ) (at close : ℕ) (piece : Option Piece) → opens (drop at bytes) ≡ true → at + 2 ≤ close → close < length bytes → before_close (drop (at + 2) bytes) ≡ Some (take (close - (at + 2)) (drop (at + 2) bytes))
-    → piece ≡ piece_of (take (close - (at + 2)) (drop (at + 2) bytes)) → option_map (λ x. (x, close + 1 - at)) piece ≡ placeholder (drop at bytes)
+pub closed : (bytes : List ℕ) (at close : ℕ) (piece : Option TemplatePart) → opens (drop at bytes) ≡ true → at + 2 ≤ close → close < length bytes → before_close (drop (at + 2) bytes) ≡ Some (take (close - (at + 2)) (drop (at + 2) bytes))
+    → piece ≡ template_part_of (take (close - (at + 2)) (drop (at + 2) bytes)) → option_map (λ x. (x, close + 1 - at)) piece ≡ placeholder (drop at bytes)
 closed bytes at close piece is after within before read =
     let inner = take (close - (at + 2)) (drop (at + 2) bytes) in
     let size : length inner ≡ close - (at + 2) = omega (arith, length-take (close - (at + 2)) (drop (at + 2) bytes), length-drop (at + 2) bytes) in

@@ -1,7 +1,7 @@
 -- What stands at a path after a put.
 use Rattle.std.proofs.Common.{◌≡◌, ◌≢◌, ℕ, List, [], ◌∷◌, ◌++◌, Bool, true, false, if◌then◌else◌, Option, Some, None, option_map, option_and_then, refl, sym, ap, ◌∙◌, slice_set}
-use Rattle.plain_lists.specs.Members.{get_member, set_member, insert_member}
-use Rattle.plain_lists.proofs.ChangeLemmas.{get_member-insert_member, get_member-set_member, get_member-insert_member-other, get_member-set_member-other}
+use Rattle.plain_data.specs.Members.{get_member, set_member, insert_member}
+use Rattle.plain_data.proofs.ChangeLemmas.{get_member-insert_member, get_member-set_member, get_member-insert_member-other, get_member-set_member-other}
 use Rattle.event_tree.specs.Values.{Members}
 use Rattle.event_tree.specs.Paths.{step, at, put, wrap, over}
 use Rattle.event_tree.specs.declared.value.Value.{Value}

@@ -1,11 +1,11 @@
 -- What stood at a path before a take, and what stands there behind it.
 use Rattle.std.proofs.Common.{◌≡◌, ◌≢◌, ℕ, ◌<◌, List, [], ◌∷◌, ◌++◌, length, true, Option, Some, None, option_map, option_and_then, refl, sym, ap, subst, ◌∙◌, rules, arith, slice_get, slice_set, remove}
 use Rattle.std.proofs.lemmas.Option.{same_Some}
-use Rattle.plain_lists.specs.Members.{Rises, get_member, set_member, remove_member}
-use Rattle.plain_lists.proofs.ChangeLemmas.{get_member-set_member, get_member-remove_member, get_member-set_member-other, get_member-remove_member-other}
+use Rattle.plain_data.specs.Members.{Rises, get_member, set_member, remove_member}
+use Rattle.plain_data.proofs.ChangeLemmas.{get_member-set_member, get_member-remove_member, get_member-set_member-other, get_member-remove_member-other}
 use Rattle.event_tree.specs.Values.{Members}
 use Rattle.event_tree.specs.Ordered.{ordered}
-use Rattle.event_tree.specs.Paths.{place, step, step_in, at, take, cut_in, through_in}
+use Rattle.event_tree.specs.Paths.{list_place, step, step_in, at, take, cut_in, through_in}
 use Rattle.event_tree.specs.declared.value.Value.{Value, out-Value, roll-Value, out-roll-Value}
 use Rattle.event_tree.specs.declared.value.Value.TheOpen.{Value-F}
 use Rattle.event_tree.specs.declared.value.Value.TheVariants as v
@@ -35,7 +35,7 @@ cut_first p (Value-F.Bool b) = refl
 cut_first p (Value-F.Num n) = refl
 cut_first p (Value-F.Text s) = refl
 cut_first p (Value-F.Time t) = refl
-cut_first p (Value-F.List vs) = at_place (place p (length vs))
+cut_first p (Value-F.List vs) = at_place (list_place p (length vs))
   where
     at_place : (o : Option ℕ) → first (option_and_then {U = Value × Value} (λ i. option_map {U = Value × Value} (λ e. (e, v.List (remove vs i))) (slice_get vs i)) o) ≡ option_and_then (at []) (option_and_then (λ i. slice_get vs i) o)
     at_place None = refl
@@ -49,7 +49,7 @@ module _ (p : List ℕ) (cut : Value → Option (Value × Value)) (look : Value 
   through_first (Value-F.Num n) = refl
   through_first (Value-F.Text s) = refl
   through_first (Value-F.Time t) = refl
-  through_first (Value-F.List vs) = at_place (place p (length vs))
+  through_first (Value-F.List vs) = at_place (list_place p (length vs))
     where
       at_item : (i : ℕ) (o : Option Value) → first (option_and_then {U = Value × Value} (λ e. option_map {U = Value × Value} (λ r. (r.0, v.List (slice_set vs i r.1))) (cut e)) o) ≡ option_and_then look o
       at_item i None = refl
@@ -126,7 +126,7 @@ step_ordered p d e o h = by_shape (shape_of d)
     by_shape (is_number n is) = scalar (Value-F.Num n) (is ∙ sym (v.rolls-Num n)) refl
     by_shape (is_text s is) = scalar (Value-F.Text s) (is ∙ sym (v.rolls-Text s)) refl
     by_shape (is_time t is) = scalar (Value-F.Time t) (is ∙ sym (v.rolls-Time t)) refl
-    by_shape (is_list vs is) = at_place vs (place p (length vs)) (ap ordered (sym is) ∙ o) (sym (step-List p vs) ∙ ap (step p) (sym is) ∙ h)
+    by_shape (is_list vs is) = at_place vs (list_place p (length vs)) (ap ordered (sym is) ∙ o) (sym (step-List p vs) ∙ ap (step p) (sym is) ∙ h)
     by_shape (is_object ms is) = ordered-get_member p ms e (ap ordered (sym is) ∙ o) (sym (step-Object p ms) ∙ ap (step p) (sym is) ∙ h)
 
 object_is : (ms ns : Members) → v.Object ms ≡ v.Object ns → ms ≡ ns

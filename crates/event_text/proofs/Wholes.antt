@@ -8,30 +8,30 @@ use Rattle.event_tree.specs.Paths.{over}
 use Rattle.event_tree.proofs.Orders.{first, second}
 use Rattle.event_text.specs.PathReading.{way_in}
 use Rattle.event_text.specs.DateFormats.{format_of}
-use Rattle.event_text.specs.Template.{before_close, placed, date_piece, field_piece, piece_of, placeholder, with_plain, pieces_behind, pieces_of, as_written, written, IsRead, AreRead}
-use Rattle.event_text.specs.declared.template.Piece.{Piece}
-use Rattle.event_text.specs.declared.template.Piece.TheVariants as p
+use Rattle.event_text.specs.Template.{before_close, placed, date_part_of, field_part_of, template_part_of, placeholder, with_plain, template_parts_behind, template_parts, as_written, written, IsRead, AreRead}
+use Rattle.event_text.specs.declared.template.TemplatePart.{TemplatePart}
+use Rattle.event_text.specs.declared.template.TemplatePart.TheVariants as p
 use Rattle.event_text.specs.declared.date_format.DatePart.{DatePart}
 
 -- what stands between `%{` and `}` is read, and written again
-abbrev Says : List ℕ → Piece → Type 0
+abbrev Says : List ℕ → TemplatePart → Type 0
 Says inner piece = (written piece ≡ as_written inner) × IsRead piece
 
-abbrev MaySay : List ℕ → Option Piece → Type 0
+abbrev MaySay : List ℕ → Option TemplatePart → Type 0
 MaySay inner None = Unit {0}
 MaySay inner (Some piece) = Says inner piece
 
-either : (inner : List ℕ) (a b : Option Piece) → MaySay inner a → MaySay inner b → MaySay inner (option_or a b)
+either : (inner : List ℕ) (a b : Option TemplatePart) → MaySay inner a → MaySay inner b → MaySay inner (option_or a b)
 either inner None b h k = k
 either inner (Some x) b h k = h
 
-field_says : (inner : List ℕ) → MaySay inner (field_piece inner)
+field_says : (inner : List ℕ) → MaySay inner (field_part_of inner)
 field_says inner = by (way_in inner) refl where
   by : (o : Option Way) → way_in inner ≡ o → MaySay inner (option_map (λ way. p.Field way inner) o)
   by None e = tt
   by (Some way) e = (refl, e)
 
-date_says : (inner : List ℕ) → MaySay inner (date_piece inner)
+date_says : (inner : List ℕ) → MaySay inner (date_part_of inner)
 date_says [] = tt
 date_says (b ∷ bs) = by_plus (b == 43) refl where
   by_format : b ≡ 43 → (o : Option (List DatePart)) → format_of bs ≡ o → MaySay (b ∷ bs) (option_map (λ parts. p.Date parts (b ∷ bs)) o)
@@ -42,8 +42,8 @@ date_says (b ∷ bs) = by_plus (b == 43) refl where
   by_plus true e = let plus : b ≡ 43 = grind (arith, nat_tests) in by_format plus (format_of bs) refl
   by_plus false e = tt
 
-piece_says : (inner : List ℕ) → MaySay inner (piece_of inner)
-piece_says inner = either inner (date_piece inner) (field_piece inner) (date_says inner) (field_says inner)
+piece_says : (inner : List ℕ) → MaySay inner (template_part_of inner)
+piece_says inner = either inner (date_part_of inner) (field_part_of inner) (date_says inner) (field_says inner)
 
 -- what stands before the first `}`, and that `}`
 abbrev Closes : List ℕ → List ℕ → Type 0
@@ -66,7 +66,7 @@ closes [] = tt
 closes (b ∷ bs) = close_first b bs (closes bs) (b == 125) refl
 
 -- what is found at the front is written there
-abbrev Stands : List ℕ → Option (Piece × ℕ) → Type 0
+abbrev Stands : List ℕ → Option (TemplatePart × ℕ) → Type 0
 Stands text None = Unit {0}
 Stands text (Some f) = (0 < f.1) × IsRead f.0 × (written f.0 ++ drop f.1 text ≡ text)
 
@@ -74,7 +74,7 @@ drop_whole : (inner more : List ℕ) → drop (length inner + 1) (inner ++ 125 �
 drop_whole [] more = refl
 drop_whole (b ∷ inner) more = let e : length (b ∷ inner) + 1 ≡ suc (length inner + 1) = omega arith in ap (λ n. drop n (b ∷ (inner ++ 125 ∷ more))) e ∙ drop_whole inner more
 
-stands_with : (text rest inner : List ℕ) (o : Option Piece) → text ≡ 37 ∷ 123 ∷ rest → Closes rest inner → MaySay inner o → Stands text (option_map (λ piece. (piece, length inner + 3)) o)
+stands_with : (text rest inner : List ℕ) (o : Option TemplatePart) → text ≡ 37 ∷ 123 ∷ rest → Closes rest inner → MaySay inner o → Stands text (option_map (λ piece. (piece, length inner + 3)) o)
 stands_with text rest inner None e c h = tt
 stands_with text rest inner (Some piece) e c h =
     let n : length inner + 3 ≡ suc (suc (length inner + 1)) = omega arith in
@@ -84,7 +84,7 @@ stands_with text rest inner (Some piece) e c h =
 
 stands_closed : (text rest : List ℕ) (o : Option (List ℕ)) → text ≡ 37 ∷ 123 ∷ rest → MayClose rest o → Stands text (option_and_then placed o)
 stands_closed text rest None e c = tt
-stands_closed text rest (Some inner) e c = stands_with text rest inner (piece_of inner) e c (piece_says inner)
+stands_closed text rest (Some inner) e c = stands_with text rest inner (template_part_of inner) e c (piece_says inner)
 
 found_stands : (text : List ℕ) → Stands text (placeholder text)
 found_stands [] = tt
@@ -97,35 +97,35 @@ found_stands (a ∷ b ∷ bs) = by (a == 37 && b == 123) refl where
       stands_closed (a ∷ b ∷ bs) bs (before_close bs) (ap (λ x. x ∷ b ∷ bs) first ∙ ap (λ x. 37 ∷ x ∷ bs) second) (closes bs)
   by false e = tt
 
-plain_written : (b : ℕ) (ps : List Piece) → flat_map written (with_plain b ps) ≡ b ∷ flat_map written ps
+plain_written : (b : ℕ) (ps : List TemplatePart) → flat_map written (with_plain b ps) ≡ b ∷ flat_map written ps
 plain_written b [] = refl
 plain_written b (p.Plain run ∷ ps) = refl
 plain_written b (p.Field way inner ∷ ps) = refl
 plain_written b (p.Date parts inner ∷ ps) = refl
 
-plain_read : (b : ℕ) (ps : List Piece) → AreRead ps → AreRead (with_plain b ps)
+plain_read : (b : ℕ) (ps : List TemplatePart) → AreRead ps → AreRead (with_plain b ps)
 plain_read b [] h = (omega arith, tt)
 plain_read b (p.Plain run ∷ ps) h = (omega arith, h.1)
 plain_read b (p.Field way inner ∷ ps) h = (omega arith, h)
 plain_read b (p.Date parts inner ∷ ps) h = (omega arith, h)
 
-abbrev Whole : List Piece → List ℕ → Type 0
+abbrev Whole : List TemplatePart → List ℕ → Type 0
 Whole ps text = (flat_map written ps ≡ text) × AreRead ps
 
-whole_step : (b : ℕ) (bs : List ℕ) (o : Option (Piece × ℕ)) → Stands (b ∷ bs) o → ((k : ℕ) → Whole (pieces_behind k bs) (drop k bs)) → Whole (over (λ found. found.0 ∷ pieces_behind (found.1 - 1) bs) (with_plain b (pieces_behind zero bs)) o) (b ∷ bs)
-whole_step b bs None h rest = (plain_written b (pieces_behind zero bs) ∙ ap (λ l. b ∷ l) (rest zero).0, plain_read b (pieces_behind zero bs) (rest zero).1)
+whole_step : (b : ℕ) (bs : List ℕ) (o : Option (TemplatePart × ℕ)) → Stands (b ∷ bs) o → ((k : ℕ) → Whole (template_parts_behind k bs) (drop k bs)) → Whole (over (λ found. found.0 ∷ template_parts_behind (found.1 - 1) bs) (with_plain b (template_parts_behind zero bs)) o) (b ∷ bs)
+whole_step b bs None h rest = (plain_written b (template_parts_behind zero bs) ∙ ap (λ l. b ∷ l) (rest zero).0, plain_read b (template_parts_behind zero bs) (rest zero).1)
 whole_step b bs (Some f) h rest =
     let n : suc (f.1 - 1) ≡ f.1 = let some = h.0 in omega arith in
     (ap (λ l. written f.0 ++ l) (rest (f.1 - 1)).0 ∙ ap (λ k. written f.0 ++ drop k (b ∷ bs)) n ∙ h.2, (h.1, (rest (f.1 - 1)).1))
 
-whole_behind : (k : ℕ) (text : List ℕ) → Whole (pieces_behind k text) (drop k text)
+whole_behind : (k : ℕ) (text : List ℕ) → Whole (template_parts_behind k text) (drop k text)
 whole_behind zero [] = (refl, tt)
 whole_behind (suc k) [] = (refl, tt)
 whole_behind (suc k) (b ∷ bs) = whole_behind k bs
 whole_behind zero (b ∷ bs) = whole_step b bs (placeholder (b ∷ bs)) (found_stands (b ∷ bs)) (λ k. whole_behind k bs)
 
-pub pieces_whole : (text : List ℕ) → flat_map written (pieces_of text) ≡ text
+pub pieces_whole : (text : List ℕ) → flat_map written (template_parts text) ≡ text
 pieces_whole text = (whole_behind 0 text).0
 
-pub pieces_read : (text : List ℕ) → AreRead (pieces_of text)
+pub pieces_read : (text : List ℕ) → AreRead (template_parts text)
 pieces_read text = (whole_behind 0 text).1

@@ -1,5 +1,5 @@
 -- The formats of `%{+..}`, and the text of a moment in one: the pattern letters of Java's DateTimeFormatter that this product has, in UTC.
-use Rattle.std.specs.Prelude.{ℕ, ◌-◌, ◌<◌, ◌⊎◌, length, slice_index, ◌/◌, ◌%◌, ◌==◌, ◌&&◌, ◌||◌, nat_le, ℤ, List, [], ◌∷◌, flat_map, Bool, true, if◌then◌else◌, codes, bytes_eq, take, drop, Option, Some, None, option_map, option_and_then}
+use Rattle.std.specs.Prelude.{◌≡◌, ℕ, ◌-◌, ◌<◌, ◌⊎◌, length, slice_index, ◌/◌, ◌%◌, ◌==◌, ◌&&◌, ◌||◌, nat_le, ℤ, List, [], ◌∷◌, flat_map, Bool, true, if◌then◌else◌, codes, bytes_eq, take, drop, Option, Some, None, option_map, option_and_then}
 use Rattle.std.specs.Option.{option_or}
 use Rattle.event_json.specs.TimeText.{two_digits, four_digits, nine_digits, year_of, month_of, day_in_month, nanos_in_day}
 use Rattle.event_text.specs.declared.date_format.DatePart.{DatePart}
@@ -23,6 +23,10 @@ joins b ((c ∷ r) ∷ rs) = if kind b == kind c then (b ∷ c ∷ r) ∷ rs els
 abbrev pub runs : List ℕ → List (List ℕ)
 runs [] = []
 runs (b ∷ bs) = joins b (runs bs)
+
+-- the first of the runs from one place on ends at the other
+abbrev pub IsRun : List ℕ → ℕ → ℕ → Type 0
+IsRun bytes from end = runs (drop from bytes) ≡ take (end - from) (drop from bytes) ∷ runs (drop end bytes)
 
 abbrev pub begins_with_letter : List ℕ → Bool
 begins_with_letter [] = true

@@ -3,3 +3,5 @@ pub mod DateFormats
 pub mod Shown
 pub mod Template
 pub mod PathLaws
+pub mod TextLaws
+pub mod Adds

@@ -45,3 +45,6 @@ texts = fold-Value Texts texts_step
 
 unfoldable pub shown : Value → List ℕ
 shown d = (texts d).shown
+
+abbrev pub items_shown : List Value → List ℕ
+items_shown vs = joined false (map shown vs)

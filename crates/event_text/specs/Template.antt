@@ -1,7 +1,8 @@
--- What a template's text says, piece by piece, and the text that an event fills it to.
+-- What a template's text says, part by part, and the text that an event fills it to.
 use Rattle.std.specs.Str.{IsCharBoundary}
-use Rattle.std.specs.Prelude.{◌≡◌, ◌<◌, ◌≤◌, ℕ, zero, suc, ◌+◌, ◌-◌, ◌==◌, ◌&&◌, ℤ, List, [], ◌∷◌, ◌++◌, length, drop, flat_map, Bool, false, if◌then◌else◌, codes, Option, Some, None, option_map, option_and_then}
+use Rattle.std.specs.Prelude.{◌≡◌, ◌<◌, ◌≤◌, ℕ, zero, suc, ◌+◌, ◌-◌, ◌==◌, ◌&&◌, slice_index, true, ℤ, List, [], ◌∷◌, ◌++◌, length, take, drop, flat_map, Bool, false, if◌then◌else◌, codes, Option, Some, None, option_map, option_and_then}
 use Rattle.std.specs.Option.{option_or}
+use Rattle.event_tree.specs.Characters.{plus, percent, opening_brace, closing_brace}
 use Rattle.event_tree.specs.Events.{Ev, event_at}
 use Rattle.event_tree.specs.Paths.{over}
 use Rattle.event_tree.specs.declared.value.Value.{Value, out-Value}
@@ -9,60 +10,72 @@ use Rattle.event_tree.specs.declared.value.Value.TheOpen.{Value-F}
 use Rattle.event_text.specs.PathReading.{way_in}
 use Rattle.event_text.specs.DateFormats.{format_of, date_text_of}
 use Rattle.event_text.specs.Shown.{shown}
-use Rattle.event_text.specs.declared.template.Piece.{Piece}
-use Rattle.event_text.specs.declared.template.Piece.TheVariants as p
+use Rattle.event_text.specs.declared.template.TemplatePart.{TemplatePart}
+use Rattle.event_text.specs.declared.template.TemplatePart.TheVariants as p
 
--- `+` (43) and a format
-abbrev pub date_piece : List ℕ → Option Piece
-date_piece [] = None
-date_piece (b ∷ bs) = if b == 43 then option_map (λ parts. p.Date parts (b ∷ bs)) (format_of bs) else None
+-- `+` and a format
+abbrev pub date_part_of : List ℕ → Option TemplatePart
+date_part_of [] = None
+date_part_of (b ∷ bs) = if b == plus then option_map (λ parts. p.Date parts (b ∷ bs)) (format_of bs) else None
 
-abbrev pub field_piece : List ℕ → Option Piece
-field_piece inner = option_map (λ way. p.Field way inner) (way_in inner)
+abbrev pub field_part_of : List ℕ → Option TemplatePart
+field_part_of inner = option_map (λ way. p.Field way inner) (way_in inner)
 
 -- what `%{`, these bytes and `}` stand for: a date, or else a field; nothing where they read as neither
-abbrev pub piece_of : List ℕ → Option Piece
-piece_of inner = option_or (date_piece inner) (field_piece inner)
+abbrev pub template_part_of : List ℕ → Option TemplatePart
+template_part_of inner = option_or (date_part_of inner) (field_part_of inner)
 
--- `%` is 37 and `{` is 123
+-- `%{` stands in front
 abbrev pub opens : List ℕ → Bool
 opens [] = false
 opens (a ∷ []) = false
-opens (a ∷ b ∷ bs) = a == 37 && b == 123
+opens (a ∷ b ∷ bs) = a == percent && b == opening_brace
 
--- what stands before the first `}` (125)
+-- what stands before the first `}`
 abbrev pub before_close : List ℕ → Option (List ℕ)
 before_close [] = None
-before_close (b ∷ bs) = if b == 125 then Some [] else option_map (λ inner. b ∷ inner) (before_close bs)
+before_close (b ∷ bs) = if b == closing_brace then Some [] else option_map (λ inner. b ∷ inner) (before_close bs)
 
--- a piece with its length
-abbrev pub placed : List ℕ → Option (Piece × ℕ)
-placed inner = option_map (λ piece. (piece, length inner + 3)) (piece_of inner)
+-- the first `}` from one place on stands at the other
+abbrev pub ClosesAt : List ℕ → ℕ → ℕ → Type 0
+ClosesAt bytes from close = before_close (drop from bytes) ≡ Some (take (close - from) (drop from bytes))
 
--- the piece that the bytes begin with, if they begin with one that is no plain text, and how many bytes it has
-abbrev pub placeholder : List ℕ → Option (Piece × ℕ)
+-- `%{` stands at one place, and the first `}` behind it at the other
+pub record Encloses (text : List ℕ) (at close : ℕ) : Type 0 where
+  pub opened : opens (drop at text) ≡ true
+  pub after : at + 2 ≤ close
+  pub within : close < length text
+  pub first : ClosesAt text (at + 2) close
+  pub closed : slice_index text close ≡ closing_brace
+
+-- a part with its length
+abbrev pub placed : List ℕ → Option (TemplatePart × ℕ)
+placed inner = option_map (λ piece. (piece, length inner + 3)) (template_part_of inner)
+
+-- the part that the bytes begin with, if they begin with one that is no plain text, and how many bytes it has
+abbrev pub placeholder : List ℕ → Option (TemplatePart × ℕ)
 placeholder text = if opens text then option_and_then placed (before_close (drop 2 text)) else None
 
--- a byte of plain text before pieces
-abbrev pub with_plain : ℕ → List Piece → List Piece
+-- a byte of plain text before parts
+abbrev pub with_plain : ℕ → List TemplatePart → List TemplatePart
 with_plain b [] = p.Plain (b ∷ []) ∷ []
 with_plain b (p.Plain run ∷ ps) = p.Plain (b ∷ run) ∷ ps
 with_plain b (p.Field way inner ∷ ps) = p.Plain (b ∷ []) ∷ p.Field way inner ∷ ps
 with_plain b (p.Date parts inner ∷ ps) = p.Plain (b ∷ []) ∷ p.Date parts inner ∷ ps
 
--- the pieces behind the first bytes, so many as the number says
-abbrev pub pieces_behind : ℕ → List ℕ → List Piece
-pieces_behind skip [] = []
-pieces_behind (suc skip) (b ∷ bs) = pieces_behind skip bs
-pieces_behind zero (b ∷ bs) = over (λ found. found.0 ∷ pieces_behind (found.1 - 1) bs) (with_plain b (pieces_behind zero bs)) (placeholder (b ∷ bs))
+-- the parts behind the first bytes, so many as the number says
+abbrev pub template_parts_behind : ℕ → List ℕ → List TemplatePart
+template_parts_behind skip [] = []
+template_parts_behind (suc skip) (b ∷ bs) = template_parts_behind skip bs
+template_parts_behind zero (b ∷ bs) = over (λ found. found.0 ∷ template_parts_behind (found.1 - 1) bs) (with_plain b (template_parts_behind zero bs)) (placeholder (b ∷ bs))
 
--- the pieces of a template's text
-abbrev pub pieces_of : List ℕ → List Piece
-pieces_of text = pieces_behind 0 text
+-- the parts of a template's text
+abbrev pub template_parts : List ℕ → List TemplatePart
+template_parts text = template_parts_behind 0 text
 
 -- `%{`, what stands between, and `}`
 abbrev pub as_written : List ℕ → List ℕ
-as_written inner = 37 ∷ 123 ∷ (inner ++ 125 ∷ [])
+as_written inner = percent ∷ opening_brace ∷ (inner ++ closing_brace ∷ [])
 
 abbrev pub time_in : Value-F Value → Option ℤ
 time_in Value-F.Null = None
@@ -82,42 +95,42 @@ abbrev pub or_written : List ℕ → Option (List ℕ) → List ℕ
 or_written inner None = as_written inner
 or_written inner (Some text) = text
 
--- the text of one piece: a field's value, and a date of the event's moment; as it was written where the event has no such field, or no moment
-abbrev pub piece_text : Ev → Piece → List ℕ
-piece_text e (p.Plain run) = run
-piece_text e (p.Field way inner) = or_written inner (option_map shown (event_at way e))
-piece_text e (p.Date parts inner) = or_written inner (option_map (date_text_of parts) (moment_of e))
+-- the text of one part: a field's value, and a date of the event's moment; as it was written where the event has no such field, or no moment
+abbrev pub template_part_text : Ev → TemplatePart → List ℕ
+template_part_text e (p.Plain run) = run
+template_part_text e (p.Field way inner) = or_written inner (option_map shown (event_at way e))
+template_part_text e (p.Date parts inner) = or_written inner (option_map (date_text_of parts) (moment_of e))
 
--- the text that an event fills the pieces of a template to
-abbrev pub text : List Piece → Ev → List ℕ
-text pieces e = flat_map (piece_text e) pieces
+-- the text that an event fills the parts of a template to
+abbrev pub text : List TemplatePart → Ev → List ℕ
+text pieces e = flat_map (template_part_text e) pieces
 
--- a run of plain text as pieces: none where it is empty
-abbrev pub plain_piece : List ℕ → List Piece
-plain_piece [] = []
-plain_piece (b ∷ bs) = p.Plain (b ∷ bs) ∷ []
+-- a run of plain text as parts: none where it is empty
+abbrev pub plain_parts : List ℕ → List TemplatePart
+plain_parts [] = []
+plain_parts (b ∷ bs) = p.Plain (b ∷ bs) ∷ []
 
 -- so many bytes of a text, from a place on, may be cut out of it
 abbrev pub IsPlaced : ℕ → List ℕ → ℕ → Type 0
 IsPlaced count text at = (0 < count) × (at + count ≤ length text) × IsCharBoundary text at × IsCharBoundary text (at + count)
 
--- a run of plain text before pieces
-abbrev pub with_run : List ℕ → List Piece → List Piece
+-- a run of plain text before parts
+abbrev pub with_run : List ℕ → List TemplatePart → List TemplatePart
 with_run [] ps = ps
 with_run (b ∷ bs) ps = with_plain b (with_run bs ps)
 
--- what was written of a piece
-abbrev pub written : Piece → List ℕ
+-- what was written of a part
+abbrev pub written : TemplatePart → List ℕ
 written (p.Plain run) = run
 written (p.Field way inner) = as_written inner
 written (p.Date parts inner) = as_written inner
 
--- a piece says what is written of it: plain text is not empty, a field's text is a path that leads there, and a date's is a `+` and a format of those parts
-abbrev pub IsRead : Piece → Type 0
+-- a part says what is written of it: plain text is not empty, a field's text is a path that leads there, and a date's is a `+` and a format of those parts
+abbrev pub IsRead : TemplatePart → Type 0
 IsRead (p.Plain run) = 0 < length run
 IsRead (p.Field way inner) = way_in inner ≡ Some way
-IsRead (p.Date parts inner) = (format : List ℕ) × (inner ≡ 43 ∷ format) × (format_of format ≡ Some parts)
+IsRead (p.Date parts inner) = (format : List ℕ) × (inner ≡ plus ∷ format) × (format_of format ≡ Some parts)
 
-abbrev pub AreRead : List Piece → Type 0
+abbrev pub AreRead : List TemplatePart → Type 0
 AreRead [] = Unit {0}
 AreRead (piece ∷ ps) = IsRead piece × AreRead ps

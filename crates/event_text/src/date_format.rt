@@ -1,8 +1,9 @@
-ghost use Rattle.std.specs.Prelude.{◌≡◌, ◌<◌, ◌≤◌, ◌-◌, ◌++◌, ◌∷◌, length, take, drop, string_bytes, IfOk, OnOk, IsAscii};
-ghost use Rattle.event_text.specs.DateFormats.{kind, runs, IsCut, part_of, letters_part, format_of, part_in, date_text_of};
+ghost use Rattle.std.specs.Prelude.{◌≡◌, ◌<◌, ◌≤◌, length, IfOk, IsAscii};
+ghost use Rattle.event_text.specs.Adds.{AddsText};
+ghost use Rattle.event_text.specs.DateFormats.{kind, IsRun, IsCut, part_of, letters_part, format_of, part_in, date_text_of};
 
 use event_json::time_text;
-use plain_lists::{Items, Text};
+use plain_data::{Items, Text};
 use std::alloc::{AllocError, Global};
 use time_instant::Instant;
 
@@ -55,7 +56,7 @@ fn run_end(bytes: &[u8], from: usize) -> usize
     requires { from < length bytes.now }
     ensures after { from < result }
     ensures within { result ≤ length bytes.now }
-    ensures run { runs (drop from bytes.now) ≡ take (result - from) (drop from bytes.now) ∷ runs (drop result bytes.now) }
+    ensures run { IsRun bytes.now from result }
     ensures cut { IsCut bytes.now result }
 {
     let first = kind(bytes[from]);
@@ -116,7 +117,7 @@ pub(crate) fn add_date(
     parts: &[DatePart],
     moment: Instant,
 ) -> Result<(), AllocError>
-    ensures { OnOk result (string_bytes to.new ≡ string_bytes to.old ++ date_text_of parts.now moment) }
+    ensures { AddsText result (date_text_of parts.now moment) to.old to.new }
 {
     let (bytes, length) = time_text(moment);
     // SAFETY: proved; the text of an instant is ASCII.

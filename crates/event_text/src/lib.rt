@@ -11,4 +11,4 @@ mod template;
 pub use date_format::DatePart;
 pub use event_json::{JsonFault, read_json, time_text, write_json};
 pub use shown::value_text;
-pub use template::{Piece, Template};
+pub use template::{Template, TemplatePart};

@@ -1,11 +1,12 @@
-ghost use Rattle.std.specs.Prelude.{◌≡◌, ◌++◌, map, false, string_bytes, IfOk, OnOk};
+ghost use Rattle.std.specs.Prelude.{◌≡◌, IfOk};
 ghost use Rattle.event_json.specs.Json.{json, comma_if};
 ghost use Rattle.event_json.specs.TimeText.{time_text_of};
-ghost use Rattle.event_text.specs.Shown.{shown, joined};
+ghost use Rattle.event_text.specs.Adds.{AddsText};
+ghost use Rattle.event_text.specs.Shown.{shown, items_shown};
 
 use event_json::{time_text, write_json};
 use event_tree::Value;
-use plain_lists::Text;
+use plain_data::Text;
 use std::alloc::{AllocError, Global};
 use std::mem;
 use time_instant::Instant;
@@ -25,7 +26,7 @@ pub fn value_text(alloc: Global, value: &Value) -> Result<Text, AllocError>
 #[tactic(auto, using(event_tree::proofs::Depths::falls, crate::proofs::Shows::shows))]
 #[cycle(show)]
 pub(crate) fn add_shown(to: &mut String, value: &Value) -> Result<(), AllocError>
-    ensures { OnOk result (string_bytes to.new ≡ string_bytes to.old ++ shown value.now) }
+    ensures { AddsText result (shown value.now) to.old to.new }
 {
     match value {
         Value::Null => Ok(()),
@@ -41,7 +42,7 @@ pub(crate) fn add_shown(to: &mut String, value: &Value) -> Result<(), AllocError
 #[tactic(auto, using(event_tree::proofs::Depths::falls, crate::proofs::Shows::shows))]
 #[cycle(show)]
 fn add_items(to: &mut String, items: &[Value]) -> Result<(), AllocError>
-    ensures { OnOk result (string_bytes to.new ≡ string_bytes to.old ++ joined false (map shown items.now)) }
+    ensures { AddsText result (items_shown items.now) to.old to.new }
 {
     let mut later = false;
     for item in items {
@@ -53,13 +54,13 @@ fn add_items(to: &mut String, items: &[Value]) -> Result<(), AllocError>
 }
 
 fn add_comma(to: &mut String, later: bool) -> Result<(), AllocError>
-    ensures { OnOk result (string_bytes to.new ≡ string_bytes to.old ++ comma_if later) }
+    ensures { AddsText result (comma_if later) to.old to.new }
 {
     if later { to.push_str(",") } else { Ok(()) }
 }
 
 fn add_time(to: &mut String, moment: Instant) -> Result<(), AllocError>
-    ensures { OnOk result (string_bytes to.new ≡ string_bytes to.old ++ time_text_of moment) }
+    ensures { AddsText result (time_text_of moment) to.old to.new }
 {
     let (text, length) = time_text(moment);
     // SAFETY: proved; the text of an instant is ASCII.
@@ -67,7 +68,7 @@ fn add_time(to: &mut String, moment: Instant) -> Result<(), AllocError>
 }
 
 fn add_json(to: &mut String, value: &Value) -> Result<(), AllocError>
-    ensures { OnOk result (string_bytes to.new ≡ string_bytes to.old ++ json value.now) }
+    ensures { AddsText result (json value.now) to.old to.new }
 {
     let empty = String::new(*to.allocator());
     let mut bytes = mem::replace(to, empty).into_bytes();

@@ -1,18 +1,20 @@
-ghost use Rattle.std.specs.Prelude.{◌≡◌, ◌<◌, ◌≤◌, ◌-◌, ◌+◌, ◌++◌, length, take, drop, slice_index, string_bytes, IfOk, IfSome, IsTrue, OnOk, Some, None};
+ghost use Rattle.std.specs.Prelude.{◌≡◌, ◌<◌, ◌≤◌, ◌+◌, ◌++◌, length, drop, slice_index, MatchOption, IfOk, IfSome, IsTrue, OnOk, None};
+ghost use Rattle.event_tree.specs.Characters.{closing_brace};
 ghost use Rattle.event_tree.specs.declared.value.Value.{out-Value};
-ghost use Rattle.event_text.specs.Template.{text, pieces_of, piece_of, date_piece, field_piece, before_close, opens, placeholder, plain_piece, IsPlaced, piece_text, as_written, moment_of, time_in};
+ghost use Rattle.event_text.specs.Adds.{AddsText};
+ghost use Rattle.event_text.specs.Template.{text, template_parts, template_part_of, date_part_of, field_part_of, before_close, ClosesAt, Encloses, opens, placeholder, plain_parts, IsPlaced, template_part_text, as_written, moment_of, time_in};
 
 use crate::date_format::{DatePart, add_date, read_format};
 use crate::shown::add_shown;
 use event_tree::{Event, Path, PathFault, Value};
-use plain_lists::{Items, Text};
+use plain_data::{Items, Text};
 use std::alloc::{AllocError, Global};
 use std::marker::Model;
 use time_instant::Instant;
 
-/// A piece of a template.
+/// A part of a template.
 #[derive(Drop)]
-pub enum Piece {
+pub enum TemplatePart {
     /// Text that stands for itself.
     Plain(Text),
     /// The field at a path, with what was written between `%{` and `}`.
@@ -25,16 +27,16 @@ pub enum Piece {
 /// list of its pieces.
 #[derive(Drop)]
 pub struct Template {
-    pieces: Items<Piece>,
+    pieces: Items<TemplatePart>,
 }
 
 impl Model for Template {
     ghost use Rattle.std.specs.Prelude.{List};
     ghost use Rattle.std.specs.Coded.{coded_list, codes};
-    ghost use Rattle.event_text.specs.declared.template.Piece.{Piece};
-    ghost use Rattle.event_text.specs.contracts.template.Piece as piece;
+    ghost use Rattle.event_text.specs.declared.template.TemplatePart.{TemplatePart};
+    ghost use Rattle.event_text.specs.contracts.template.TemplatePart as piece;
 
-    ghost Value = { List Piece };
+    ghost Value = { List TemplatePart };
 
     ghost coded = { coded_list (Prim.hlevel (codes, piece.the_row.coded)) };
 
@@ -50,7 +52,7 @@ impl Template {
     /// It takes time in proportion to the text, and for each `%{` that opens nothing time up to the
     /// next `}` once more.
     pub fn read(alloc: Global, text: &str) -> Result<Template, AllocError>
-        ensures { IfOk result (λ template. template ≡ pieces_of text.now) }
+        ensures { IfOk result (λ template. template ≡ template_parts text.now) }
     {
         Ok(Template {
             pieces: read_pieces(alloc, text)?,
@@ -75,16 +77,16 @@ impl Template {
 }
 
 // Adds the text of a piece. Where memory ran out, what is left of `to` is of no use.
-fn add_piece(to: &mut String, piece: &Piece, event: &Event) -> Result<(), AllocError>
-    ensures { OnOk result (string_bytes to.new ≡ string_bytes to.old ++ piece_text event.now piece.now) }
+fn add_piece(to: &mut String, piece: &TemplatePart, event: &Event) -> Result<(), AllocError>
+    ensures { AddsText result (template_part_text event.now piece.now) to.old to.new }
 {
     match piece {
-        Piece::Plain(run) => to.push_str(run.as_str()),
-        Piece::Field(path, name) => match event.get(path) {
+        TemplatePart::Plain(run) => to.push_str(run.as_str()),
+        TemplatePart::Field(path, name) => match event.get(path) {
             Some(value) => add_shown(to, value),
             None => add_as_written(to, name.as_str()),
         },
-        Piece::Date(parts, inner) => match moment_of(event) {
+        TemplatePart::Date(parts, inner) => match moment_of(event) {
             Some(moment) => add_date(to, parts.as_slice(), moment),
             None => add_as_written(to, inner.as_str()),
         },
@@ -92,7 +94,7 @@ fn add_piece(to: &mut String, piece: &Piece, event: &Event) -> Result<(), AllocE
 }
 
 fn add_as_written(to: &mut String, inner: &str) -> Result<(), AllocError>
-    ensures { OnOk result (string_bytes to.new ≡ string_bytes to.old ++ as_written inner.now) }
+    ensures { AddsText result (as_written inner.now) to.old to.new }
 {
     to.push_str("%{")?;
     to.push_str(inner)?;
@@ -126,8 +128,8 @@ fn time_in(value: &Value) -> Option<Instant>
     }
 }
 
-fn read_pieces(alloc: Global, text: &str) -> Result<Items<Piece>, AllocError>
-    ensures { IfOk result (λ pieces. pieces ≡ pieces_of text.now) }
+fn read_pieces(alloc: Global, text: &str) -> Result<Items<TemplatePart>, AllocError>
+    ensures { IfOk result (λ pieces. pieces ≡ template_parts text.now) }
 {
     let mut pieces = Items::new(alloc);
     let mut plain = 0;
@@ -148,35 +150,48 @@ fn read_pieces(alloc: Global, text: &str) -> Result<Items<Piece>, AllocError>
 }
 
 // Adds text that stands for itself, if there is any.
-fn add_plain(pieces: &mut Items<Piece>, run: &str) -> Result<(), AllocError>
-    ensures { OnOk result (pieces.new ≡ pieces.old ++ plain_piece run.now) }
+fn add_plain(pieces: &mut Items<TemplatePart>, run: &str) -> Result<(), AllocError>
+    ensures { OnOk result (pieces.new ≡ pieces.old ++ plain_parts run.now) }
 {
     if run.is_empty() {
         return Ok(());
     }
     let alloc = pieces.allocator();
-    pieces.push(Piece::Plain(Text::of(alloc, run)?))
+    pieces.push(TemplatePart::Plain(Text::of(alloc, run)?))
 }
 
 // The field or date that stands at a place, and how many bytes it has.
-fn placeholder(alloc: Global, text: &str, at: usize) -> Result<Option<(Piece, usize)>, AllocError>
+fn placeholder(
+    alloc: Global,
+    text: &str,
+    at: usize,
+) -> Result<Option<(TemplatePart, usize)>, AllocError>
     requires { at < length text.now }
     ensures found { IfOk result (λ found. found ≡ placeholder (drop at text.now)) }
     ensures placed { IfOk result (λ found. IfSome found (λ f. IsPlaced f.1 text.now at)) }
 {
-    let bytes = text.as_bytes();
-    if !opens_at(bytes, at) {
+    let Some(close) = close_of(text.as_bytes(), at) else {
         return Ok(None);
-    }
-    let from = at + 2;
-    let close = close_at(bytes, from);
-    if close == bytes.len() {
-        return Ok(None);
-    }
-    match read_piece(alloc, &text[from..close])? {
+    };
+    match read_piece(alloc, &text[at + 2..close])? {
         Some(piece) => Ok(Some((piece, close + 1 - at))),
         None => Ok(None),
     }
+}
+
+// The place of the `}` behind the `%{` at a place, where both stand.
+fn close_of(bytes: &[u8], at: usize) -> Option<usize>
+    requires { at < length bytes.now }
+    ensures { MatchOption result (placeholder (drop at bytes.now) ≡ None) (Encloses bytes.now at) }
+{
+    if !opens_at(bytes, at) {
+        return None;
+    }
+    let close = close_at(bytes, at + 2);
+    if close == bytes.len() {
+        return None;
+    }
+    Some(close)
 }
 
 // Whether `%{` stands at a place.
@@ -196,9 +211,9 @@ fn close_at(bytes: &[u8], from: usize) -> usize
     requires { from ≤ length bytes.now }
     ensures after { from ≤ result }
     ensures within { result ≤ length bytes.now }
-    ensures found { result < length bytes.now → before_close (drop from bytes.now) ≡ Some (take (result - from) (drop from bytes.now)) }
+    ensures found { result < length bytes.now → ClosesAt bytes.now from result }
     ensures missing { result ≡ length bytes.now → before_close (drop from bytes.now) ≡ None }
-    ensures end { result < length bytes.now → slice_index bytes.now result ≡ 125 }
+    ensures end { result < length bytes.now → slice_index bytes.now result ≡ closing_brace }
 {
     for at in from..bytes.len() {
         if bytes[at] == b'}' {
@@ -209,8 +224,8 @@ fn close_at(bytes: &[u8], from: usize) -> usize
 }
 
 // What stands between `%{` and `}`: a date, or else a field, or neither.
-fn read_piece(alloc: Global, inner: &str) -> Result<Option<Piece>, AllocError>
-    ensures { IfOk result (λ piece. piece ≡ piece_of inner.now) }
+fn read_piece(alloc: Global, inner: &str) -> Result<Option<TemplatePart>, AllocError>
+    ensures { IfOk result (λ piece. piece ≡ template_part_of inner.now) }
 {
     if let Some(piece) = read_date(alloc, inner)? {
         return Ok(Some(piece));
@@ -218,23 +233,23 @@ fn read_piece(alloc: Global, inner: &str) -> Result<Option<Piece>, AllocError>
     read_field(alloc, inner)
 }
 
-fn read_date(alloc: Global, inner: &str) -> Result<Option<Piece>, AllocError>
-    ensures { IfOk result (λ piece. piece ≡ date_piece inner.now) }
+fn read_date(alloc: Global, inner: &str) -> Result<Option<TemplatePart>, AllocError>
+    ensures { IfOk result (λ piece. piece ≡ date_part_of inner.now) }
 {
     if inner.is_empty() || inner.as_bytes()[0] != b'+' {
         return Ok(None);
     }
     match read_format(alloc, &inner[1..])? {
-        Some(parts) => Ok(Some(Piece::Date(parts, Text::of(alloc, inner)?))),
+        Some(parts) => Ok(Some(TemplatePart::Date(parts, Text::of(alloc, inner)?))),
         None => Ok(None),
     }
 }
 
-fn read_field(alloc: Global, inner: &str) -> Result<Option<Piece>, AllocError>
-    ensures { IfOk result (λ piece. piece ≡ field_piece inner.now) }
+fn read_field(alloc: Global, inner: &str) -> Result<Option<TemplatePart>, AllocError>
+    ensures { IfOk result (λ piece. piece ≡ field_part_of inner.now) }
 {
     match Path::read(alloc, inner) {
-        Ok(path) => Ok(Some(Piece::Field(path, Text::of(alloc, inner)?))),
+        Ok(path) => Ok(Some(TemplatePart::Field(path, Text::of(alloc, inner)?))),
         Err(PathFault::Memory) => Err(AllocError),
         Err(PathFault::Empty) => Ok(None),
         Err(PathFault::Unclosed(_)) => Ok(None),

@@ -1,8 +1,8 @@
 -- What one change of a list or of an object does to depth.
 use Rattle.std.proofs.Common.{◌≡◌, ℕ, zero, suc, ◌+◌, ◌≤◌, max, List, [], ◌∷◌, ◌++◌, length, Some, ap, arith, rules, slice_get, slice_set, remove}
-use Rattle.plain_lists.specs.Keys.{text_cmp}
-use Rattle.plain_lists.specs.Members.{get_member, set_member, insert_member, remove_member}
-use Rattle.plain_lists.proofs.KeyLemmas.{order_cases}
+use Rattle.plain_data.specs.Keys.{text_cmp}
+use Rattle.plain_data.specs.Members.{get_member, set_member, insert_member, remove_member}
+use Rattle.plain_data.proofs.KeyLemmas.{order_cases}
 use Rattle.event_tree.specs.Values.{Members, depth, items_depth, members_depth}
 use Rattle.event_tree.specs.Paths.{wrap}
 use Rattle.event_tree.specs.declared.value.Value.{Value}

@@ -1,41 +1,37 @@
 -- The equations of depth, and that what a value has is less deep: the measure of recursions over values.
-use Rattle.std.proofs.Common.{◌≡◌, ℕ, zero, suc, ◌+◌, ◌<◌, ◌≤◌, List, [], ◌∷◌, length, Bool, ℤ, sym, ap, subst, ◌∙◌, ◌*◌, arith, get_or}
+use Rattle.std.proofs.Common.{◌≡◌, ℕ, zero, suc, ◌+◌, ◌<◌, ◌≤◌, List, [], ◌∷◌, length, Bool, ℤ, sym, subst, ◌*◌, arith, get_or}
 use Rattle.event_tree.specs.Number.{Num}
 use Rattle.event_tree.specs.Values.{Members, depth, depth_step, items_depth, members_depth}
 use Rattle.event_tree.specs.declared.value.Value.{Value}
-use Rattle.event_tree.specs.declared.value.Value.TheOpen.{Value-F}
-use Rattle.event_tree.specs.declared.value.Value.TheFolds.{fold-Value, fold-roll-Value}
 use Rattle.event_tree.specs.declared.value.Value.TheVariants as v
+use Rattle.event_tree.proofs.Folds.{IsFold, fold_is}
+
+depth_equations : IsFold ℕ depth_step depth
+unfolding depth
+depth_equations = fold_is ℕ depth_step
 
 pub depth-Null : depth v.Null ≡ 0
-unfolding depth
-depth-Null = ap (fold-Value ℕ depth_step) (sym v.rolls-Null) ∙ fold-roll-Value ℕ depth_step Value-F.Null
+depth-Null = depth_equations.null
 
 pub depth-Bool : (b : Bool) → depth (v.Bool b) ≡ 0
-unfolding depth
-depth-Bool b = ap (fold-Value ℕ depth_step) (sym (v.rolls-Bool b)) ∙ fold-roll-Value ℕ depth_step (Value-F.Bool b)
+depth-Bool b = depth_equations.bool b
 
 pub depth-Num : (n : Num) → depth (v.Num n) ≡ 0
-unfolding depth
-depth-Num n = ap (fold-Value ℕ depth_step) (sym (v.rolls-Num n)) ∙ fold-roll-Value ℕ depth_step (Value-F.Num n)
+depth-Num n = depth_equations.number n
 
 pub depth-Text : (s : List ℕ) → depth (v.Text s) ≡ 0
-unfolding depth
-depth-Text s = ap (fold-Value ℕ depth_step) (sym (v.rolls-Text s)) ∙ fold-roll-Value ℕ depth_step (Value-F.Text s)
+depth-Text s = depth_equations.text s
 
 pub depth-Time : (t : ℤ) → depth (v.Time t) ≡ 0
-unfolding depth
-depth-Time t = ap (fold-Value ℕ depth_step) (sym (v.rolls-Time t)) ∙ fold-roll-Value ℕ depth_step (Value-F.Time t)
+depth-Time t = depth_equations.time t
 
 pub ruleset flat = (depth-Null, depth-Bool, depth-Num, depth-Text, depth-Time)
 
 pub depth-List : (vs : List Value) → depth (v.List vs) ≡ suc (items_depth vs)
-unfolding depth
-depth-List vs = ap (fold-Value ℕ depth_step) (sym (v.rolls-List vs)) ∙ fold-roll-Value ℕ depth_step (Value-F.List vs)
+depth-List vs = depth_equations.list vs
 
 pub depth-Object : (ms : Members) → depth (v.Object ms) ≡ suc (members_depth ms)
-unfolding depth
-depth-Object ms = ap (fold-Value ℕ depth_step) (sym (v.rolls-Object ms)) ∙ fold-roll-Value ℕ depth_step (Value-F.Object ms)
+depth-Object ms = depth_equations.object ms
 
 pub depth_item : (vs : List Value) (i : ℕ) (d : Value) → i < length vs → depth (get_or vs i d) ≤ items_depth vs
 depth_item [] i d h = absurd (omega arith)

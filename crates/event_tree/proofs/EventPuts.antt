@@ -1,12 +1,12 @@
 -- A put into one of the two objects of an event, where there is room for so many more bytes, and what is taken from one of them.
 use Rattle.std.proofs.Common.{◌≡◌, ℕ, ◌+◌, ◌-◌, ◌<◌, ◌≤◌, max, List, [], ◌∷◌, length, Bool, true, false, cond, Option, Some, None, option_map, option_and_then, Ok, Err, nat_lt, refl, sym, ap, subst, ◌∙◌, arith, rules}
-use Rattle.std.specs.Prelude.{is_some}
+use Rattle.std.specs.Prelude.{is_some, not, ◌==◌, ◌&&◌}
 use Rattle.std.proofs.lemmas.Bool.Decides.{nat_tests}
 use Rattle.event_tree.specs.Values.{depth}
 use Rattle.event_tree.specs.Sizes.{size, less}
 use Rattle.event_tree.specs.Ordered.{ordered}
 use Rattle.event_tree.specs.Paths.{put, take}
-use Rattle.event_tree.specs.Growth.{growth}
+use Rattle.event_tree.specs.Growth.{room_at_end}
 use Rattle.event_tree.specs.Events.{Ev, IsObject, IsEvent, both, object_in, object, object_put, with_fields, with_meta, event_size, event_depth, limited}
 use Rattle.event_tree.specs.Outcomes.{Puts, PutsWithin, PutsEvent, Takes}
 use Rattle.event_tree.specs.declared.value.Value.{Value, out-Value, roll-Value, roll-out-Value}
@@ -53,47 +53,57 @@ object-is d h = by (out-Value d) (roll-out-Value d) h
     by (Value-F.List vs) r h = absurd (search (h, rules))
     by (Value-F.Object ms) r h = (ms, sym r ∙ v.rolls-Object ms)
 
+-- one of the two objects of an event would become a value that is no object
+abbrev ends_as_no_object : List (List ℕ) → Value → Bool
+ends_as_no_object ps d = (length ps == 0) && not (is_some (object d))
+
+object_from : (d : Value) → ends_as_no_object [] d ≡ false → is_some (object d) ≡ true
+object_from d h = by (is_some (object d)) h
+  where
+    by : (t : Bool) → not t ≡ false → t ≡ true
+    by true h = refl
+    by false h = absurd (search (h, rules))
+
 module _ (d old : Value) (o : IsObject old) where
-  object_put-some : (ps : List (List ℕ)) (new : Value) (m : ℕ × ℕ) → put ps d old ≡ Some new → Grown ps d old new m → (length ps ≡ 0 → is_some (object d) ≡ true) → object_put ps d old ≡ Some new
-  object_put-some [] new m e k whole = let n : d ≡ new = search (e, rules) in object-some d (object-is d (whole refl)) ∙ ap Some n
+  object_put-some : (ps : List (List ℕ)) (new : Value) (m : ℕ × ℕ) → put ps d old ≡ Some new → Grown ps d old new m → ends_as_no_object ps d ≡ false → object_put ps d old ≡ Some new
+  object_put-some [] new m e k whole = let n : d ≡ new = search (e, rules) in object-some d (object-is d (object_from d whole)) ∙ ap Some n
   object_put-some (p ∷ ps) new m e k whole = ap (option_and_then object) e ∙ object-some new (k.object (omega arith) o)
 
 module _ (ps : List (List ℕ)) (d old : Value) (room : ℕ) where
-  -- what room_at answers
-  abbrev pub room_for : Option (Option ℕ)
-  room_for = option_map (λ change. less (room + change.0) change.1) (growth ps old)
-
-  pub no_way : room_for ≡ None → object_put ps d old ≡ None
+  pub no_way : room_at_end room ps old ≡ None → object_put ps d old ≡ None
   no_way h = elim (put_cases ps d old) [
     | refused a b ↦ ap (option_and_then object) b
     | done m new a b k ↦ absurd (search (rw a at h, rules))
   ]
 
-  module _ (o : IsObject old) (whole : length ps ≡ 0 → is_some (object d) ≡ true) where
-    pub too_deep : (found : Option ℕ) → room_for ≡ Some found → 128 < length ps + depth d → (x : Value) × (object_put ps d old ≡ Some x) × (128 < depth x)
+  module _ (o : IsObject old) (whole : ends_as_no_object ps d ≡ false) where
+    pub too_deep : (found : Option ℕ) → room_at_end room ps old ≡ Some found → nat_lt 128 (length ps + depth d) ≡ true → (x : Value) × (object_put ps d old ≡ Some x) × (128 < depth x)
     too_deep found h deep = elim (put_cases ps d old) [
       | refused a b ↦ absurd (search (rw a at h, rules))
-      | done m new a b k ↦ (new, object_put-some d old o ps new m b k whole, omega (arith, k.deep))
+      | done m new a b k ↦ let l : 128 < length ps + depth d = grind (arith, nat_tests) in (new, object_put-some d old o ps new m b k whole, omega (arith, k.deep, l))
     ]
 
-    module _ (flat : depth old ≤ 128) (shallow : length ps + depth d ≤ 128) where
-      pub no_room_for_way : room_for ≡ Some None → (x : Value) × (object_put ps d old ≡ Some x) × (depth x ≤ 128) × (size old + room < size x)
+    module _ (flat : depth old ≤ 128) (within : nat_lt 128 (length ps + depth d) ≡ false) where
+      shallow : length ps + depth d ≤ 128
+      shallow = grind (arith, nat_tests)
+
+      pub no_room_for_way : room_at_end room ps old ≡ Some None → (x : Value) × (object_put ps d old ≡ Some x) × (depth x ≤ 128) × (size old + room < size x)
       no_room_for_way h = elim (put_cases ps d old) [
         | refused a b ↦ absurd (search (rw a at h, rules))
         | done m new a b k ↦
             let e : less (room + m.0) m.1 ≡ None = search (rw a at h, rules) in
-            (new, object_put-some d old o ps new m b k whole, omega (arith, k.shallow), omega (arith, k.size_is, less_none (room + m.0) m.1 e))
+            (new, object_put-some d old o ps new m b k whole, omega (arith, k.shallow, shallow), omega (arith, k.size_is, less_none (room + m.0) m.1 e))
       ]
 
-      pub no_room : (free : ℕ) → room_for ≡ Some (Some free) → less free (size d) ≡ None → (x : Value) × (object_put ps d old ≡ Some x) × (depth x ≤ 128) × (size old + room < size x)
+      pub no_room : (free : ℕ) → room_at_end room ps old ≡ Some (Some free) → less free (size d) ≡ None → (x : Value) × (object_put ps d old ≡ Some x) × (depth x ≤ 128) × (size old + room < size x)
       no_room free h l = elim (put_cases ps d old) [
         | refused a b ↦ absurd (search (rw a at h, rules))
         | done m new a b k ↦
             let e : less (room + m.0) m.1 ≡ Some free = search (rw a at h, rules) in
-            (new, object_put-some d old o ps new m b k whole, omega (arith, k.shallow), omega (arith, k.size_is, less_some (room + m.0) m.1 free e, less_none free (size d) l))
+            (new, object_put-some d old o ps new m b k whole, omega (arith, k.shallow, shallow), omega (arith, k.size_is, less_some (room + m.0) m.1 free e, less_none free (size d) l))
       ]
 
-      module _ (free left : ℕ) (h : room_for ≡ Some (Some free)) (l : less free (size d) ≡ Some left) where
+      module _ (free left : ℕ) (h : room_at_end room ps old ≡ Some (Some free)) (l : less free (size d) ≡ Some left) where
         pub fits : (new : Value) → put ps d old ≡ Some new → (object_put ps d old ≡ Some new) × (depth new ≤ 128) × (size new + left ≡ size old + room) × (ordered d ≡ true → ordered old ≡ true → ordered new ≡ true)
         fits new p = elim (put_cases ps d old) [
           | refused a b ↦ absurd (search (sym b ∙ p, rules))
@@ -101,7 +111,7 @@ module _ (ps : List (List ℕ)) (d old : Value) (room : ℕ) where
               let e : less (room + m.0) m.1 ≡ Some free = search (rw a at h, rules) in
               let s : x ≡ new = search (sym b ∙ p, rules) in
               subst (λ y. (object_put ps d old ≡ Some y) × (depth y ≤ 128) × (size y + left ≡ size old + room) × (ordered d ≡ true → ordered old ≡ true → ordered y ≡ true)) s
-              (object_put-some d old o ps x m b k whole, omega (arith, k.shallow), omega (arith, k.size_is, less_some (room + m.0) m.1 free e, less_some free (size d) left l), k.order)
+              (object_put-some d old o ps x m b k whole, omega (arith, k.shallow, shallow), omega (arith, k.size_is, less_some (room + m.0) m.1 free e, less_some free (size d) left l), k.order)
         ]
 
         pub refusal : (fault : PutFault) (new : Value) → Puts (Err fault) (put ps d old) old new → PutsWithin (Err fault) (object_put ps d old) room old new

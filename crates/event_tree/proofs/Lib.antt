@@ -1,4 +1,5 @@
 pub mod Least
+pub mod Folds
 pub mod Depths
 pub mod DepthLemmas
 pub mod Sizes

@@ -2,46 +2,42 @@
 use Rattle.std.proofs.Common.{◌≡◌, ℕ, zero, suc, List, [], ◌∷◌, ◌++◌, Bool, true, false, ◌&&◌, ℤ, Some, refl, sym, ap, subst, ◌∙◌, rules, slice_get, slice_set, remove}
 use Rattle.std.specs.Map.{keys_of}
 use Rattle.std.specs.Ordering.{is_lt}
-use Rattle.plain_lists.specs.Keys.{text_cmp, Below, Ascends}
-use Rattle.plain_lists.specs.Members.{Rises, get_member, set_member, insert_member, remove_member}
-use Rattle.plain_lists.proofs.KeyLemmas.{order_cases, Less-from_is_lt}
-use Rattle.plain_lists.proofs.MemberLemmas.{Rises-insert_member, Rises-set_member, Rises-remove_member}
+use Rattle.plain_data.specs.Keys.{text_cmp, Below, Ascends}
+use Rattle.plain_data.specs.Members.{Rises, get_member, set_member, insert_member, remove_member}
+use Rattle.plain_data.proofs.KeyLemmas.{order_cases, Less-from_is_lt}
+use Rattle.plain_data.proofs.MemberLemmas.{Rises-insert_member, Rises-set_member, Rises-remove_member}
 use Rattle.event_tree.specs.Number.{Num}
 use Rattle.event_tree.specs.Values.{Members, on_values}
 use Rattle.event_tree.specs.Ordered.{ordered, ordered_step, is_below, ascend, items_ordered, members_ordered}
 use Rattle.event_tree.specs.Paths.{wrap}
 use Rattle.event_tree.specs.declared.value.Value.{Value}
-use Rattle.event_tree.specs.declared.value.Value.TheOpen.{Value-F}
-use Rattle.event_tree.specs.declared.value.Value.TheFolds.{fold-Value, fold-roll-Value}
 use Rattle.event_tree.specs.declared.value.Value.TheVariants as v
+use Rattle.event_tree.proofs.Folds.{IsFold, fold_is}
+
+order_equations : IsFold Bool ordered_step ordered
+unfolding ordered
+order_equations = fold_is Bool ordered_step
 
 pub ordered-Null : ordered v.Null ≡ true
-unfolding ordered
-ordered-Null = ap (fold-Value Bool ordered_step) (sym v.rolls-Null) ∙ fold-roll-Value Bool ordered_step Value-F.Null
+ordered-Null = order_equations.null
 
 pub ordered-Bool : (b : Bool) → ordered (v.Bool b) ≡ true
-unfolding ordered
-ordered-Bool b = ap (fold-Value Bool ordered_step) (sym (v.rolls-Bool b)) ∙ fold-roll-Value Bool ordered_step (Value-F.Bool b)
+ordered-Bool b = order_equations.bool b
 
 pub ordered-Num : (n : Num) → ordered (v.Num n) ≡ true
-unfolding ordered
-ordered-Num n = ap (fold-Value Bool ordered_step) (sym (v.rolls-Num n)) ∙ fold-roll-Value Bool ordered_step (Value-F.Num n)
+ordered-Num n = order_equations.number n
 
 pub ordered-Text : (s : List ℕ) → ordered (v.Text s) ≡ true
-unfolding ordered
-ordered-Text s = ap (fold-Value Bool ordered_step) (sym (v.rolls-Text s)) ∙ fold-roll-Value Bool ordered_step (Value-F.Text s)
+ordered-Text s = order_equations.text s
 
 pub ordered-Time : (t : ℤ) → ordered (v.Time t) ≡ true
-unfolding ordered
-ordered-Time t = ap (fold-Value Bool ordered_step) (sym (v.rolls-Time t)) ∙ fold-roll-Value Bool ordered_step (Value-F.Time t)
+ordered-Time t = order_equations.time t
 
 pub ordered-List : (vs : List Value) → ordered (v.List vs) ≡ items_ordered vs
-unfolding ordered
-ordered-List vs = ap (fold-Value Bool ordered_step) (sym (v.rolls-List vs)) ∙ fold-roll-Value Bool ordered_step (Value-F.List vs)
+ordered-List vs = order_equations.list vs
 
 pub ordered-Object : (ms : Members) → ordered (v.Object ms) ≡ (ascend (keys_of (on_values ordered ms)) && members_ordered ms)
-unfolding ordered
-ordered-Object ms = ap (fold-Value Bool ordered_step) (sym (v.rolls-Object ms)) ∙ fold-roll-Value Bool ordered_step (Value-F.Object ms)
+ordered-Object ms = order_equations.object ms
 
 pub both_true : (a b : Bool) → a ≡ true → b ≡ true → (a && b) ≡ true
 both_true a b h k = rw h k

@@ -1,10 +1,10 @@
 -- What a put does to the length of the encoding, to depth and to order, and that the growth tells where it has a way.
 use Rattle.std.proofs.Common.{◌≡◌, ℕ, ◌+◌, ◌<◌, ◌≤◌, max, List, [], ◌∷◌, ◌++◌, length, true, Option, Some, None, option_map, refl, sym, ap, subst, ◌∙◌, arith, slice_get, slice_set}
-use Rattle.plain_lists.specs.Members.{get_member, set_member, insert_member}
+use Rattle.plain_data.specs.Members.{get_member, set_member, insert_member}
 use Rattle.event_tree.specs.Values.{Members, depth}
 use Rattle.event_tree.specs.Sizes.{size}
 use Rattle.event_tree.specs.Ordered.{ordered}
-use Rattle.event_tree.specs.Paths.{place, change_in, put, wrap, wrap_size}
+use Rattle.event_tree.specs.Paths.{list_place, change_in, put, wrap, wrap_size}
 use Rattle.event_tree.specs.Growth.{growth_in, growth}
 use Rattle.event_tree.specs.Events.{IsObject}
 use Rattle.event_tree.specs.declared.value.Value.{Value, out-Value, roll-Value, roll-out-Value}
@@ -74,17 +74,17 @@ module _ (p : List ℕ) (ps : List (List ℕ)) (d : Value) where
   }
 
   module _ (inner : (x : Value) → PutCases ps d x) where
-    in_item : (vs : List Value) (i : ℕ) (x : Value) → place p (length vs) ≡ Some i → slice_get vs i ≡ Some x → PutCases ps d x → LevelCases p ps d (Value-F.List vs)
+    in_item : (vs : List Value) (i : ℕ) (x : Value) → list_place p (length vs) ≡ Some i → slice_get vs i ≡ Some x → PutCases ps d x → LevelCases p ps d (Value-F.List vs)
     in_item vs i x e g (refused a b) = stuck (rw (e, g) a) (rw (e, g) (ap (option_map (λ y. v.List (slice_set vs i y))) b))
     in_item vs i x e g (done m y a b k) = moved m (v.List (slice_set vs i y)) (rw (e, g) a) (rw (e, g) (ap (option_map (λ y. v.List (slice_set vs i y))) b))
         (subst (λ o. Grown (p ∷ ps) d o (v.List (slice_set vs i y)) m) (sym (v.rolls-List vs)) (set_item vs i x y m g k))
 
-    at_item : (vs : List Value) (i : ℕ) (o : Option Value) → place p (length vs) ≡ Some i → slice_get vs i ≡ o → LevelCases p ps d (Value-F.List vs)
+    at_item : (vs : List Value) (i : ℕ) (o : Option Value) → list_place p (length vs) ≡ Some i → slice_get vs i ≡ o → LevelCases p ps d (Value-F.List vs)
     at_item vs i None e g = moved (0, wrap_size ps) (v.List (vs ++ wrap ps d ∷ [])) (rw (e, g) refl) (rw (e, g) refl)
         (subst (λ o. Grown (p ∷ ps) d o (v.List (vs ++ wrap ps d ∷ [])) (0, wrap_size ps)) (sym (v.rolls-List vs)) (push_item vs))
     at_item vs i (Some x) e g = in_item vs i x e g (inner x)
 
-    at_place : (vs : List Value) (o : Option ℕ) → place p (length vs) ≡ o → LevelCases p ps d (Value-F.List vs)
+    at_place : (vs : List Value) (o : Option ℕ) → list_place p (length vs) ≡ o → LevelCases p ps d (Value-F.List vs)
     at_place vs None e = stuck (rw e refl) (rw e refl)
     at_place vs (Some i) e = at_item vs i (slice_get vs i) e refl
 
@@ -104,7 +104,7 @@ module _ (p : List ℕ) (ps : List (List ℕ)) (d : Value) where
     level (Value-F.Num n) = stuck refl refl
     level (Value-F.Text s) = stuck refl refl
     level (Value-F.Time t) = stuck refl refl
-    level (Value-F.List vs) = at_place vs (place p (length vs)) refl
+    level (Value-F.List vs) = at_place vs (list_place p (length vs)) refl
     level (Value-F.Object ms) = at_field ms (get_member p ms) refl
 
   from_level : (old : Value) → LevelCases p ps d (out-Value old) → PutCases (p ∷ ps) d old

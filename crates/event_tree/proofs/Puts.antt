@@ -1,9 +1,9 @@
 -- One step of put, through an object or a list.
 use Rattle.std.proofs.Common.{◌≡◌, ℕ, zero, suc, List, [], ◌∷◌, length, Option, Some, None, IsSome, option_map, Result, Ok, Err, refl, sym, ap, ◌∙◌, rules, slice_get, slice_set}
-use Rattle.plain_lists.specs.Keys.{text_cmp}
-use Rattle.plain_lists.specs.Members.{get_member, set_member}
-use Rattle.plain_lists.proofs.KeyLemmas.{order_cases}
-use Rattle.event_tree.specs.Paths.{put, place, change_in}
+use Rattle.plain_data.specs.Keys.{text_cmp}
+use Rattle.plain_data.specs.Members.{get_member, set_member}
+use Rattle.plain_data.proofs.KeyLemmas.{order_cases}
+use Rattle.event_tree.specs.Paths.{put, list_place, change_in}
 use Rattle.event_tree.specs.Outcomes.{Puts}
 use Rattle.event_tree.specs.declared.value.Value.{Value, out-Value}
 use Rattle.event_tree.specs.declared.value.Value.TheVariants as v
@@ -40,6 +40,6 @@ puts_member r p q ps d made ms old new same found h =
     puts_part r (λ x. v.Object (set_member p x ms)) (put ps d old) old new _ (v.Object ms) _ h (ap (change_in p (put ps d) made) (v.outs-Object ms) ∙ rw found) (ap (λ k. v.Object (set_member k new ms)) (sym same)) (ap v.Object (set_member-same p ms old found))
 
 pub puts_item : (r : Result (Unit {0}) PutFault) (p : List ℕ) (ps : List (List ℕ)) (d made : Value) (vs : List Value) (i : ℕ) (old new : Value)
-    → place p (length vs) ≡ Some i → slice_get vs i ≡ Some old → Puts r (put ps d old) old new → Puts r (change_in p (put ps d) made (out-Value (v.List vs))) (v.List vs) (v.List (slice_set vs i new))
+    → list_place p (length vs) ≡ Some i → slice_get vs i ≡ Some old → Puts r (put ps d old) old new → Puts r (change_in p (put ps d) made (out-Value (v.List vs))) (v.List vs) (v.List (slice_set vs i new))
 puts_item r p ps d made vs i old new at found h =
     puts_part r (λ x. v.List (slice_set vs i x)) (put ps d old) old new _ (v.List vs) _ h (ap (change_in p (put ps d) made) (v.outs-List vs) ∙ rw (at, found)) refl (ap v.List (slice_set-same vs i old found))

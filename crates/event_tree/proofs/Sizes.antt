@@ -1,44 +1,40 @@
 -- The equations of size, and what one change of a list or of an object does to it.
-use Rattle.std.proofs.Common.{◌≡◌, ℕ, zero, suc, ◌+◌, ◌≤◌, List, [], ◌∷◌, ◌++◌, length, Bool, ℤ, Some, None, sym, ap, ◌∙◌, arith, rules, slice_get, slice_set, remove}
-use Rattle.plain_lists.specs.Keys.{text_cmp}
-use Rattle.plain_lists.specs.Members.{get_member, set_member, insert_member, remove_member}
-use Rattle.plain_lists.proofs.KeyLemmas.{order_cases, same_from_Equal}
+use Rattle.std.proofs.Common.{◌≡◌, ℕ, zero, suc, ◌+◌, ◌≤◌, List, [], ◌∷◌, ◌++◌, length, Bool, ℤ, Some, None, ap, arith, rules, slice_get, slice_set, remove}
+use Rattle.plain_data.specs.Keys.{text_cmp}
+use Rattle.plain_data.specs.Members.{get_member, set_member, insert_member, remove_member}
+use Rattle.plain_data.proofs.KeyLemmas.{order_cases, same_from_Equal}
 use Rattle.event_tree.specs.Number.{Num}
 use Rattle.event_tree.specs.Values.{Members}
 use Rattle.event_tree.specs.Sizes.{size, size_step, items_size, members_size}
 use Rattle.event_tree.specs.Paths.{wrap, wrap_size}
 use Rattle.event_tree.specs.declared.value.Value.{Value}
-use Rattle.event_tree.specs.declared.value.Value.TheOpen.{Value-F}
-use Rattle.event_tree.specs.declared.value.Value.TheFolds.{fold-Value, fold-roll-Value}
 use Rattle.event_tree.specs.declared.value.Value.TheVariants as v
+use Rattle.event_tree.proofs.Folds.{IsFold, fold_is}
+
+size_equations : IsFold ℕ size_step size
+unfolding size
+size_equations = fold_is ℕ size_step
 
 pub size-Null : size v.Null ≡ 1
-unfolding size
-size-Null = ap (fold-Value ℕ size_step) (sym v.rolls-Null) ∙ fold-roll-Value ℕ size_step Value-F.Null
+size-Null = size_equations.null
 
 pub size-Bool : (b : Bool) → size (v.Bool b) ≡ 1
-unfolding size
-size-Bool b = ap (fold-Value ℕ size_step) (sym (v.rolls-Bool b)) ∙ fold-roll-Value ℕ size_step (Value-F.Bool b)
+size-Bool b = size_equations.bool b
 
 pub size-Num : (n : Num) → size (v.Num n) ≡ 10
-unfolding size
-size-Num n = ap (fold-Value ℕ size_step) (sym (v.rolls-Num n)) ∙ fold-roll-Value ℕ size_step (Value-F.Num n)
+size-Num n = size_equations.number n
 
 pub size-Text : (s : List ℕ) → size (v.Text s) ≡ 5 + length s
-unfolding size
-size-Text s = ap (fold-Value ℕ size_step) (sym (v.rolls-Text s)) ∙ fold-roll-Value ℕ size_step (Value-F.Text s)
+size-Text s = size_equations.text s
 
 pub size-Time : (t : ℤ) → size (v.Time t) ≡ 13
-unfolding size
-size-Time t = ap (fold-Value ℕ size_step) (sym (v.rolls-Time t)) ∙ fold-roll-Value ℕ size_step (Value-F.Time t)
+size-Time t = size_equations.time t
 
 pub size-List : (vs : List Value) → size (v.List vs) ≡ 5 + items_size vs
-unfolding size
-size-List vs = ap (fold-Value ℕ size_step) (sym (v.rolls-List vs)) ∙ fold-roll-Value ℕ size_step (Value-F.List vs)
+size-List vs = size_equations.list vs
 
 pub size-Object : (ms : Members) → size (v.Object ms) ≡ 5 + members_size ms
-unfolding size
-size-Object ms = ap (fold-Value ℕ size_step) (sym (v.rolls-Object ms)) ∙ fold-roll-Value ℕ size_step (Value-F.Object ms)
+size-Object ms = size_equations.object ms
 
 pub ruleset sizes = (size-Null, size-Bool, size-Num, size-Text, size-Time, size-List, size-Object)
 

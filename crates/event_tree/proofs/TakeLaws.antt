@@ -1,10 +1,10 @@
 -- What take does to depth and to order.
 use Rattle.std.proofs.Common.{◌≡◌, ℕ, ◌≤◌, List, [], ◌∷◌, length, true, Option, Some, None, option_map, option_and_then, refl, sym, subst, ◌∙◌, arith, rules, slice_get, slice_set, remove}
 use Rattle.std.proofs.lemmas.Option.{some_pair_parts}
-use Rattle.plain_lists.specs.Members.{get_member, set_member, remove_member}
+use Rattle.plain_data.specs.Members.{get_member, set_member, remove_member}
 use Rattle.event_tree.specs.Values.{Members, depth}
 use Rattle.event_tree.specs.Ordered.{ordered}
-use Rattle.event_tree.specs.Paths.{place, cut_in, through_in, take}
+use Rattle.event_tree.specs.Paths.{list_place, cut_in, through_in, take}
 use Rattle.event_tree.specs.Events.{IsObject}
 use Rattle.event_tree.specs.declared.value.Value.{Value, out-Value, roll-Value, roll-out-Value}
 use Rattle.event_tree.specs.declared.value.Value.TheOpen.{Value-F}
@@ -67,7 +67,7 @@ module _ (p : List ℕ) (x new : Value) where
   cut_level (Value-F.Num n) h = absurd (search (h, rules))
   cut_level (Value-F.Text s) h = absurd (search (h, rules))
   cut_level (Value-F.Time t) h = absurd (search (h, rules))
-  cut_level (Value-F.List vs) h = subst (λ o. Kept o new) (sym (v.rolls-List vs)) (cut_at_place vs (place p (length vs)) h)
+  cut_level (Value-F.List vs) h = subst (λ o. Kept o new) (sym (v.rolls-List vs)) (cut_at_place vs (list_place p (length vs)) h)
   cut_level (Value-F.Object ms) h = subst (λ o. Kept o new) (sym (v.rolls-Object ms)) (cut_at_field ms (get_member p ms) h)
 
   module _ (cut : Value → Option (Value × Value)) (inner : (old y left : Value) → cut old ≡ Some (y, left) → Kept old left) where
@@ -97,7 +97,7 @@ module _ (p : List ℕ) (x new : Value) where
     through_level (Value-F.Num n) h = absurd (search (h, rules))
     through_level (Value-F.Text s) h = absurd (search (h, rules))
     through_level (Value-F.Time t) h = absurd (search (h, rules))
-    through_level (Value-F.List vs) h = subst (λ o. Kept o new) (sym (v.rolls-List vs)) (at_place vs (place p (length vs)) h)
+    through_level (Value-F.List vs) h = subst (λ o. Kept o new) (sym (v.rolls-List vs)) (at_place vs (list_place p (length vs)) h)
     through_level (Value-F.Object ms) h = subst (λ o. Kept o new) (sym (v.rolls-Object ms)) (at_field ms (get_member p ms) refl h)
 
 pub take-kept : (ps : List (List ℕ)) (old x new : Value) → take ps old ≡ Some (x, new) → Kept old new

@@ -1,9 +1,9 @@
 -- One step of take, through an object or a list.
 use Rattle.std.proofs.Common.{◌≡◌, ℕ, ◌+◌, ◌<◌, ◌≤◌, List, [], ◌∷◌, length, Option, Some, None, IfSome, option_map, refl, sym, ap, ◌∙◌, arith, slice_get, slice_set}
 use Rattle.std.proofs.lemmas.Option.{slice_get_past}
-use Rattle.plain_lists.specs.Members.{get_member, set_member, remove_member}
-use Rattle.plain_lists.proofs.MemberLemmas.{remove_member-absent}
-use Rattle.event_tree.specs.Paths.{place, cut_in, through_in, take}
+use Rattle.plain_data.specs.Members.{get_member, set_member, remove_member}
+use Rattle.plain_data.proofs.MemberLemmas.{remove_member-absent}
+use Rattle.event_tree.specs.Paths.{list_place, cut_in, through_in, take}
 use Rattle.event_tree.specs.Sizes.{size}
 use Rattle.event_tree.specs.Outcomes.{Takes}
 use Rattle.event_tree.specs.declared.cut.Cut.{Cut}
@@ -26,11 +26,11 @@ takes_through_member r p q [] ms old new n s found h = absurd (omega arith)
 takes_through_member r p q (x ∷ ps) ms old new n s found h =
     takes_part r (λ y. v.Object (set_member p y ms)) (take (x ∷ ps) old) old new _ (v.Object ms) _ h (ap (through_in p (take (x ∷ ps))) (v.outs-Object ms) ∙ rw found) (ap (λ k. v.Object (set_member k new ms)) (sym s)) (ap v.Object (set_member-same p ms old found))
 
-pub takes_no_item : (p : List ℕ) (rest : List (List ℕ)) (vs : List Value) (i : ℕ) → place p (length vs) ≡ Some i → length vs ≤ i → take (p ∷ rest) (v.List vs) ≡ None
+pub takes_no_item : (p : List ℕ) (rest : List (List ℕ)) (vs : List Value) (i : ℕ) → list_place p (length vs) ≡ Some i → length vs ≤ i → take (p ∷ rest) (v.List vs) ≡ None
 takes_no_item p [] vs i at h = let g : slice_get vs i ≡ None = slice_get_past vs i h in ap (cut_in p) (v.outs-List vs) ∙ rw (at, g)
 takes_no_item p (x ∷ ps) vs i at h = let g : slice_get vs i ≡ None = slice_get_past vs i h in ap (through_in p (take (x ∷ ps))) (v.outs-List vs) ∙ rw (at, g)
 
-pub takes_through_item : (r : Option Value) (p : List ℕ) (rest : List (List ℕ)) (vs : List Value) (i : ℕ) (old new : Value) → 0 < length rest → place p (length vs) ≡ Some i → slice_get vs i ≡ Some old → Takes r (take rest old) old new → Takes r (take (p ∷ rest) (v.List vs)) (v.List vs) (v.List (slice_set vs i new))
+pub takes_through_item : (r : Option Value) (p : List ℕ) (rest : List (List ℕ)) (vs : List Value) (i : ℕ) (old new : Value) → 0 < length rest → list_place p (length vs) ≡ Some i → slice_get vs i ≡ Some old → Takes r (take rest old) old new → Takes r (take (p ∷ rest) (v.List vs)) (v.List vs) (v.List (slice_set vs i new))
 takes_through_item r p [] vs i old new n at found h = absurd (omega arith)
 takes_through_item r p (x ∷ ps) vs i old new n at found h =
     takes_part r (λ y. v.List (slice_set vs i y)) (take (x ∷ ps) old) old new _ (v.List vs) _ h (ap (through_in p (take (x ∷ ps))) (v.outs-List vs) ∙ rw (at, found)) refl (ap v.List (slice_set-same vs i old found))

@@ -2,5 +2,5 @@
 use Rattle.event_tree.specs.NumberTexts.{Decimal}
 use Rattle.event_tree.specs.declared.decimal.Digits.{Digits}
 
-abbrev pub seen : Digits → Decimal
-seen d = record { negative = d.negative; whole = d.whole.now; fraction = d.fraction.now; lower = d.lower; exponent = d.exponent.now }
+abbrev pub as_decimal : Digits → Decimal
+as_decimal d = record { negative = d.negative; whole = d.whole.now; fraction = d.fraction.now; lower = d.lower; exponent = d.exponent.now }

@@ -43,6 +43,10 @@ pub record Way : Type 0 where
   pub meta : Bool
   pub parts : List (List ℕ)
 
+-- into `meta`, or into `fields`, by these parts
+abbrev pub to : Bool → List (List ℕ) → Way
+to meta parts = record { meta = meta; parts = parts }
+
 abbrev pub event_at : Way → Ev → Option Value
 event_at w e = if w.meta then at w.parts e.meta else at w.parts e.fields
 

@@ -1,3 +1,4 @@
+pub mod Characters
 pub mod Number
 pub mod Values
 pub mod Sizes

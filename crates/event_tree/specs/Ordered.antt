@@ -2,7 +2,7 @@
 use Rattle.std.specs.Prelude.{ℕ, List, [], ◌∷◌, map, Bool, true, ◌&&◌}
 use Rattle.std.specs.Ordering.{is_lt}
 use Rattle.std.specs.Map.{keys_of}
-use Rattle.plain_lists.specs.Keys.{text_cmp}
+use Rattle.plain_data.specs.Keys.{text_cmp}
 use Rattle.event_tree.specs.Values.{Members, on_values}
 use Rattle.event_tree.specs.declared.value.Value.{Value}
 use Rattle.event_tree.specs.declared.value.Value.TheOpen.{Value-F}

@@ -1,15 +1,15 @@
 // Reading and changing the value at the end of the parts of a path.
 ghost use Rattle.std.specs.Prelude.{◌≡◌, [], ◌∷◌, ◌++◌, None, OnOk, OnErr, IfOk};
 ghost use Rattle.std.specs.Option.{option_copied};
-ghost use Rattle.plain_lists.specs.Members.{get_member, insert_member};
-ghost use Rattle.event_tree.specs.Paths.{at, put, wrap, step as one_step};
-ghost use Rattle.event_tree.specs.Outcomes.{Puts};
+ghost use Rattle.plain_data.specs.Members.{get_member};
+ghost use Rattle.event_tree.specs.Paths.{at, wrap, insert_wrap, step as one_step};
+ghost use Rattle.event_tree.specs.Outcomes.{PutAt};
 ghost use Rattle.event_tree.specs.declared.value.Value.TheVariants as v;
 
 use crate::fault::PutFault;
 use crate::place::place_in;
 use crate::value::Value;
-use plain_lists::{Fields, Items, Text};
+use plain_data::{Fields, Items, Text};
 use std::alloc::{AllocError, Global};
 
 /// What stands at the end of the parts.
@@ -54,7 +54,7 @@ fn insert_wrapped(
     value: Value,
 ) -> Result<(), AllocError>
     requires { get_member part.now fields.old ≡ None }
-    ensures ok { OnOk result (fields.new ≡ insert_member part.now (wrap rest.now value) fields.old) }
+    ensures ok { OnOk result (fields.new ≡ insert_wrap part.now rest.now value fields.old) }
     ensures err { OnErr result (fields.new ≡ fields.old) }
 {
     let made = wrapped(alloc, rest, value)?;
@@ -83,7 +83,7 @@ pub(crate) fn put_in(
     parts: &[Text],
     value: Value,
 ) -> Result<(), PutFault>
-    ensures { Puts result (put parts.now value target.old) target.old target.new }
+    ensures { PutAt result parts.now value target.old target.new }
 {
     let Some((part, rest)) = parts.split_first() else {
         *target = value;
@@ -104,7 +104,7 @@ fn put_field(
     rest: &[Text],
     value: Value,
 ) -> Result<(), PutFault>
-    ensures { Puts result (put (part.now ∷ rest.now) value (v.Object fields.old)) (v.Object fields.old) (v.Object fields.new) }
+    ensures { PutAt result (part.now ∷ rest.now) value (v.Object fields.old) (v.Object fields.new) }
 {
     if let Some(inner) = fields.get_mut(part.as_str()) {
         return put_in(alloc, inner, rest, value);
@@ -123,7 +123,7 @@ fn put_item(
     rest: &[Text],
     value: Value,
 ) -> Result<(), PutFault>
-    ensures { Puts result (put (part.now ∷ rest.now) value (v.List items.old)) (v.List items.old) (v.List items.new) }
+    ensures { PutAt result (part.now ∷ rest.now) value (v.List items.old) (v.List items.new) }
 {
     let Some(index) = place_in(part.as_str(), items.len()) else {
         return Err(PutFault::ThroughScalar);

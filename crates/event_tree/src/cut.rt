@@ -1,14 +1,11 @@
 // Taking away the value at the end of the parts of a path.
-ghost use Rattle.std.specs.Prelude.{◌≡◌, ◌+◌, ◌∷◌, IfSome};
-ghost use Rattle.std.specs.Option.{option_map};
-ghost use Rattle.event_tree.specs.Paths.{take};
-ghost use Rattle.event_tree.specs.Sizes.{size};
-ghost use Rattle.event_tree.specs.Outcomes.{Takes};
+ghost use Rattle.std.specs.Prelude.{◌∷◌};
+ghost use Rattle.event_tree.specs.Outcomes.{Cuts, CutsBytes};
 ghost use Rattle.event_tree.specs.declared.value.Value.TheVariants as v;
 
 use crate::place::place_in;
 use crate::value::Value;
-use plain_lists::{Fields, Items, Text};
+use plain_data::{Fields, Items, Text};
 
 /// A value that was taken away, and the bytes that the encoding had for its key.
 #[derive(Drop)]
@@ -19,8 +16,8 @@ pub(crate) struct Cut {
 
 #[cycle(take)]
 pub(crate) fn take_in(target: &mut Value, parts: &[Text]) -> Option<Cut>
-    ensures taken { Takes (option_map (λ cut. cut.value) result) (take parts.now target.old) target.old target.new }
-    ensures shorter { IfSome result (λ cut. size target.new + size cut.value + cut.key_size ≡ size target.old) }
+    ensures taken { Cuts result parts.now target.old target.new }
+    ensures shorter { CutsBytes result target.old target.new }
 {
     let (part, rest) = parts.split_first()?;
     match target {
@@ -32,8 +29,8 @@ pub(crate) fn take_in(target: &mut Value, parts: &[Text]) -> Option<Cut>
 
 #[cycle(take)]
 fn take_field(fields: &mut Fields<Value>, part: &Text, rest: &[Text]) -> Option<Cut>
-    ensures taken { Takes (option_map (λ cut. cut.value) result) (take (part.now ∷ rest.now) (v.Object fields.old)) (v.Object fields.old) (v.Object fields.new) }
-    ensures shorter { IfSome result (λ cut. size (v.Object fields.new) + size cut.value + cut.key_size ≡ size (v.Object fields.old)) }
+    ensures taken { Cuts result (part.now ∷ rest.now) (v.Object fields.old) (v.Object fields.new) }
+    ensures shorter { CutsBytes result (v.Object fields.old) (v.Object fields.new) }
 {
     if rest.is_empty() {
         return match fields.remove(part.as_str()) {
@@ -52,8 +49,8 @@ fn take_field(fields: &mut Fields<Value>, part: &Text, rest: &[Text]) -> Option<
 
 #[cycle(take)]
 fn take_item(items: &mut Items<Value>, part: &Text, rest: &[Text]) -> Option<Cut>
-    ensures taken { Takes (option_map (λ cut. cut.value) result) (take (part.now ∷ rest.now) (v.List items.old)) (v.List items.old) (v.List items.new) }
-    ensures shorter { IfSome result (λ cut. size (v.List items.new) + size cut.value + cut.key_size ≡ size (v.List items.old)) }
+    ensures taken { Cuts result (part.now ∷ rest.now) (v.List items.old) (v.List items.new) }
+    ensures shorter { CutsBytes result (v.List items.old) (v.List items.new) }
 {
     let Some(index) = place_in(part.as_str(), items.len()) else {
         return None;

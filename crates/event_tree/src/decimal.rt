@@ -2,7 +2,7 @@
 ghost use Rattle.std.specs.Prelude.{◌≡◌, ◌≤◌, take, drop, length, IfSome};
 ghost use Rattle.std.specs.Option.{option_map};
 ghost use Rattle.event_tree.specs.NumberTexts.{AreDigits, digits_front, digits_behind, split_minus as minus_split, split_sign as sign_split, is_whole as whole, fraction_of as the_fraction, exponent_of as the_exponent, decimal_of};
-ghost use Rattle.event_tree.specs.DecimalViews.{seen};
+ghost use Rattle.event_tree.specs.DecimalViews.{as_decimal};
 
 /// The digits before the point, those behind it, and those of the exponent, which is negative where
 /// `lower` says so.
@@ -116,7 +116,7 @@ fn exponent_of(bytes: &[u8]) -> Option<(bool, &[u8])>
 /// The parts of a text that is a number.
 pub(crate) fn digits_of(text: &[u8]) -> Option<Digits<'_>>
     ensures digits { IfSome result (λ d. AreDigits d.whole.now × AreDigits d.fraction.now) }
-    ensures parts { option_map seen result ≡ decimal_of text.now }
+    ensures parts { option_map as_decimal result ≡ decimal_of text.now }
 {
     let (negative, unsigned) = split_minus(text);
     let (whole, behind) = split_digits(unsigned);

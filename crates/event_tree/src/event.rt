@@ -1,8 +1,7 @@
-ghost use Rattle.std.specs.Prelude.{◌≡◌, ◌≤◌, ◌<◌, ◌+◌, ◌^◌, [], IfOk, IsTrue, ◌↔◌, is_some, true};
-ghost use Rattle.std.specs.Option.{option_copied, option_map};
-ghost use Rattle.event_tree.specs.Events.{Ev, IsEvent, IsObject, both, object, event_size, object_put, with_fields, with_meta, event_at, event_put, event_take, limited};
-ghost use Rattle.event_tree.specs.Paths.{take};
-ghost use Rattle.event_tree.specs.Outcomes.{PutsEvent, PutsWithin, Takes};
+ghost use Rattle.std.specs.Prelude.{◌≡◌, ◌≤◌, ◌<◌, ◌+◌, ◌^◌, [], IfOk, IsTrue, ◌↔◌, is_some, length, ◌==◌, ◌&&◌, not, true, false};
+ghost use Rattle.std.specs.Option.{option_copied};
+ghost use Rattle.event_tree.specs.Events.{Ev, IsEvent, IsObject, both, object, event_size, object_put, with_fields, with_meta, to, event_at, event_take};
+ghost use Rattle.event_tree.specs.Outcomes.{PutEventAt, PutsWithin, Takes, TakesFrom};
 ghost use Rattle.event_tree.specs.Values.{depth};
 ghost use Rattle.event_tree.specs.Sizes.{size};
 ghost use Rattle.event_tree.specs.Ordered.{ordered};
@@ -14,7 +13,7 @@ use crate::fault::PutFault;
 use crate::measure::{is_too_deep, room_after, room_at, size_without};
 use crate::path::Path;
 use crate::value::Value;
-use plain_lists::{Fields, Text};
+use plain_data::{Fields, Text};
 use std::alloc::{AllocError, Global};
 use std::marker::Model;
 use std::mem;
@@ -138,7 +137,7 @@ impl Event {
     /// It takes time for the way, and for a walk through the new value and through the one that is
     /// replaced; the rest of the event is not walked.
     pub fn put(&mut self, path: &Path, value: Value) -> Result<(), PutFault>
-        ensures { PutsEvent result (limited (event_put path.now value self.old)) self.old self.new }
+        ensures { PutEventAt result path.now value self.old self.new }
     {
         if path.is_meta() {
             self.put_meta(path.parts(), value)
@@ -148,7 +147,7 @@ impl Event {
     }
 
     fn put_fields(&mut self, parts: &[Text], value: Value) -> Result<(), PutFault>
-        ensures { PutsEvent result (limited (option_map (with_fields self.old) (object_put parts.now value self.old.fields))) self.old self.new }
+        ensures { PutEventAt result (to false parts.now) value self.old self.new }
     {
         let room = MOST_BYTES - self.size;
         match put_within(self.alloc, &mut self.fields, parts, value, room) {
@@ -161,7 +160,7 @@ impl Event {
     }
 
     fn put_meta(&mut self, parts: &[Text], value: Value) -> Result<(), PutFault>
-        ensures { PutsEvent result (limited (option_map (with_meta self.old) (object_put parts.now value self.old.meta))) self.old self.new }
+        ensures { PutEventAt result (to true parts.now) value self.old self.new }
     {
         let room = MOST_BYTES - self.size;
         match put_within(self.alloc, &mut self.meta, parts, value, room) {
@@ -189,7 +188,7 @@ impl Event {
     }
 
     fn take_fields(&mut self, parts: &[Text]) -> Option<Value>
-        ensures { Takes result (option_map (λ r. (r.0, with_fields self.old r.1)) (take parts.now self.old.fields)) self.old self.new }
+        ensures { TakesFrom result with_fields parts.now self.old.fields self.old self.new }
     {
         match take_in(&mut self.fields, parts) {
             Some(cut) => {
@@ -201,7 +200,7 @@ impl Event {
     }
 
     fn take_meta(&mut self, parts: &[Text]) -> Option<Value>
-        ensures { Takes result (option_map (λ r. (r.0, with_meta self.old r.1)) (take parts.now self.old.meta)) self.old self.new }
+        ensures { TakesFrom result with_meta parts.now self.old.meta self.old self.new }
     {
         match take_in(&mut self.meta, parts) {
             Some(cut) => {
@@ -270,7 +269,7 @@ fn put_within(
     let Some(found) = room_at(target, parts, room) else {
         return Err(PutFault::ThroughScalar);
     };
-    if parts.is_empty() && !is_object(&value) {
+    if ends_as_no_object(parts, &value) {
         return Err(PutFault::ThroughScalar);
     }
     if is_too_deep(&value, parts.len()) {
@@ -286,6 +285,13 @@ fn put_within(
         Ok(()) => Ok(left),
         Err(fault) => Err(fault),
     }
+}
+
+// Whether one of the two objects of an event would become a value that is no object.
+fn ends_as_no_object(parts: &[Text], value: &Value) -> bool
+    ensures { result ≡ ((length parts.now == 0) && not (is_some (object value.now))) }
+{
+    parts.is_empty() && !is_object(value)
 }
 
 fn is_object(value: &Value) -> bool

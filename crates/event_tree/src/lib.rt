@@ -27,9 +27,9 @@ mod value;
 
 pub use event::Event;
 pub use fault::{PathFault, PutFault};
-pub use lists::{DeadLetter, DeadList, Events, Names, Pairs};
+pub use lists::{DeadLetter, DeadList, Events, Pairs};
 pub use number::Number;
 pub use path::Path;
-pub use plain_lists::{Fields, Items, Text};
+pub use plain_data::{Fields, Items, Names, Text};
 pub use time_instant::Instant;
 pub use value::Value;

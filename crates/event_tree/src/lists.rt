@@ -1,14 +1,11 @@
 ghost use Rattle.std.specs.Prelude.{◌≡◌, IfOk};
 
 use crate::event::Event;
-use plain_lists::{Items, Text};
+use plain_data::{Items, Text};
 use std::alloc::AllocError;
 
 /// Events in order.
 pub type Events = Items<Event>;
-
-/// Texts in order: names of files, of fields, of plugins.
-pub type Names = Items<Text>;
 
 /// Pairs of texts in order, as of a field and what to set there.
 pub type Pairs = Items<(Text, Text)>;

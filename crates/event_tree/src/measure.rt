@@ -1,16 +1,15 @@
 // How deep and how large values are, as far as a limit.
 ghost use Rattle.std.specs.Prelude.{◌≡◌, ◌<◌, ◌≤◌, ◌+◌, ◌^◌, length, nat_le, nat_lt, true, IfSome};
-ghost use Rattle.std.specs.Option.{option_map};
-ghost use Rattle.plain_lists.specs.Members.{Rises};
+ghost use Rattle.plain_data.specs.Members.{Rises};
 ghost use Rattle.event_tree.specs.Values.{depth, items_depth, members_depth};
 ghost use Rattle.event_tree.specs.Ordered.{ordered, items_ordered, members_ordered};
 ghost use Rattle.event_tree.specs.Sizes.{size, items_size, members_size, less};
 ghost use Rattle.event_tree.specs.Paths.{wrap_size};
-ghost use Rattle.event_tree.specs.Growth.{growth};
+ghost use Rattle.event_tree.specs.Growth.{room_at_end};
 
 use crate::place::place_in;
 use crate::value::Value;
-use plain_lists::Text;
+use plain_data::Text;
 
 fn take_room(room: u64, bytes: u64) -> Option<u64>
     ensures { result ≡ less room bytes }
@@ -144,7 +143,7 @@ fn room_after_parts(parts: &[Text], room: u64) -> Option<u64>
 /// through neither object nor list, and `Some(None)` where there is not enough room for them.
 pub(crate) fn room_at(target: &Value, parts: &[Text], room: u64) -> Option<Option<u64>>
     requires { room + size target.now < 2 ^ 64 }
-    ensures { result ≡ option_map (λ change. less (room + change.0) change.1) (growth parts.now target.now) }
+    ensures { result ≡ room_at_end room parts.now target.now }
 {
     let Some((part, rest)) = parts.split_first() else {
         return Some(room_without(target, room));

@@ -1,7 +1,7 @@
 ghost use Rattle.std.specs.Prelude.{◌≡◌, ◌≢◌, ◌<◌, ◌≤◌, ◌%◌, ◌^◌, length, if◌then◌else◌};
 ghost use Rattle.event_tree.specs.Number.{Num, IsLeast, least};
-ghost use Rattle.event_tree.specs.NumberTexts.{AreDigits, NumberReads, ValueReads, numeral, signed, most};
-ghost use Rattle.event_tree.specs.DecimalViews.{seen};
+ghost use Rattle.event_tree.specs.NumberTexts.{AreDigits, NumberReads, ValueReads, Shifts, digit_count, numeral, signed, most};
+ghost use Rattle.event_tree.specs.DecimalViews.{as_decimal};
 
 use crate::decimal::{Digits, digits_of};
 use crate::significand::{number_behind, number_of, raised, trimmed};
@@ -119,17 +119,33 @@ fn mantissa_of(negative: bool, digits: u128) -> i64
     value as i64
 }
 
+// The number with these digits and this sign, times ten to the power `up` and divided by ten to the
+// power `down`.
+fn shifted(negative: bool, digits: u128, up: u128, down: u128) -> Option<Number>
+    requires fits { digits ≤ most negative }
+    requires trimmed { digits % 10 ≢ 0 }
+    ensures { Shifts result negative digits up down }
+{
+    if down <= up {
+        match raised(digits, up - down, most_digits(negative)) {
+            Some(digits) => Some(with_sign(negative, digits, 0)),
+            None => None,
+        }
+    } else if down - up <= 18 {
+        Some(with_sign(negative, digits, (down - up) as u8))
+    } else {
+        None
+    }
+}
+
 // The value of a decimal.
 fn value_of(digits: &Digits) -> Option<Number>
     requires whole { AreDigits digits.now.whole.now }
     requires fraction { AreDigits digits.now.fraction.now }
-    ensures { ValueReads result (seen digits.now) }
+    ensures { ValueReads result (as_decimal digits.now) }
 {
-    let limit = most_digits(digits.negative);
-    let places = count_of(digits.fraction);
-    let all = count_of(digits.whole) + places;
     let (whole, fraction) = trimmed(digits.whole, digits.fraction);
-    let Some(value) = number_of(whole, fraction, limit) else {
+    let Some(value) = number_of(whole, fraction, most_digits(digits.negative)) else {
         return None;
     };
     if value == 0 {
@@ -139,25 +155,17 @@ fn value_of(digits: &Digits) -> Option<Number>
         return None;
     };
     let (raise, lower) = exponents(digits.lower, exponent);
-    let up = all - (count_of(whole) + count_of(fraction)) + raise;
-    let down = places + lower;
-    if down <= up {
-        match raised(value, up - down, limit) {
-            Some(value) => Some(with_sign(digits.negative, value, 0)),
-            None => None,
-        }
-    } else if down - up <= 18 {
-        Some(with_sign(digits.negative, value, (down - up) as u8))
-    } else {
-        None
-    }
+    let zeros = count_of(digits.whole, digits.fraction) - count_of(whole, fraction);
+    let places = digits.fraction.len() as u128;
+    shifted(digits.negative, value, zeros + raise, places + lower)
 }
 
-fn count_of(digits: &[u8]) -> u128
-    ensures same { result ≡ length digits.now }
-    ensures small { result < 2 ^ 64 }
+// How many digits stand before the point and behind it.
+fn count_of(whole: &[u8], fraction: &[u8]) -> u128
+    ensures same { result ≡ digit_count whole.now fraction.now }
+    ensures small { result < 2 ^ 65 }
 {
-    digits.len() as u128
+    whole.len() as u128 + fraction.len() as u128
 }
 
 // By how many powers of ten an exponent raises a number, and by how many it lowers it.

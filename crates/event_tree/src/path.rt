@@ -1,9 +1,10 @@
-ghost use Rattle.std.specs.Prelude.{◌≡◌, ◌≢◌, ◌<◌, ◌≤◌, ◌-◌, [], ◌∷◌, false, true, take, drop, length, slice_index, MatchResult, IfOk, IsTrue, ◌↔◌};
+ghost use Rattle.std.specs.Prelude.{◌≡◌, ◌≢◌, ◌<◌, ◌≤◌, ◌-◌, [], ◌∷◌, false, true, take, drop, length, slice_index, IfOk, IfErr, IsTrue, ◌↔◌};
+ghost use Rattle.event_tree.specs.Characters.{opening_bracket};
 ghost use Rattle.event_tree.specs.Events.{Way};
-ghost use Rattle.event_tree.specs.PathTexts.{is_bracket, NoBracket, IsPathText, IsPathFault, PathReads, way_of};
+ghost use Rattle.event_tree.specs.PathTexts.{is_bracket, NoBracket, IsPartAt, IsFaultAt, PartsRead, PathReads, way_of};
 
 use crate::fault::PathFault;
-use plain_lists::{Items, Text};
+use plain_data::{Items, Text};
 use std::alloc::{AllocError, Global};
 use std::marker::Model;
 
@@ -17,6 +18,7 @@ pub struct Path {
 
 impl Model for Path {
     ghost use Rattle.std.specs.Prelude.{◌≡◌, ◌<◌, length, false};
+    ghost use Rattle.event_tree.specs.Characters.{opening_bracket};
     ghost use Rattle.event_tree.specs.Events.{Way};
 
     ghost Value = { Way };
@@ -96,7 +98,7 @@ impl Path {
     }
 
     /// Whether two paths have the same parts and lead into the same of `fields` and `meta`.
-    #[tactic(auto, using(plain_lists::proofs::ImplLemmas::exact))]
+    #[tactic(auto, using(plain_data::proofs::ImplLemmas::exact))]
     pub fn same(&self, other: &Path) -> bool
         ensures { IsTrue result ↔ (self.now ≡ other.now) }
     {
@@ -130,8 +132,8 @@ fn name_end(bytes: &[u8], from: usize) -> usize
 
 fn read_bare(alloc: Global, text: &str) -> Result<Items<Text>, PathFault>
     requires some { 0 < length text.now }
-    requires bare { slice_index text.now 0 ≢ 91 }
-    ensures reads { MatchResult result (λ ps. IsPathText ps text.now) (λ fault. IsPathFault fault text.now) }
+    requires bare { slice_index text.now 0 ≢ opening_bracket }
+    ensures reads { PartsRead result text.now }
     ensures some { IfOk result (λ ps. 0 < length ps) }
 {
     let end = name_end(text.as_bytes(), 0);
@@ -143,9 +145,26 @@ fn read_bare(alloc: Global, text: &str) -> Result<Items<Text>, PathFault>
     Ok(parts)
 }
 
+// The place of the bracket that closes the part behind the one at this place.
+fn part_end(bytes: &[u8], at: usize) -> Result<usize, PathFault>
+    requires within { at < length bytes.now }
+    requires open { slice_index bytes.now at ≡ opening_bracket }
+    ensures part { IfOk result (IsPartAt bytes.now at) }
+    ensures fault { IfErr result (IsFaultAt bytes.now at) }
+{
+    let end = name_end(bytes, at + 1);
+    if end == bytes.len() || bytes[end] == b'[' {
+        return Err(PathFault::Unclosed(at));
+    }
+    if end == at + 1 {
+        return Err(PathFault::Empty);
+    }
+    Ok(end)
+}
+
 fn read_bracketed(alloc: Global, text: &str) -> Result<Items<Text>, PathFault>
-    requires { slice_index text.now 0 ≡ 91 }
-    ensures reads { MatchResult result (λ ps. IsPathText ps text.now) (λ fault. IsPathFault fault text.now) }
+    requires { slice_index text.now 0 ≡ opening_bracket }
+    ensures reads { PartsRead result text.now }
     ensures some { IfOk result (λ ps. 0 < length ps) }
 {
     let bytes = text.as_bytes();
@@ -155,13 +174,7 @@ fn read_bracketed(alloc: Global, text: &str) -> Result<Items<Text>, PathFault>
         if bytes[at] != b'[' {
             return Err(PathFault::Stray(at));
         }
-        let end = name_end(bytes, at + 1);
-        if end == bytes.len() || bytes[end] == b'[' {
-            return Err(PathFault::Unclosed(at));
-        }
-        if end == at + 1 {
-            return Err(PathFault::Empty);
-        }
+        let end = part_end(bytes, at)?;
         parts.push(Text::of(alloc, &text[at + 1..end])?)?;
         at = end + 1;
     }

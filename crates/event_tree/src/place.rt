@@ -1,9 +1,9 @@
 ghost use Rattle.std.specs.Prelude.{◌≡◌, ◌≤◌, IfSome};
-ghost use Rattle.event_tree.specs.Paths.{digits, at_most, place};
+ghost use Rattle.event_tree.specs.Paths.{digits, at_most, list_place};
 
 /// The place that a part names in a list of `count` items, an item's or the place behind the last.
 pub(crate) fn place_in(part: &str, count: usize) -> Option<usize>
-    ensures exact { result ≡ place part.now count }
+    ensures exact { result ≡ list_place part.now count }
     ensures within { IfSome result (λ i. i ≤ count) }
 {
     let bytes = part.as_bytes();

@@ -1,12 +1,12 @@
 // The value of a decimal: its digits without the zeros at the end, and how many zeros there are.
-ghost use Rattle.std.specs.Prelude.{◌≡◌, ◌≢◌, ℕ, ◌≤◌, ◌<◌, ◌+◌, ◌-◌, ◌++◌, ◌∷◌, take, length, slice_index, Some};
-ghost use Rattle.event_tree.specs.NumberTexts.{AreDigits, IsSignificand, number, tens};
+ghost use Rattle.std.specs.Prelude.{◌≡◌, ◌≢◌, ◌≤◌, ◌<◌, ◌-◌, ◌++◌, length, slice_index, Some};
+ghost use Rattle.event_tree.specs.NumberTexts.{AreDigits, AreTrimmed, HasZerosBehind, digit_count, number, tens};
 ghost use Rattle.event_tree.specs.Paths.{at_most};
 
 // How many digits there are without the zeros at the end.
 fn count_without_zeros(digits: &[u8]) -> usize
     ensures within { result ≤ length digits.now }
-    ensures zeros { (n : ℕ) → number n digits.now ≡ tens (number n (take result digits.now)) (length digits.now - result) }
+    ensures zeros { HasZerosBehind digits.now result }
     ensures last { 0 < result → slice_index digits.now (result - 1) ≢ 48 }
 {
     let mut count = digits.len();
@@ -65,8 +65,8 @@ pub(crate) fn number_of(whole: &[u8], fraction: &[u8], limit: u128) -> Option<u1
 pub(crate) fn trimmed<'t>(whole: &'t [u8], fraction: &'t [u8]) -> (&'t [u8], &'t [u8])
     requires whole { AreDigits whole.now }
     requires fraction { AreDigits fraction.now }
-    ensures shorter { length result.0.now + length result.1.now ≤ length whole.now + length fraction.now }
-    ensures significand { IsSignificand (number 0 (whole.now ++ fraction.now)) (number 0 (result.0.now ++ result.1.now)) (length whole.now + length fraction.now - (length result.0.now + length result.1.now)) }
+    ensures shorter { digit_count result.0.now result.1.now ≤ digit_count whole.now fraction.now }
+    ensures significand { AreTrimmed whole.now fraction.now result.0.now result.1.now }
 {
     let count = count_without_zeros(fraction);
     if count > 0 {

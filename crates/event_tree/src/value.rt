@@ -1,8 +1,8 @@
 ghost use Rattle.std.specs.Prelude.{◌≡◌, ◌↔◌, [], IfOk, IsTrue};
-ghost use Rattle.plain_lists.specs.Members.{Rises};
+ghost use Rattle.plain_data.specs.Members.{Rises};
 
 use crate::number::Number;
-use plain_lists::{Fields, Items, Text};
+use plain_data::{Fields, Items, Text};
 use std::alloc::AllocError;
 use time_instant::Instant;
 

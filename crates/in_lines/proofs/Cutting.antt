@@ -1,6 +1,6 @@
 -- A piece that comes in two changes no line.
 use Rattle.std.proofs.Common.{◌≡◌, ℕ, ℤ, List, [], ◌∷◌, ◌++◌, refl, sym, ap, ◌∙◌, append_assoc}
-use Rattle.outside.specs.Pieces.{Came}
+use Rattle.io_traits.specs.Pieces.{Came}
 use Rattle.byte_lines.specs.Unread.{lines_left}
 use Rattle.byte_lines.proofs.Giving.{unread}
 use Rattle.in_lines.specs.Polls.{Poll, joined, joined_with, is_ended, ended_with, lines_through}

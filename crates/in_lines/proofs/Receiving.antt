@@ -2,7 +2,7 @@
 use Rattle.std.proofs.Common.{◌≡◌, ◌<◌, ℕ, ℤ, Bool, true, false, List, [], ◌∷◌, ◌++◌, map, length, drop, refl, sym, ap, ◌∙◌, append_assoc, append-nil}
 use Rattle.std.proofs.lemmas.List.{map-append}
 use Rattle.std.proofs.Math.Seq.{drop-append_seam}
-use Rattle.outside.specs.Pieces.{Piece, Came, End, Nothing}
+use Rattle.io_traits.specs.Pieces.{Piece, Came, End, Nothing}
 use Rattle.byte_lines.specs.Split.{split_of}
 use Rattle.byte_lines.specs.Lines.{whole_lines, last_line}
 use Rattle.byte_lines.specs.Unread.{lines_left}

@@ -1,6 +1,6 @@
 -- Polls that stand in memory, as the polls of the definitions.
 use Rattle.std.specs.Prelude.{List, map}
-use Rattle.outside.specs.Pieces.{Piece, Came, End, Nothing}
+use Rattle.io_traits.specs.Pieces.{Piece, Came, End, Nothing}
 use Rattle.in_lines.specs.Polls.{Poll}
 use Rattle.in_lines.specs.declared.poll.Piece.{Piece as PieceInMemory}
 use Rattle.in_lines.specs.declared.poll.Piece.TheVariants.{Bytes as BytesInMemory, End as EndInMemory, Nothing as NothingInMemory}

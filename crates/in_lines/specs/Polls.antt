@@ -1,6 +1,6 @@
 -- The lines that come from a source, each with the moment of the poll that made it whole.
 use Rattle.std.specs.Prelude.{ℕ, ℤ, Bool, true, false, List, [], ◌∷◌, ◌++◌, length, map, drop}
-use Rattle.outside.specs.Pieces.{Piece, Came, End, Nothing}
+use Rattle.io_traits.specs.Pieces.{Piece, Came, End, Nothing}
 use Rattle.byte_lines.specs.Split.{split_of}
 use Rattle.byte_lines.specs.Lines.{whole_lines, last_line}
 use Rattle.byte_lines.specs.Unread.{lines_left}

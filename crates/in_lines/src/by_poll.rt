@@ -38,8 +38,10 @@ pub fn events_of_polls(
 
 /// Takes a piece to the bytes so far, unless the input ended before. The answer says whether it has ended now.
 fn take_piece(piece: &Piece, ended: bool, bytes: &mut Vec<u8>) -> Result<bool, AllocError>
-    ensures ended { IfOk result (λ now. now ≡ (if ended then true else ended_with (piece_of piece.now) false)) }
-    ensures bytes { OnOk result (bytes.new.items ≡ (if ended then bytes.old.items else bytes.old.items ++ joined_with (piece_of piece.now) [])) }
+    ensures ended { IfOk result
+        (λ now. now ≡ (if ended then true else ended_with (piece_of piece.now) false)) }
+    ensures bytes { let more = joined_with (piece_of piece.now) [] in
+        OnOk result (bytes.new.items ≡ (if ended then bytes.old.items else bytes.old.items ++ more)) }
 {
     if ended {
         return Ok(true);
@@ -69,7 +71,8 @@ fn push_events(
     moment: Instant,
     events: &mut Vec<Value>,
 ) -> Result<(), AllocError>
-    ensures { OnOk result (events.new.items ≡ events.old.items ++ map event_of (received_at moment (map string_bytes lines.now))) }
+    ensures { OnOk result (events.new.items ≡ events.old.items ++ map event_of
+        (received_at moment (map string_bytes lines.now))) }
 {
     for line in lines {
         events.push(line_event(alloc, line.as_str(), moment)?)?;

@@ -12,7 +12,8 @@ pub const LINE_LIMIT: usize = 1_048_576;
 /// The event of a line that a poll at `moment` made whole: the line as `message` and as
 /// `[event][original]`, `@timestamp`, and `@version` `1`.
 pub fn line_event(alloc: Global, line: &str, moment: Instant) -> Result<Value, AllocError>
-    ensures { IfOk result (λ event. event ≡ event_of (record { line = line.now; moment = moment })) }
+    ensures { IfOk result
+        (λ event. event ≡ event_of (record { line = line.now; moment = moment })) }
 {
     let mut fields = Fields::with_capacity(alloc, 4)?;
     fields.push(Text::of(alloc, "@timestamp")?, Value::Time(moment))?;

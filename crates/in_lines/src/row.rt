@@ -1,7 +1,7 @@
 ghost use Rattle.std.specs.Prelude.{◌≡◌, ◌++◌, OnOk, OnErr};
 ghost use Rattle.in_lines.specs.Rows.{row_of};
 
-use event_text::write_json;
+use event_json::write_json;
 use event_tree::Value;
 use std::alloc::AllocError;
 

@@ -3,12 +3,12 @@
 
 mod standard;
 
+use io_real::{StdinSource, SystemClock, WriteSink};
 use logstash_top::{ThinWorld, logstash};
 use standard::StandardOutput;
 use std::env;
 use std::io::{self, ErrorKind, Stdin};
 use std::process::ExitCode;
-use store_disk::{StdinSource, SystemClock, WriteSink};
 
 /// The status of want of memory.
 const NO_MEMORY: u8 = 8;

@@ -1,8 +1,8 @@
 -- Parts that are written one after another.
 use Rattle.std.proofs.Common.{◌≡◌, ◌<◌, ◌+◌, ℕ, suc, List, [], ◌∷◌, ◌++◌, length, drop, get_or, Option, sym, ap, ◌∙◌, subst, append_assoc, append-nil, refl, add-one, Bor}
 use Rattle.std.proofs.Math.Seq.{drop-cons}
-use Rattle.outside.specs.Telling.{Grows, GrowsInPart}
-use Rattle.outside.proofs.Growth.{in_part_of, in_part_then}
+use Rattle.io_traits.specs.Telling.{Grows, GrowsInPart}
+use Rattle.io_traits.proofs.Growth.{in_part_of, in_part_then}
 use Rattle.logstash_top.specs.Parts.{parts_text}
 
 parts_text-cons : (part : Bor (List ℕ)) (parts : List (Bor (List ℕ))) → parts_text (part ∷ parts) ≡ part.now ++ parts_text parts

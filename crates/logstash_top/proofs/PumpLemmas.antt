@@ -3,12 +3,12 @@ use Rattle.std.proofs.Common.{◌≡◌, ◌<◌, ℕ, ℤ, Bool, true, false, L
 use Rattle.std.proofs.lemmas.List.{map-append}
 use Rattle.std.proofs.Math.Seq.{take-append_seam}
 use Rattle.std.proofs.lemmas.List.Concat.{flat_map-append}
-use Rattle.outside.specs.Pieces.{Piece, Came, End, Nothing, bytes_in, piece_list}
-use Rattle.outside.specs.Telling.{Grows, GrowsInPart, Shrinks, IsAtEnd}
-use Rattle.outside.proofs.Growth.{grows_same, grows_by, grows_then, shrinks_same, shrinks_by, shrinks_then, in_part_none, in_part_then}
-use Rattle.outside.specs.declared.sources.Source.{Ghosts as SourceWords}
-use Rattle.outside.specs.declared.sinks.Sink.{Ghosts as SinkWords}
-use Rattle.outside.specs.declared.clocks.Clock.{Ghosts as ClockWords}
+use Rattle.io_traits.specs.Pieces.{Piece, Came, End, Nothing, bytes_in, piece_list}
+use Rattle.io_traits.specs.Telling.{Grows, GrowsInPart, Shrinks, IsAtEnd}
+use Rattle.io_traits.proofs.Growth.{grows_same, grows_by, grows_then, shrinks_same, shrinks_by, shrinks_then, in_part_none, in_part_then}
+use Rattle.io_traits.specs.declared.sources.Source.{Ghosts as SourceWords}
+use Rattle.io_traits.specs.declared.sinks.Sink.{Ghosts as SinkWords}
+use Rattle.io_traits.specs.declared.clocks.Clock.{Ghosts as ClockWords}
 use Rattle.byte_lines.specs.Lines.{whole_lines, texts_of}
 use Rattle.byte_lines.specs.Unread.{Unread, lines_left, rest_of}
 use Rattle.byte_lines.proofs.Splitting.{split_of-settled}

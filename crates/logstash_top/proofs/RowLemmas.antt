@@ -3,8 +3,8 @@ use Rattle.std.proofs.Common.{◌≡◌, ℕ, ℤ, List, [], ◌∷◌, ◌++◌
 use Rattle.std.proofs.lemmas.List.{map-append}
 use Rattle.std.proofs.lemmas.List.Concat.{flat_map-append}
 use Rattle.event_tree.specs.declared.value.Value.{Value}
-use Rattle.outside.specs.Telling.{Grows, GrowsInPart}
-use Rattle.outside.proofs.Growth.{grows_by, grows_then, in_part_of, in_part_then}
+use Rattle.io_traits.specs.Telling.{Grows, GrowsInPart}
+use Rattle.io_traits.proofs.Growth.{grows_by, grows_then, in_part_of, in_part_then}
 use Rattle.in_lines.specs.Polls.{received_at}
 use Rattle.in_lines.specs.Events.{event_of}
 use Rattle.in_lines.specs.Rows.{row_of, out_bytes}
@@ -19,14 +19,14 @@ rows_at-append moment xs ys =
     ∙ ap out_bytes (map-append event_of (received_at moment xs) (received_at moment ys))
     ∙ out_bytes-append (map event_of (received_at moment xs)) (map event_of (received_at moment ys))
 
-row_at : (moment : ℤ) (line : List ℕ) → rows_at moment (line ∷ []) ≡ row_of (event_of (record { line = line; moment = moment }))
-row_at moment line = append-nil (row_of (event_of (record { line = line; moment = moment })))
+row_of_one : (moment : ℤ) (line : List ℕ) → rows_at moment (line ∷ []) ≡ row_of (event_of (record { line = line; moment = moment }))
+row_of_one moment line = append-nil (row_of (event_of (record { line = line; moment = moment })))
 
 -- a row more, of a line of that text
 pub rows_then : {a b c : Option (List ℕ)} (moment : ℤ) (shown : List (List ℕ)) (line text : List ℕ) → text ≡ line → Grows a b (rows_at moment shown) → Grows b c (row_of (event_of (record { line = text; moment = moment })))
     → Grows a c (rows_at moment (shown ++ line ∷ []))
 rows_then moment shown line text is one other =
-    grows_by (ap (λ t. rows_at moment shown ++ row_of (event_of (record { line = t; moment = moment }))) is ∙ ap (λ t. rows_at moment shown ++ t) (sym (row_at moment line)) ∙ sym (rows_at-append moment shown (line ∷ []))) (grows_then one other)
+    grows_by (ap (λ t. rows_at moment shown ++ row_of (event_of (record { line = t; moment = moment }))) is ∙ ap (λ t. rows_at moment shown ++ t) (sym (row_of_one moment line)) ∙ sym (rows_at-append moment shown (line ∷ []))) (grows_then one other)
 
 -- a part of a row more, of all those that were to come
 pub rows_in_part : {a b c : Option (List ℕ)} (moment : ℤ) (all shown left : List (List ℕ)) (line text : List ℕ) → text ≡ line → all ≡ shown ++ line ∷ left → Grows a b (rows_at moment shown)

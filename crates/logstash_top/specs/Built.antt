@@ -1,5 +1,5 @@
 -- The configurations that are built.
-use Rattle.std.specs.Prelude.{◌≡◌, ◌⊎◌, [], ◌∷◌, codes}
+use Rattle.std.specs.Prelude.{◌≡◌, ◌⊎◌, List, [], ◌∷◌, codes}
 use Rattle.config_grammar.specs.Joining.{Entries, plugin_of}
 use Rattle.config_grammar.specs.declared.tree.Config.{Config}
 use Rattle.config_grammar.specs.declared.tree.Plugin.{Plugin}
@@ -19,9 +19,13 @@ stdout settings = statement.Plugin (plugin_of (codes "stdout") settings)
 abbrev pub json_lines : Entries
 json_lines = (codes "codec", value.Text (codes "json_lines")) ∷ []
 
+-- one `stdout`: without a codec, since this is its default, or with it
+abbrev pub IsStdout : List Statement → Type 0
+IsStdout outputs = (outputs ≡ stdout [] ∷ []) ⊎ (outputs ≡ stdout json_lines ∷ [])
+
 abbrev pub from_stdin : Entries → Config
 from_stdin settings = record { inputs = stdin ∷ []; filters = []; outputs = stdout settings ∷ [] }
 
--- from stdin to stdout as JSON lines: without a codec, since that is the default of `stdout`, or with it
+-- from stdin to stdout as JSON lines
 abbrev pub IsBuilt : Config → Type 0
 IsBuilt config = (config ≡ from_stdin []) ⊎ (config ≡ from_stdin json_lines)

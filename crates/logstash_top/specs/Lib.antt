@@ -2,6 +2,8 @@ pub mod Words
 pub mod Built
 pub mod Refused
 pub mod Status
+pub mod Sinks
 pub mod Rows
 pub mod Runs
+pub mod Outcomes
 pub mod Parts

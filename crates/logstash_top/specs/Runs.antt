@@ -1,15 +1,19 @@
 -- What a run does to the outside.
-use Rattle.std.specs.Prelude.{◌≡◌, ℕ, List, [], ◌∷◌, true, map}
+use Rattle.std.specs.Prelude.{◌≡◌, ◌⊎◌, ℕ, List, [], ◌∷◌, true, map, Result, Err, IsOk}
 use Rattle.std.specs.List.{flat_map}
-use Rattle.outside.specs.Pieces.{Piece, End, piece_list}
-use Rattle.outside.specs.Telling.{Grows, GrowsInPart, Shrinks, IsAtEnd}
-use Rattle.outside.specs.declared.sources.Source.{Ghosts as SourceWords}
-use Rattle.outside.specs.declared.sinks.Sink.{Ghosts as SinkWords}
-use Rattle.outside.specs.declared.clocks.Clock.{Ghosts as ClockWords}
+use Rattle.io_traits.specs.Counts.{HasCause, HasCauseUnless}
+use Rattle.io_traits.specs.Pieces.{Piece, End, piece_list}
+use Rattle.io_traits.specs.Telling.{Grows, GrowsInPart, Shrinks, IsAtEnd}
+use Rattle.io_traits.specs.declared.sources.Source.{Ghosts as SourceWords}
+use Rattle.io_traits.specs.declared.sinks.Sink.{Ghosts as SinkWords}
+use Rattle.io_traits.specs.declared.clocks.Clock.{Ghosts as ClockWords}
 use Rattle.byte_lines.specs.Unread.{lines_left}
 use Rattle.in_lines.specs.Polls.{Poll, joined, is_ended, received}
 use Rattle.in_lines.specs.Events.{events_of}
 use Rattle.in_lines.specs.Rows.{out_bytes}
+use Rattle.logstash_top.specs.Sinks.{AllFlushed, Faulted}
+use Rattle.logstash_top.specs.declared.run_fault.RunFault.{RunFault}
+use Rattle.logstash_top.specs.declared.run_fault.RunFault.TheVariants.{Input, Output}
 use Rattle.logstash_top.specs.declared.world.ThinWorld.{ThinWorld}
 
 -- how many bytes a line may have
@@ -49,6 +53,28 @@ module _ {I O K : Type 0} (source : SourceWords I) (sink : SinkWords O) (clock :
     -- where a read failed, all rows of what came before it were written
     pub cut_off : is_cut_off → Grows (sink.taken old.stdout) (sink.taken new.stdout) (out_bytes (events_of line_limit polls))
     pub done : is_done → Finished old new polls
+
+  -- a run with this result
+  abbrev pub RanTo : {U : Type 0} → ThinWorld I O K → ThinWorld I O K → Result U RunFault → Type 0
+  RanTo old new result = Ran old new (IsOk result) (result ≡ Err Input)
+
+module _ {I O K : Type 0} (source : SourceWords I) where
+  -- the count of stdin's faults rose where there was this fault, and in no other case
+  abbrev pub StdinHasCause : ThinWorld I O K → ThinWorld I O K → Type 0 → Type 0
+  StdinHasCause old new fault = HasCause (source.faults old.stdin) (source.faults new.stdin) fault
+
+  -- a read that failed ends the run, unless the last flush failed too
+  abbrev pub ReadHasCause : {U : Type 0} → ThinWorld I O K → ThinWorld I O K → Result U RunFault → Type 0
+  ReadHasCause old new result = HasCauseUnless (source.faults old.stdin) (source.faults new.stdin) (result ≡ Err Output) (result ≡ Err Input)
+
+module _ {I O K : Type 0} (sink : SinkWords O) where
+  -- the count of stdout's faults rose where there was this fault, and in no other case
+  abbrev pub StdoutHasCause : ThinWorld I O K → ThinWorld I O K → Type 0 → Type 0
+  StdoutHasCause old new fault = HasCause (sink.faults old.stdout) (sink.faults new.stdout) fault
+
+  -- all rows are flushed, unless a fault was counted
+  abbrev pub FlushedUnlessFaulted : ThinWorld I O K → ThinWorld I O K → Type 0
+  FlushedUnlessFaulted old new = Faulted sink old.stdout new.stdout ⊎ AllFlushed sink new.stdout
 
 -- worlds, whatever their objects tell
 module _ {I O K : Type 0} where

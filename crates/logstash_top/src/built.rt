@@ -1,8 +1,8 @@
 ghost use Rattle.std.specs.Prelude.{◌≡◌, ◌↔◌, ◌⊎◌, [], ◌∷◌, IsTrue};
-ghost use Rattle.logstash_top.specs.Built.{stdin, stdout, json_lines, IsBuilt};
+ghost use Rattle.logstash_top.specs.Built.{stdin, json_lines, IsBuilt, IsStdout};
 
 use config_grammar::{Config, Plugin, SettingValue, Statement};
-use plain_lists::Text;
+use plain_data::Text;
 
 /// Whether a configuration is one that the program runs: from stdin to stdout as JSON lines.
 pub(crate) fn is_built(config: &Config) -> bool
@@ -23,7 +23,7 @@ fn is_stdin(inputs: &[Plugin]) -> bool
 }
 
 fn is_stdout(outputs: &[Statement]) -> bool
-    ensures { IsTrue result ↔ ((outputs.now ≡ stdout [] ∷ []) ⊎ (outputs.now ≡ stdout json_lines ∷ [])) }
+    ensures { IsTrue result ↔ IsStdout outputs.now }
 {
     match outputs {
         [Statement::Plugin(plugin)] => {

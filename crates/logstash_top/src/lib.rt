@@ -4,15 +4,16 @@
 
 mod built;
 mod config;
+mod line;
 mod parts;
 mod pump;
 mod rows;
+mod run_fault;
 mod status;
-mod stop;
 mod top;
 mod words;
 mod world;
 
-pub use status::{ConfigFault, Status, WordsFault};
+pub use status::{Status, WordsFault};
 pub use top::logstash;
 pub use world::ThinWorld;

@@ -1,16 +1,16 @@
-ghost use Rattle.std.specs.Prelude.{◌≡◌, ◌++◌, ◌⊎◌, [], false, Ok, Err, IsOk, OnOk};
+ghost use Rattle.std.specs.Prelude.{◌≡◌, [], false, Err, OnOk};
 ghost use Rattle.byte_lines.specs.Unread.{lines_left, rest_of};
-ghost use Rattle.outside.specs.Counts.{HasCause, HasCauseUnless, Rose};
-ghost use Rattle.outside.specs.Telling.{Grows, GrowsInPart, IsFlushed};
-ghost use Rattle.logstash_top.specs.Rows.{rows_at};
-ghost use Rattle.logstash_top.specs.Runs.{Ran};
+ghost use Rattle.io_traits.specs.Counts.{HasCause};
+ghost use Rattle.logstash_top.specs.Rows.{fed, rows_fed};
+ghost use Rattle.logstash_top.specs.Runs.{RanTo, FlushedUnlessFaulted, ReadHasCause, StdinHasCause, StdoutHasCause};
+ghost use Rattle.logstash_top.specs.Sinks.{Took, TookInPart, AllFlushed};
 
 use crate::rows::write_lines;
-use crate::stop::Stop;
+use crate::run_fault::RunFault;
 use crate::world::ThinWorld;
 use byte_lines::LineReader;
 use in_lines::LINE_LIMIT;
-use outside::{Clock, Sink, Source, Step};
+use io_traits::{Clock, Sink, Source, Step};
 use std::alloc::Global;
 use std::sync::Wait;
 use time_instant::Instant;
@@ -24,18 +24,18 @@ pub(crate) fn run<R: Wait, I: Source, O: Sink, K: Clock>(
     rt: &R,
     alloc: Global,
     world: &mut ThinWorld<I, O, K>,
-) -> Result<(), Stop>
-    ensures ran { Ran I.Source O.Sink K.Clock world.old world.new (IsOk result) (result ≡ Err Stop.Input) }
-    ensures flushed { Rose (O.faults world.old.stdout) (O.faults world.new.stdout) ⊎ IsFlushed (O.taken world.new.stdout) (O.flushed world.new.stdout) }
-    ensures done_flushed { OnOk result (IsFlushed (O.taken world.new.stdout) (O.flushed world.new.stdout)) }
-    ensures read_cause { HasCauseUnless (I.faults world.old.stdin) (I.faults world.new.stdin) (result ≡ Err Stop.Output) (result ≡ Err Stop.Input) }
-    ensures write_cause { HasCause (O.faults world.old.stdout) (O.faults world.new.stdout) (result ≡ Err Stop.Output) }
+) -> Result<(), RunFault>
+    ensures ran { RanTo I.Source O.Sink K.Clock world.old world.new result }
+    ensures flushed { FlushedUnlessFaulted O.Sink world.old world.new }
+    ensures done_flushed { OnOk result (AllFlushed O.Sink world.new.stdout) }
+    ensures read_cause { ReadHasCause I.Source world.old world.new result }
+    ensures write_cause { StdoutHasCause O.Sink world.old world.new (result ≡ Err RunFault.Output) }
     ensures stderr { world.new.stderr ≡ world.old.stderr }
 {
     let ran = pump(rt, alloc, world);
     match world.stdout.flush() {
         Ok(()) => ran,
-        Err(_) => Err(Stop::Output),
+        Err(_) => Err(RunFault::Output),
     }
 }
 
@@ -44,10 +44,10 @@ fn pump<R: Wait, I: Source, O: Sink, K: Clock>(
     rt: &R,
     alloc: Global,
     world: &mut ThinWorld<I, O, K>,
-) -> Result<(), Stop>
-    ensures ran { Ran I.Source O.Sink K.Clock world.old world.new (IsOk result) (result ≡ Err Stop.Input) }
-    ensures read_cause { HasCause (I.faults world.old.stdin) (I.faults world.new.stdin) (result ≡ Err Stop.Input) }
-    ensures write_cause { HasCause (O.faults world.old.stdout) (O.faults world.new.stdout) (result ≡ Err Stop.Output) }
+) -> Result<(), RunFault>
+    ensures ran { RanTo I.Source O.Sink K.Clock world.old world.new result }
+    ensures read_cause { StdinHasCause I.Source world.old world.new (result ≡ Err RunFault.Input) }
+    ensures write_cause { StdoutHasCause O.Sink world.old world.new (result ≡ Err RunFault.Output) }
     ensures stderr { world.new.stderr ≡ world.old.stderr }
 {
     let mut room = vec![in alloc; 0u8; READ_LEN]?;
@@ -75,7 +75,7 @@ fn pump<R: Wait, I: Source, O: Sink, K: Clock>(
                 reader.end();
                 return write_lines(alloc, &mut reader, moment, &mut row, &mut world.stdout);
             }
-            Err(_) => return Err(Stop::Input),
+            Err(_) => return Err(RunFault::Input),
         }
     }
     unreachable!()
@@ -90,15 +90,16 @@ fn take_piece<O: Sink>(
     moment: Instant,
     row: &mut Vec<u8>,
     sink: &mut O,
-) -> Result<(), Stop>
+) -> Result<(), RunFault>
     requires { reader.old.ended ≡ false }
-    ensures ok { OnOk result (Grows (O.taken sink.old) (O.taken sink.new) (rows_at moment (lines_left (record reader.old { bytes = reader.old.bytes ++ bytes.now })))) }
-    ensures part { GrowsInPart (O.taken sink.old) (O.taken sink.new) (rows_at moment (lines_left (record reader.old { bytes = reader.old.bytes ++ bytes.now }))) }
-    ensures cause { HasCause (O.faults sink.old) (O.faults sink.new) (result ≡ Err Stop.Output) }
-    ensures not_input { ¬ (result ≡ Err Stop.Input) }
+    ensures ok { OnOk result
+        (Took O.Sink sink.old sink.new (rows_fed moment reader.old bytes.now)) }
+    ensures part { TookInPart O.Sink sink.old sink.new (rows_fed moment reader.old bytes.now) }
+    ensures cause { HasCause (O.faults sink.old) (O.faults sink.new) (result ≡ Err RunFault.Output) }
+    ensures not_input { ¬ (result ≡ Err RunFault.Input) }
     ensures left { OnOk result (lines_left reader.new ≡ []) }
-    ensures rest { OnOk result (rest_of reader.new ≡ rest_of (record reader.old { bytes = reader.old.bytes ++ bytes.now })) }
-    ensures flushed { OnOk result (IsFlushed (O.taken sink.new) (O.flushed sink.new)) }
+    ensures rest { OnOk result (rest_of reader.new ≡ rest_of (fed reader.old bytes.now)) }
+    ensures flushed { OnOk result (AllFlushed O.Sink sink.new) }
     ensures ended { OnOk result (reader.new.ended ≡ false) }
     ensures limit { OnOk result (reader.new.limit ≡ reader.old.limit) }
 {

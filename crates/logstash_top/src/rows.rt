@@ -1,16 +1,13 @@
-ghost use Rattle.std.specs.Prelude.{◌≡◌, ◌≤◌, [], ◌∷◌, Err, false, IfOk, OnOk};
-ghost use Rattle.byte_lines.specs.Unread.{lines_left, rest_of};
-ghost use Rattle.outside.specs.Counts.{HasCause};
-ghost use Rattle.outside.specs.Telling.{Grows, GrowsInPart};
-ghost use Rattle.in_lines.specs.Polls.{received_at};
-ghost use Rattle.in_lines.specs.Events.{event_of};
-ghost use Rattle.in_lines.specs.Rows.{row_of};
-ghost use Rattle.logstash_top.specs.Rows.{rows_at};
+ghost use Rattle.std.specs.Prelude.{◌≡◌, [], Err, OnOk};
+ghost use Rattle.byte_lines.specs.Unread.{lines_left};
+ghost use Rattle.io_traits.specs.Counts.{HasCause};
+ghost use Rattle.logstash_top.specs.Rows.{KeepsRest, row_at, rows_left};
+ghost use Rattle.logstash_top.specs.Sinks.{Took, TookInPart};
 
-use crate::stop::Stop;
+use crate::run_fault::RunFault;
 use byte_lines::LineReader;
 use in_lines::{line_event, write_row};
-use outside::{Sink, write_all};
+use io_traits::{Sink, write_all};
 use std::alloc::Global;
 use time_instant::Instant;
 
@@ -22,13 +19,13 @@ pub(crate) fn write_lines<O: Sink>(
     moment: Instant,
     row: &mut Vec<u8>,
     sink: &mut O,
-) -> Result<(), Stop>
-    ensures ok { OnOk result (Grows (O.taken sink.old) (O.taken sink.new) (rows_at moment (lines_left reader.old))) }
-    ensures part { GrowsInPart (O.taken sink.old) (O.taken sink.new) (rows_at moment (lines_left reader.old)) }
-    ensures cause { HasCause (O.faults sink.old) (O.faults sink.new) (result ≡ Err Stop.Output) }
-    ensures not_input { ¬ (result ≡ Err Stop.Input) }
+) -> Result<(), RunFault>
+    ensures ok { OnOk result (Took O.Sink sink.old sink.new (rows_left moment reader.old)) }
+    ensures part { TookInPart O.Sink sink.old sink.new (rows_left moment reader.old) }
+    ensures cause { HasCause (O.faults sink.old) (O.faults sink.new) (result ≡ Err RunFault.Output) }
+    ensures not_input { ¬ (result ≡ Err RunFault.Input) }
     ensures left { OnOk result (lines_left reader.new ≡ []) }
-    ensures rest { OnOk result (reader.old.ended ≡ false → rest_of reader.new ≡ rest_of reader.old) }
+    ensures rest { OnOk result (KeepsRest reader.old reader.new) }
     ensures ended { reader.new.ended ≡ reader.old.ended }
     ensures limit { reader.new.limit ≡ reader.old.limit }
 {
@@ -39,7 +36,7 @@ pub(crate) fn write_lines<O: Sink>(
                 Err(stop) => return Err(stop),
             },
             Ok(None) => return Ok(()),
-            Err(_) => return Err(Stop::Memory),
+            Err(_) => return Err(RunFault::Memory),
         }
     }
 }
@@ -51,11 +48,11 @@ fn write_line<O: Sink>(
     moment: Instant,
     row: &mut Vec<u8>,
     sink: &mut O,
-) -> Result<(), Stop>
-    ensures ok { OnOk result (Grows (O.taken sink.old) (O.taken sink.new) (row_of (event_of (record { line = line.now; moment = moment })))) }
-    ensures part { GrowsInPart (O.taken sink.old) (O.taken sink.new) (row_of (event_of (record { line = line.now; moment = moment }))) }
-    ensures cause { HasCause (O.faults sink.old) (O.faults sink.new) (result ≡ Err Stop.Output) }
-    ensures not_input { ¬ (result ≡ Err Stop.Input) }
+) -> Result<(), RunFault>
+    ensures ok { OnOk result (Took O.Sink sink.old sink.new (row_at moment line.now)) }
+    ensures part { TookInPart O.Sink sink.old sink.new (row_at moment line.now) }
+    ensures cause { HasCause (O.faults sink.old) (O.faults sink.new) (result ≡ Err RunFault.Output) }
+    ensures not_input { ¬ (result ≡ Err RunFault.Input) }
 {
     let event = line_event(alloc, line, moment)?;
     row.clear();

@@ -1,19 +1,19 @@
-ghost use Rattle.std.specs.Prelude.{◌≡◌, ◌≤◌, ◌⊎◌, IsErr, IfOk, OnOk, map, string_bytes};
-ghost use Rattle.outside.specs.Counts.{HasCause, HasCauseUnless, Rose};
-ghost use Rattle.outside.specs.Telling.{Grows, GrowsInPart, IsFlushed};
-ghost use Rattle.logstash_top.specs.Status.{Answers, Completes, IsRefused, input_fault, output_fault, status_of, status_of_refusal, config_line, placed_line, line_of};
-ghost use Rattle.logstash_top.specs.Runs.{Ran, IsUntouched};
+ghost use Rattle.std.specs.Prelude.{◌≡◌, ◌⊎◌, IfOk, map, string_bytes};
+ghost use Rattle.logstash_top.specs.Outcomes.{RanAs, FlushedOrUntouched, InputFaultHasCause, OutputFaultHasCause, CompletesUnlessFaulted};
+ghost use Rattle.logstash_top.specs.Runs.{IsUntouched};
+ghost use Rattle.logstash_top.specs.Sinks.{Took, TookInPart, AllFlushed, Faulted};
+ghost use Rattle.logstash_top.specs.Status.{Answers, IsRefused, not_built, status_of, status_of_fault, line_of};
 
-use crate::config::{Refusal, check};
-use crate::parts::write_parts;
+use crate::config::is_run;
+use crate::line::tell;
 use crate::pump::run;
-use crate::status::{ConfigFault, Status, WordsFault};
-use crate::stop::Stop;
+use crate::run_fault::RunFault;
+use crate::status::{Status, WordsFault};
 use crate::words::config_text;
 use crate::world::ThinWorld;
-use itoa::Buffer;
-use outside::{Clock, Failed, Sink, Source};
-use plain_lists::Text;
+use config_parse::ConfigFault;
+use io_traits::{Clock, Sink, Source};
+use plain_data::Text;
 use std::alloc::{AllocError, Global};
 use std::sync::Wait;
 
@@ -28,10 +28,11 @@ use std::sync::Wait;
 /// there, and that each row is written before the next.
 ///
 /// - `Status::BadWords` comes exactly where the words are not `-e` and one text.
-/// - `Status::BadConfig` comes exactly where that text is refused, with the reason: it is longer than
-///   1,048,576 bytes, its first token that no configuration has there stands at the place, its token at
-///   the place opens level 65, or it is a configuration that isn't built; unless memory ran out.
-///   At these two nothing was read and nothing written to stdout.
+/// - `Status::BadConfig` comes exactly where that text is no configuration, with the reason: it is
+///   longer than 1,048,576 bytes, its first token that no configuration has there stands at the place,
+///   or its token at the place opens level 65; unless memory ran out.
+/// - `Status::NotBuilt` comes exactly where it is a configuration that isn't built, unless memory ran
+///   out. At these three nothing was read and nothing written to stdout.
 /// - `Status::InputFault` and `Status::OutputFault` come only where the count of stdin's, or of
 ///   stdout's, faults rose in this call, or stands at the last value of u64. At another status no fault
 ///   was counted: but for a fault of stdin where the last flush of stdout failed too, which ends in
@@ -51,23 +52,22 @@ pub fn logstash<R: Wait, I: Source, O: Sink, K: Clock>(
     ensures refused { IsRefused result → IsUntouched world.old world.new }
 
     // What stdout holds.
-    ensures ran { Ran I.Source O.Sink K.Clock world.old world.new (result ≡ Status.Done) (result ≡ input_fault) }
-    ensures flushed { Rose (O.faults world.old.stdout) (O.faults world.new.stdout)
-        ⊎ IsFlushed (O.taken world.new.stdout) (O.flushed world.new.stdout) ⊎ (world.new.stdout ≡ world.old.stdout) }
-    ensures done_flushed { result ≡ Status.Done → IsFlushed (O.taken world.new.stdout) (O.flushed world.new.stdout) }
+    ensures ran { RanAs I.Source O.Sink K.Clock world.old world.new result }
+    ensures flushed { FlushedOrUntouched O.Sink world.old world.new }
+    ensures done_flushed { result ≡ Status.Done → AllFlushed O.Sink world.new.stdout }
 
     // When a fault comes.
-    ensures input_fault { HasCauseUnless (I.faults world.old.stdin) (I.faults world.new.stdin) ((result ≡ output_fault) ⊎ (result ≡ Status.NoMemory)) (result ≡ input_fault) }
-    ensures output_fault { HasCauseUnless (O.faults world.old.stdout) (O.faults world.new.stdout) (result ≡ Status.NoMemory) (result ≡ output_fault) }
-    ensures complete { ¬ (Rose (I.faults world.old.stdin) (I.faults world.new.stdin)) → ¬ (Rose (O.faults world.old.stdout) (O.faults world.new.stdout))
-        → Completes (map string_bytes words.now) result }
+    ensures input_fault { InputFaultHasCause I.Source world.old world.new result }
+    ensures output_fault { OutputFaultHasCause O.Sink world.old world.new result }
+    ensures complete { let all = map string_bytes words.now in
+        CompletesUnlessFaulted I.Source O.Sink world.old world.new all result }
 
     // What stderr holds.
-    ensures line { GrowsInPart (O.taken world.old.stderr) (O.taken world.new.stderr) (line_of result) }
-    ensures told { Rose (O.faults world.old.stderr) (O.faults world.new.stderr)
-        ⊎ Grows (O.taken world.old.stderr) (O.taken world.new.stderr) (line_of result) }
-    ensures told_flushed { Rose (O.faults world.old.stderr) (O.faults world.new.stderr)
-        ⊎ IsFlushed (O.taken world.new.stderr) (O.flushed world.new.stderr) }
+    ensures line { TookInPart O.Sink world.old.stderr world.new.stderr (line_of result) }
+    ensures told { Faulted O.Sink world.old.stderr world.new.stderr
+        ⊎ Took O.Sink world.old.stderr world.new.stderr (line_of result) }
+    ensures told_flushed { Faulted O.Sink world.old.stderr world.new.stderr
+        ⊎ AllFlushed O.Sink world.new.stderr }
 {
     let status = outcome(rt, alloc, words, world);
     let _ = tell(&status, &mut world.stderr);
@@ -83,39 +83,48 @@ fn outcome<R: Wait, I: Source, O: Sink, K: Clock>(
 ) -> Status
     ensures answers { Answers (map string_bytes words.now) result }
     ensures refused { IsRefused result → IsUntouched world.old world.new }
-    ensures ran { Ran I.Source O.Sink K.Clock world.old world.new (result ≡ Status.Done) (result ≡ input_fault) }
-    ensures flushed { Rose (O.faults world.old.stdout) (O.faults world.new.stdout)
-        ⊎ IsFlushed (O.taken world.new.stdout) (O.flushed world.new.stdout) ⊎ (world.new.stdout ≡ world.old.stdout) }
-    ensures done_flushed { result ≡ Status.Done → IsFlushed (O.taken world.new.stdout) (O.flushed world.new.stdout) }
-    ensures input_fault { HasCauseUnless (I.faults world.old.stdin) (I.faults world.new.stdin) ((result ≡ output_fault) ⊎ (result ≡ Status.NoMemory)) (result ≡ input_fault) }
-    ensures output_fault { HasCauseUnless (O.faults world.old.stdout) (O.faults world.new.stdout) (result ≡ Status.NoMemory) (result ≡ output_fault) }
+    ensures ran { RanAs I.Source O.Sink K.Clock world.old world.new result }
+    ensures flushed { FlushedOrUntouched O.Sink world.old world.new }
+    ensures done_flushed { result ≡ Status.Done → AllFlushed O.Sink world.new.stdout }
+    ensures input_fault { InputFaultHasCause I.Source world.old world.new result }
+    ensures output_fault { OutputFaultHasCause O.Sink world.old world.new result }
     ensures stderr { world.new.stderr ≡ world.old.stderr }
 {
     let Some(text) = config_text(words) else {
         return Status::BadWords(WordsFault::Unread);
     };
-    if let Err(refusal) = check(alloc, text) {
-        return refused(alloc, refusal);
-    }
-    match run(rt, alloc, world) {
-        Ok(()) => Status::Done,
-        Err(stop) => status_of_stop(alloc, stop),
-    }
-}
-
-fn refused(alloc: Global, refusal: Refusal) -> Status
-    ensures { (result ≡ status_of_refusal refusal) ⊎ (result ≡ Status.NoMemory) }
-{
-    match refusal {
-        Refusal::Config(fault) => match Text::of(alloc, "main") {
-            Ok(pipeline) => Status::BadConfig(pipeline, fault),
-            Err(_) => Status::NoMemory,
+    match is_run(alloc, text) {
+        Ok(true) => match run(rt, alloc, world) {
+            Ok(()) => Status::Done,
+            Err(stop) => stopped(alloc, stop),
         },
-        Refusal::Memory => Status::NoMemory,
+        Ok(false) => unbuilt(alloc),
+        Err(fault) => refused(alloc, fault),
     }
 }
 
-fn status_of_stop(alloc: Global, stop: Stop) -> Status
+/// The status of a configuration that isn't built.
+fn unbuilt(alloc: Global) -> Status
+    ensures { (result ≡ not_built) ⊎ (result ≡ Status.NoMemory) }
+{
+    match Text::of(alloc, "main") {
+        Ok(pipeline) => Status::NotBuilt(pipeline),
+        Err(_) => Status::NoMemory,
+    }
+}
+
+/// The status of a text that is no configuration.
+fn refused(alloc: Global, fault: ConfigFault) -> Status
+    ensures { (result ≡ status_of_fault fault) ⊎ (result ≡ Status.NoMemory) }
+{
+    match (fault, Text::of(alloc, "main")) {
+        (ConfigFault::Memory, _) | (_, Err(_)) => Status::NoMemory,
+        (_, Ok(pipeline)) => Status::BadConfig(pipeline, fault),
+    }
+}
+
+/// The status of a run that stopped before its end.
+fn stopped(alloc: Global, stop: RunFault) -> Status
     ensures { (result ≡ status_of stop) ⊎ (result ≡ Status.NoMemory) }
 {
     match fault_status(alloc, stop) {
@@ -124,96 +133,15 @@ fn status_of_stop(alloc: Global, stop: Stop) -> Status
     }
 }
 
-fn fault_status(alloc: Global, stop: Stop) -> Result<Status, AllocError>
+fn fault_status(alloc: Global, stop: RunFault) -> Result<Status, AllocError>
     ensures { IfOk result (λ status. status ≡ status_of stop) }
 {
     match stop {
-        Stop::Input => Ok(Status::InputFault(
+        RunFault::Input => Ok(Status::InputFault(
             Text::of(alloc, "main")?,
             Text::of(alloc, "input_1")?,
         )),
-        Stop::Output => Ok(Status::OutputFault(Text::of(alloc, "output_1")?)),
-        Stop::Memory => Ok(Status::NoMemory),
+        RunFault::Output => Ok(Status::OutputFault(Text::of(alloc, "output_1")?)),
+        RunFault::Memory => Ok(Status::NoMemory),
     }
-}
-
-/// Writes the line of a status, if it has one, and flushes it.
-fn tell<O: Sink>(status: &Status, stderr: &mut O) -> Result<(), Failed>
-    ensures ok { OnOk result (Grows (O.taken stderr.old) (O.taken stderr.new) (line_of status.now)) }
-    ensures part { GrowsInPart (O.taken stderr.old) (O.taken stderr.new) (line_of status.now) }
-    ensures flushed { OnOk result (IsFlushed (O.taken stderr.new) (O.flushed stderr.new)) }
-    ensures cause { HasCause (O.faults stderr.old) (O.faults stderr.new) (IsErr result) }
-{
-    write_line(status, stderr)?;
-    stderr.flush()
-}
-
-fn write_line<O: Sink>(status: &Status, stderr: &mut O) -> Result<(), Failed>
-    ensures ok { OnOk result (Grows (O.taken stderr.old) (O.taken stderr.new) (line_of status.now)) }
-    ensures part { GrowsInPart (O.taken stderr.old) (O.taken stderr.new) (line_of status.now) }
-    ensures cause { HasCause (O.faults stderr.old) (O.faults stderr.new) (IsErr result) }
-{
-    match status {
-        Status::Done => Ok(()),
-        Status::BadWords(WordsFault::Unread) => {
-            write_parts(stderr, &["logstash: words: unread\n"])
-        }
-        Status::BadConfig(pipeline, fault) => write_config_line(pipeline.as_str(), fault, stderr),
-        Status::InputFault(pipeline, input) => write_parts(
-            stderr,
-            &[
-                "logstash: pipeline ",
-                pipeline.as_str(),
-                ": input fault ",
-                input.as_str(),
-                "\n",
-            ],
-        ),
-        Status::OutputFault(output) => write_parts(
-            stderr,
-            &["logstash: output fault ", output.as_str(), "\n"],
-        ),
-        Status::NoMemory => write_parts(stderr, &["logstash: no memory\n"]),
-    }
-}
-
-/// Writes the line of a refused configuration.
-fn write_config_line<O: Sink>(
-    pipeline: &str,
-    fault: &ConfigFault,
-    stderr: &mut O,
-) -> Result<(), Failed>
-    ensures ok { OnOk result (Grows (O.taken stderr.old) (O.taken stderr.new) (config_line pipeline.now fault.now)) }
-    ensures part { GrowsInPart (O.taken stderr.old) (O.taken stderr.new) (config_line pipeline.now fault.now) }
-    ensures cause { HasCause (O.faults stderr.old) (O.faults stderr.new) (IsErr result) }
-{
-    let mut buffer = Buffer::new();
-    match fault {
-        ConfigFault::Long => write_parts(stderr, &["logstash: pipeline ", pipeline, ": long\n"]),
-        ConfigFault::Syntax(at) => {
-            write_placed(pipeline, ": syntax at ", buffer.format(*at), stderr)
-        }
-        ConfigFault::Deep(at) => write_placed(pipeline, ": deep at ", buffer.format(*at), stderr),
-        ConfigFault::Thin => write_parts(
-            stderr,
-            &["logstash: pipeline ", pipeline, ": not built\n"],
-        ),
-    }
-}
-
-/// Writes the line of a configuration that is refused at a place.
-fn write_placed<'a, O: Sink>(
-    pipeline: &'a str,
-    reason: &'a str,
-    place: &'a str,
-    stderr: &mut O,
-) -> Result<(), Failed>
-    ensures ok { OnOk result (Grows (O.taken stderr.old) (O.taken stderr.new) (placed_line pipeline.now reason.now place.now)) }
-    ensures part { GrowsInPart (O.taken stderr.old) (O.taken stderr.new) (placed_line pipeline.now reason.now place.now) }
-    ensures cause { HasCause (O.faults stderr.old) (O.faults stderr.new) (IsErr result) }
-{
-    write_parts(
-        stderr,
-        &["logstash: pipeline ", pipeline, reason, place, "\n"],
-    )
 }

@@ -6,7 +6,7 @@ mod tests;
 
 ghost use Rattle.std.specs.Prelude.{◌≡◌, IfOk};
 ghost use Rattle.in_lines.specs.Given.{piece_of};
-ghost use Rattle.memory_outside.specs.Gave.{piece_of as given_piece};
+ghost use Rattle.io_memory.specs.Gave.{piece_of as given_piece};
 
 use in_lines::{Piece, Poll};
 use std::alloc::AllocError;

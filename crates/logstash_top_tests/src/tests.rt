@@ -8,7 +8,7 @@ use std::sync::Wait;
 use std::test::Fail;
 use store_disk::{Clock, Gave, Instant, ListClock, MemorySink, MemorySource, Script};
 
-type World = ThinWorld<MemorySource, MemorySink, ListClock>;
+type MemoryWorld = ThinWorld<MemorySource, MemorySink, ListClock>;
 
 const BUILT: &str = "input { stdin {} } output { stdout { codec => json_lines } }";
 
@@ -60,7 +60,7 @@ fn owned(alloc: Global, words: &[&str]) -> Result<Vec<String>, AllocError> {
     Ok(owned)
 }
 
-fn world(alloc: Global, case: &Case<'_>) -> Result<World, Fail> {
+fn world(alloc: Global, case: &Case<'_>) -> Result<MemoryWorld, Fail> {
     let moment = Instant::from_nanos(NEW_YEAR).ok_or("2024")?;
     let reads = Script::new(alloc, case.failing_reads, case.waiting_reads)?;
     let writes = Script::new(alloc, case.failing_writes, &[])?;
@@ -78,7 +78,7 @@ fn run<R: Wait>(
     alloc: Global,
     words: &[&str],
     case: &Case<'_>,
-) -> Result<(Status, World), Fail> {
+) -> Result<(Status, MemoryWorld), Fail> {
     let words = owned(alloc, words)?;
     let mut world = world(alloc, case)?;
     let status = logstash(rt, alloc, &words, &mut world);

@@ -10,9 +10,13 @@ use Rattle.regex_meta.proofs.ProgramLemmas.{value_of_option_map}
 use Rattle.regex.proofs.SearchLemmas.{leftmost_here, leftmost_retry, leftmost_within, leftmost_attempt, inside_char}
 use Rattle.regex.proofs.Utf8Lemmas.{IsCharBoundary-of_test, match_ends_cleanly}
 
-module _ (re : Re) (hay : List ℕ) (at : ℕ) (s : ℕ × ℕ) (found : Some s ≡ option_map span (find re hay at)) where
+-- what a pattern finds that is now the same as it was
+module _ (re now : Re) (hay : List ℕ) (at : ℕ) (s : ℕ × ℕ) (found : Some s ≡ option_map span (find now hay at)) (same : now ≡ re) where
+  pub was_found : Some s ≡ option_map span (find re hay at)
+  was_found = found ∙ ap (λ p. option_map span (find p hay at)) same
+
   the_match : (m : Match) × (find re hay at ≡ Some m) × (span m ≡ s)
-  the_match = value_of_option_map span (find re hay at) s (sym found)
+  the_match = value_of_option_map span (find re hay at) s (sym was_found)
 
   starts : the_match.0.start ≡ s.0
   starts = ap (λ (x : ℕ × ℕ). x.0) the_match.2

@@ -8,8 +8,6 @@
 mod fault;
 mod pattern;
 mod searcher;
-#[cfg(test)]
-mod tests;
 
 pub use fault::PatternFault;
 pub use pattern::{Pattern, Patterns, Spans};

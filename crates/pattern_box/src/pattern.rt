@@ -10,7 +10,7 @@ ghost use Rattle.regex.specs.Utf8.{MatchesText, CutsCleanly, IsMatchSpan};
 
 use crate::fault::PatternFault;
 use crate::searcher::Searcher;
-use plain_lists::{Items, Text};
+use plain_data::{Items, Text};
 use regex_syntax::{Config, Parsed};
 use std::alloc::{AllocError, Global};
 
@@ -109,8 +109,10 @@ impl Pattern {
 
     // The span of the match after the one that ended at `after - 1`, or of the first match.
     fn next(&mut self, text: &str, after: usize) -> Option<(usize, usize)>
-        ensures found { result ≡ option_map span (next_match true (pattern_re self.old) text.now after) }
-        ensures within { IfSome result (λ s. LiesWithin (after - 1) (length text.now) s × (after ≤ s.1)) }
+        ensures found { result
+            ≡ option_map span (next_match true (pattern_re self.old) text.now after) }
+        ensures within { IfSome result
+            (λ s. LiesWithin (after - 1) (length text.now) s × (after ≤ s.1)) }
         ensures cuts { IfSome result (CutsCleanly text.now) }
         ensures same { IsSamePattern self.old self.new }
     {
@@ -225,7 +227,8 @@ fn group(hay: &[u8], whole: (usize, usize), cells: &[usize], index: usize) -> Op
 }
 
 fn append(replaced: &mut String, kept: &str, written: &str) -> Result<(), AllocError>
-    ensures { OnOk result (string_bytes replaced.new ≡ string_bytes replaced.old ++ (kept.now ++ written.now)) }
+    ensures { OnOk result
+        (string_bytes replaced.new ≡ string_bytes replaced.old ++ (kept.now ++ written.now)) }
 {
     replaced.push_str(kept)?;
     replaced.push_str(written)

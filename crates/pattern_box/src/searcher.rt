@@ -92,7 +92,8 @@ impl Searcher {
         requires width { length cells.old ≤ self.old.dfa.nfa.slot_count - 2 }
         ensures found { result ≡ option_map span
             (first_match self.old.dfa.nfa hay.now (length hay.now) start (length hay.now)) }
-        ensures cells { IfSome (first_match self.old.dfa.nfa hay.now (length hay.now) start (length hay.now))
+        ensures cells { IfSome
+            (first_match self.old.dfa.nfa hay.now (length hay.now) start (length hay.now))
             (λ m. cells.new ≡ group_cells m (length cells.old)) }
         ensures hir { self.new.hir ≡ self.old.hir }
         ensures dfa { self.new.dfa ≡ self.old.dfa }

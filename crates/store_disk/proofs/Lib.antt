@@ -1,5 +1,5 @@
 -- the lemmas that it hands on: how calls compose
-pub use Rattle.outside.proofs.Growth
-pub use Rattle.outside.proofs.Causes
-pub use Rattle.store_images.proofs.Moments
-pub use Rattle.store_images.proofs.Beside
+pub use Rattle.io_traits.proofs.Growth
+pub use Rattle.io_traits.proofs.Causes
+pub use Rattle.store_trait.proofs.Moments
+pub use Rattle.store_trait.proofs.Beside

@@ -1,6 +1,6 @@
 -- Why something that is kept in files of a store was not read, by the fault of a call below.
-use Rattle.outside.specs.declared.faults.ListFault.{ListFault}
-use Rattle.outside.specs.declared.faults.ListFault.TheVariants.{Failed as ListFailed, Memory as NoMemory}
+use Rattle.io_traits.specs.declared.faults.ListFault.{ListFault}
+use Rattle.io_traits.specs.declared.faults.ListFault.TheVariants.{Failed as ListFailed, Memory as NoMemory}
 use Rattle.store_disk.specs.declared.faults.QueueFault.{QueueFault}
 use Rattle.store_disk.specs.declared.faults.QueueFault.TheVariants.{Fault, Memory}
 

@@ -1,7 +1,7 @@
 ghost use Rattle.std.specs.Prelude.{◌≡◌};
 
-use outside::{Failed, ListFault};
-use plain_lists::Text;
+use io_traits::{Failed, ListFault};
+use plain_data::Text;
 use std::alloc::AllocError;
 
 /// What stands in a file in another way than its writer left it.

@@ -1,19 +1,14 @@
-use Rattle.std.proofs.Common.{◌≡◌, ◌∙◌, ◌+◌, ◌-◌, ◌++◌, ◌∷◌, [], ◌<◌, ◌≤◌, ℕ, List, false, suc, length, drop, get_or, Some, None, refl, sym, ap, subst, arith, append_assoc, rules, IfSome}
-use Rattle.std.proofs.lemmas.List.{drop_more}
+use Rattle.std.proofs.Common.{◌≡◌, ◌∙◌, ◌+◌, ◌-◌, ◌++◌, ◌∷◌, [], ◌<◌, ◌≤◌, ℕ, List, false, suc, length, drop, get_or, Some, None, sym, ap, subst, arith, append_assoc, rules, IfSome}
+use Rattle.std.proofs.lemmas.List.{append-nil, drop_all, drop_more}
 use Rattle.config_grammar.specs.Bytes.{skip}
 use Rattle.config_grammar.specs.Lexemes.{found, lexed, lexemes, placed, token_at, after_token}
 use Rattle.config_grammar.specs.declared.context.Context.{Context}
 use Rattle.config_grammar.specs.declared.token.Token.{Token}
 use Rattle.config_grammar.specs.declared.token.Token.TheVariants as t
 use Rattle.config_grammar.specs.declared.token.Lexeme.{Lexeme}
-use Rattle.config_grammar.proofs.Scans.{drop_all}
 use Rattle.config_grammar.proofs.Lexing.{lexed_next, lexed_end, lexed_zero}
 use Rattle.config_grammar.proofs.lexer.lexemes.Goals as goal
 use Rattle.config_grammar.proofs.lexer.lexemes.Goals.{else-loop-turns-test, then-loop-turns-test+then-place-bytes, then-loop-turns-test+else-place-bytes+in_ok-token+in_default+in_ok-push}
-
-append_nil : {A : Type 0} (xs : List A) → xs ≡ xs ++ []
-append_nil [] = refl
-append_nil (x ∷ xs) = ap (λ l. x ∷ l) (append_nil xs)
 
 -- one more token
 turned : (n at place len : ℕ) (x : Context) (y : Token) (text : List ℕ) (front all : List Lexeme) → place ≡ at + skip false (drop at text) → place < length text → token_at x (drop place text) ≡ Some (y, len)
@@ -71,11 +66,11 @@ returns c =
     elim c.loop-turns-test.branch [
       | else-loop-turns-test w ↦
           let z : c.loop-turns.turns ≡ 0 = omega (arith, w.loop-turns-test.false) in
-          w.found-is ∙ append_nil front ∙ ap (λ r. front ++ r) (sym (ap (λ m. lexed m at x text) z ∙ lexed_zero at x text)) ∙ c.loop-turns.invariant.same
+          w.found-is ∙ sym (append-nil front) ∙ ap (λ r. front ++ r) (sym (ap (λ m. lexed m at x text) z ∙ lexed_zero at x text)) ∙ c.loop-turns.invariant.same
       | then-loop-turns-test+then-place-bytes w ↦
           let e : w.skip-place.result ≡ at + skip false (drop at text) = w.skip-place.ensures.end ∙ ap (λ z. at + skip false (drop at z)) same in
-          let d : drop (at + skip false (drop at text)) text ≡ [] = drop_all text (at + skip false (drop at text)) (omega (arith, e, w.if-place-bytes.true, ap length same)) in
-          w.found-is ∙ append_nil front ∙ ap (λ r. front ++ r) (sym (lexed_end c.loop-turns.turns at x text d)) ∙ c.loop-turns.invariant.same
+          let d : drop (at + skip false (drop at text)) text ≡ [] = drop_all (at + skip false (drop at text)) text (omega (arith, e, w.if-place-bytes.true, ap length same)) in
+          w.found-is ∙ sym (append-nil front) ∙ ap (λ r. front ++ r) (sym (lexed_end c.loop-turns.turns at x text d)) ∙ c.loop-turns.invariant.same
       | then-loop-turns-test+else-place-bytes+in_ok-token+in_default+in_ok-push w ↦
           let place = w.skip-place.result in
           let e : place ≡ at + skip false (drop at text) = w.skip-place.ensures.end ∙ ap (λ z. at + skip false (drop at z)) same in

@@ -1,21 +1,12 @@
-use Rattle.std.proofs.Common.{◌≡◌, ◌∙◌, ◌++◌, ◌+◌, ◌-◌, ◌<◌, ◌≤◌, [], ◌∷◌, length, take, drop, get_or, sym, ap, subst, refl, arith, string_bytes, append_assoc, length-drop, ℕ, List, suc, zero, Bool, true, false, ◌==◌, ◌&&◌, rules}
+use Rattle.std.proofs.Common.{◌≡◌, ◌∙◌, ◌++◌, ◌+◌, ◌-◌, ◌<◌, ◌≤◌, [], length, take, drop, get_or, sym, ap, subst, arith, string_bytes, append_assoc, length-drop, ℕ, Bool, true, false, ◌==◌, ◌&&◌, rules}
 use Rattle.std.proofs.lemmas.Bool.Decides.{nat_tests}
+use Rattle.std.proofs.lemmas.List.{append-nil, take_all}
 use Rattle.std.specs.Str.{IsCharBoundary}
 use Rattle.std.proofs.lemmas.Str.{IsCharBoundary-after_ascii, IsCharBoundary-start}
-use Rattle.config_grammar.specs.Bytes.{unescaped, begins}
+use Rattle.config_grammar.specs.Bytes.{unescaped, begins_with}
 use Rattle.config_grammar.proofs.Scans.{unescaped_left, unescaped_kept, unescaped_ends, part_more}
 use Rattle.config_grammar.proofs.lexer.unescaped.Goals as goal
 use Rattle.config_grammar.proofs.lexer.unescaped.Goals.{then-is_escape+in_ok-push_str, else-is_escape}
-
-append_nil : (xs : List ℕ) → xs ++ [] ≡ xs
-append_nil [] = refl
-append_nil (x ∷ xs) = ap (λ l. x ∷ l) (append_nil xs)
-
-take_all : (xs : List ℕ) (n : ℕ) → length xs ≤ n → take n xs ≡ xs
-take_all [] zero h = refl
-take_all [] (suc n) h = refl
-take_all (x ∷ xs) zero h = absurd (omega arith)
-take_all (x ∷ xs) (suc n) h = ap (λ l. x ∷ l) (take_all xs n (omega arith))
 
 nothing : (a b : ℕ) → a ≡ b → a - b ≡ 0
 nothing a b h = omega (arith, h)
@@ -43,12 +34,12 @@ loop-at-preserved c =
     let inv = c.loop-at.invariant in
     let same : bytes ≡ text = c.as_bytes-bytes.ensures.value in
     let l : at < length text = omega (arith, ap length same, c.loop-at-test.true) in
-    let test : (get_or bytes at 0 == 92 && begins 47 (drop (at + 1) bytes)) ≡ (get_or text at 0 == 92 && begins 47 (drop (at + 1) text)) = ap (λ z. get_or z at 0 == 92 && begins 47 (drop (at + 1) z)) same in
+    let test : (get_or bytes at 0 == 92 && begins_with 47 (drop (at + 1) bytes)) ≡ (get_or text at 0 == 92 && begins_with 47 (drop (at + 1) text)) = ap (λ z. get_or z at 0 == 92 && begins_with 47 (drop (at + 1) z)) same in
     elim c.if-is_escape.branch [
       | then-is_escape+in_ok-push_str w ↦
           let t = sym test ∙ sym c.is_escape.ensures ∙ w.if-is_escape.true in
           let e : at + 1 ≡ c.if-is_escape.from = sym w.from-is in
-          let some : get_or text at 0 < 128 = omega (arith, first_is (get_or text at 0) (begins 47 (drop (at + 1) text)) t) in
+          let some : get_or text at 0 < 128 = omega (arith, first_is (get_or text at 0) (begins_with 47 (drop (at + 1) text)) t) in
           let made : string_bytes c.if-is_escape.made ≡ string_bytes c.loop-at.made ++ take (at - c.loop-at.from) (drop c.loop-at.from text) =
           ap string_bytes w.made-is ∙ w.in_ok-push_str.ensures.bytes ∙ ap (λ z. string_bytes c.loop-at.made ++ z) w.range.ensures.value in
           let none : take (at + 1 - c.if-is_escape.from) (drop c.if-is_escape.from text) ≡ [] = ap (λ k. take k (drop c.if-is_escape.from text)) (nothing (at + 1) c.if-is_escape.from e) in
@@ -80,6 +71,6 @@ returns c =
     let f = c.loop-at.from in
     let l : length text ≤ at = omega (arith, ap length c.as_bytes-bytes.ensures.value, c.loop-at-test.false) in
     let n : length (drop f text) ≤ at - f = omega (arith, l, length-drop f text) in
-    c.from_string.ensures ∙ c.in_ok-push_str-2.ensures.bytes ∙ ap (λ z. string_bytes c.loop-at.made ++ z) (c.range_from.ensures.value ∙ sym (append_nil (drop f text)))
-    ∙ ap (λ z. string_bytes c.loop-at.made ++ (z ++ [])) (sym (take_all (drop f text) (at - f) n))
+    c.from_string.ensures ∙ c.in_ok-push_str-2.ensures.bytes ∙ ap (λ z. string_bytes c.loop-at.made ++ z) (c.range_from.ensures.value ∙ sym (append-nil (drop f text)))
+    ∙ ap (λ z. string_bytes c.loop-at.made ++ (z ++ [])) (sym (take_all (at - f) (drop f text) n))
     ∙ ap (λ z. string_bytes c.loop-at.made ++ (take (at - f) (drop f text) ++ z)) (sym (unescaped_ends text at l)) ∙ c.loop-at.invariant.same

@@ -2,8 +2,8 @@ use Rattle.std.proofs.Common.{◌≡◌, ℕ, List, refl}
 use Rattle.config_grammar.specs.Lexemes.{tokens, place_of}
 use Rattle.config_laws.specs.Answers.{Answer, reads, syntax, deep}
 use Rattle.config_laws.specs.Machine.{verdict}
-use Rattle.config_laws.specs.declared.symbol.Verdict.{Verdict}
-use Rattle.config_laws.specs.declared.symbol.Verdict.TheVariants as is
+use Rattle.config_laws.specs.Verdicts.{Verdict}
+use Rattle.config_laws.specs.Verdicts as is
 use Rattle.config_laws.proofs.Taken.{taken}
 use Rattle.config_laws.proofs.Deep.{is_syntax, is_deep}
 use Rattle.config_laws.proofs.laws.has_an_answer.Goals as goal

@@ -5,8 +5,8 @@ use Rattle.config_grammar.specs.Grammar.{ReadsConfig}
 use Rattle.config_grammar.specs.Joining.{empty}
 use Rattle.config_laws.specs.Machine.{verdict}
 use Rattle.config_laws.specs.Trees.{made}
-use Rattle.config_laws.specs.declared.symbol.Symbol.TheVariants as y
-use Rattle.config_laws.specs.declared.symbol.Verdict.TheVariants as is
+use Rattle.config_laws.specs.Symbols as y
+use Rattle.config_laws.specs.Verdicts as is
 use Rattle.config_laws.proofs.Trees.{outcome, run_told}
 use Rattle.config_laws.proofs.Takes.{take_sections, ok_is}
 use Rattle.config_laws.proofs.Taken.{taken}

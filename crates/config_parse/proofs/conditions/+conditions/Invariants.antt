@@ -1,6 +1,6 @@
 use Rattle.std.proofs.Common.{◌≡◌, length, ℕ, ◌+◌, ◌*◌, ◌≤◌}
-use Rattle.config_reading.specs.Read as spec
-use Rattle.config_reading.specs.Seen.{seen}
+use Rattle.config_parse.specs.Read as spec
+use Rattle.config_parse.specs.Seen.{tokens_of}
 use Rattle.config_parse.proofs.conditions.+conditions.Given as goal
 
 abbrev pub decreases-unary : goal.decreases-unary
@@ -19,15 +19,15 @@ abbrev pub decreases-condition : goal.decreases-condition
 decreases-condition l = 5 * l.depth + 4
 
 abbrev pub invariant-ands-loop-token : goal.invariant-ands-loop-token
-invariant-ands-loop-token l = (n : ℕ) × (length (seen l.rest) ≤ n)
-    × (spec.ands (spec.unary l.depth) n l.left (seen l.rest) ≡ spec.ands (spec.unary l.depth) (length (seen l.fn.tokens)) l.fn.front (seen l.fn.tokens))
+invariant-ands-loop-token l = (n : ℕ) × (length (tokens_of l.rest) ≤ n)
+    × (spec.ands (spec.unary l.depth) n l.left (tokens_of l.rest) ≡ spec.ands (spec.unary l.depth) (length (tokens_of l.fn.tokens)) l.fn.front (tokens_of l.fn.tokens))
 
 abbrev pub decreases-ands-loop-token : goal.decreases-ands-loop-token
-decreases-ands-loop-token l = length (seen l.rest)
+decreases-ands-loop-token l = length (tokens_of l.rest)
 
 abbrev pub invariant-ors-loop-token : goal.invariant-ors-loop-token
-invariant-ors-loop-token l = (n : ℕ) × (length (seen l.rest) ≤ n)
-    × (spec.ors (spec.unary l.depth) n l.left (seen l.rest) ≡ spec.ors (spec.unary l.depth) (length (seen l.fn.tokens)) l.fn.front (seen l.fn.tokens))
+invariant-ors-loop-token l = (n : ℕ) × (length (tokens_of l.rest) ≤ n)
+    × (spec.ors (spec.unary l.depth) n l.left (tokens_of l.rest) ≡ spec.ors (spec.unary l.depth) (length (tokens_of l.fn.tokens)) l.fn.front (tokens_of l.fn.tokens))
 
 abbrev pub decreases-ors-loop-token : goal.decreases-ors-loop-token
-decreases-ors-loop-token l = length (seen l.rest)
+decreases-ors-loop-token l = length (tokens_of l.rest)

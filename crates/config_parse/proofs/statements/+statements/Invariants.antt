@@ -1,6 +1,6 @@
 use Rattle.std.proofs.Common.{◌≡◌, [], length, ℕ, ◌+◌, ◌*◌, ◌≤◌}
-use Rattle.config_reading.specs.Read as spec
-use Rattle.config_reading.specs.Seen.{seen}
+use Rattle.config_parse.specs.Read as spec
+use Rattle.config_parse.specs.Seen.{tokens_of}
 use Rattle.config_parse.proofs.statements.+statements.Given as goal
 
 abbrev pub decreases-block : goal.decreases-block
@@ -19,17 +19,17 @@ abbrev pub decreases-statements : goal.decreases-statements
 decreases-statements l = 5 * l.depth + 4
 
 abbrev pub invariant-otherwise-loop-token : goal.invariant-otherwise-loop-token
-invariant-otherwise-loop-token l = (n : ℕ) × (length (seen l.rest) ≤ n)
-    × (spec.otherwise (spec.condition (spec.unary l.depth)) (spec.block l.depth) n l.found (seen l.rest)
-    ≡ spec.otherwise (spec.condition (spec.unary l.depth)) (spec.block l.depth) (length (seen l.fn.tokens)) l.fn.front (seen l.fn.tokens))
+invariant-otherwise-loop-token l = (n : ℕ) × (length (tokens_of l.rest) ≤ n)
+    × (spec.otherwise (spec.condition (spec.unary l.depth)) (spec.block l.depth) n l.found (tokens_of l.rest)
+    ≡ spec.otherwise (spec.condition (spec.unary l.depth)) (spec.block l.depth) (length (tokens_of l.fn.tokens)) l.fn.front (tokens_of l.fn.tokens))
 
 abbrev pub decreases-otherwise-loop-token : goal.decreases-otherwise-loop-token
-decreases-otherwise-loop-token l = length (seen l.rest)
+decreases-otherwise-loop-token l = length (tokens_of l.rest)
 
 abbrev pub invariant-statements-loop-token : goal.invariant-statements-loop-token
-invariant-statements-loop-token l = (n : ℕ) × (length (seen l.rest) ≤ n)
-    × (spec.statements (spec.plugin l.depth) (spec.condition (spec.unary l.depth)) (spec.block l.depth) n l.found (seen l.rest)
-    ≡ spec.statements (spec.plugin l.depth) (spec.condition (spec.unary l.depth)) (spec.block l.depth) (length (seen l.fn.tokens)) [] (seen l.fn.tokens))
+invariant-statements-loop-token l = (n : ℕ) × (length (tokens_of l.rest) ≤ n)
+    × (spec.statements (spec.plugin l.depth) (spec.condition (spec.unary l.depth)) (spec.block l.depth) n l.found (tokens_of l.rest)
+    ≡ spec.statements (spec.plugin l.depth) (spec.condition (spec.unary l.depth)) (spec.block l.depth) (length (tokens_of l.fn.tokens)) [] (tokens_of l.fn.tokens))
 
 abbrev pub decreases-statements-loop-token : goal.decreases-statements-loop-token
-decreases-statements-loop-token l = length (seen l.rest)
+decreases-statements-loop-token l = length (tokens_of l.rest)

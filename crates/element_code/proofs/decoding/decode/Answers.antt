@@ -1,9 +1,9 @@
 use Rattle.std.proofs.Common.{ap, sym, ◌∙◌, subst, arith, rules}
+use Rattle.byte_reader.proofs.Fronts.{ok_is}
 use Rattle.element_code.specs.Faults.{IsRefusedAt}
 use Rattle.element_code.specs.Reading.{event_at}
 use Rattle.element_code.proofs.Sound.{event_sound}
 use Rattle.element_code.proofs.Again.{event_again}
-use Rattle.element_code.proofs.Runs.{ok_is}
 use Rattle.element_code.proofs.EventPlaces.{event_stops}
 use Rattle.element_code.proofs.decoding.decode.Goals as goal
 

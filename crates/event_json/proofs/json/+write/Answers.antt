@@ -1,8 +1,8 @@
-use Rattle.std.proofs.Common.{◌<◌, [], ◌∷◌, length, map, false, arith, ap, subst, ◌∙◌, OnOk}
+use Rattle.std.proofs.Common.{◌≡◌, ◌<◌, [], ◌∷◌, ◌++◌, length, map, false, arith, ap, subst, ◌∙◌, OnOk}
 use Rattle.event_tree.specs.Values.{on_values}
-use Rattle.event_json.specs.Json.{json, items_json, members_json}
+use Rattle.event_json.specs.Json.{json, quoted, items_json, members_json}
 use Rattle.event_tree.specs.Adds.{Adds}
-use Rattle.event_json.proofs.Jsons.{json-List, json-Object}
+use Rattle.event_json.proofs.Jsons.{json-List, json-Object, items_on, members_on}
 use Rattle.event_tree.proofs.Depths.{falls_member}
 use Rattle.event_tree.proofs.Adding.{keeps_on}
 use Rattle.event_json.proofs.Written.{keeps_err, keeps_after, adds_two}
@@ -43,3 +43,24 @@ add_value-returns-in_ok-add_text-in-List-clause-ok t c = adds_two c.add_items.re
 
 pub add_value-returns-in_ok-add_text-in-Object-clause-ok : goal.add_value-returns-in_ok-add_text-in-Object-clause-ok
 add_value-returns-in_ok-add_text-in-Object-clause-ok t c = adds_two c.add_members.result (123 ∷ []) (members_json false (on_values json c.in-Object.fields)) _ c.args.to.now.items c.add_text-in-Object.new.to.items c.add_members.new.to.items (ap json c.in-Object.is ∙ json-Object c.in-Object.fields) c.in_ok-add_text-in-Object.ensures.ok (subst (λ s. OnOk c.add_members.result (Adds (members_json false (on_values json s)) c.add_text-in-Object.new.to.items c.add_members.new.to.items)) c.members.ensures.same c.add_members.ensures.ok)
+
+pub add_items-loop-item-preserved : goal.add_items-loop-item-preserved
+add_items-loop-item-preserved t c =
+    let lt : c.loop-item.item-index < length c.args.items.now = omega (arith, c.loop-item-test.true) in
+    record {
+      rest = items_on c.args.items.now c.loop-item.item-index c.loop-item.later c.item-item.result c.loop-item.to.items c.add_comma.new.to.items c.add_value.new.to.items _ lt c.item-item.is c.in_ok-add_comma.ensures.ok c.in_ok-add_value.ensures.ok c.loop-item.invariant.rest;
+      keeps = keeps_on c.args.to.now.items c.loop-item.to.items c.add_value.new.to.items c.loop-item.invariant.keeps (keeps_on c.loop-item.to.items c.add_comma.new.to.items c.add_value.new.to.items (_, c.in_ok-add_comma.ensures.ok) (_, c.in_ok-add_value.ensures.ok));
+      utf8 = λ u. c.in_ok-add_value.ensures.utf8 (c.in_ok-add_comma.ensures.utf8 (c.loop-item.invariant.utf8 u));
+    }
+
+pub add_members-loop-member-preserved : goal.add_members-loop-member-preserved
+add_members-loop-member-preserved t c =
+    let lt : c.loop-member.member-index < length c.args.members.now = omega (arith, c.loop-member-test.true) in
+    let m = c.member-item.result in
+    let keyed : c.add_quoted.new.to.items ≡ c.add_comma.new.to.items ++ quoted m.0 = c.in_ok-add_quoted.ensures.ok ∙ ap (λ k. c.add_comma.new.to.items ++ quoted k) c.as_str.ensures in
+    record {
+      rest = members_on c.args.members.now c.loop-member.member-index c.loop-member.later m c.loop-member.to.items c.add_comma.new.to.items c.add_quoted.new.to.items c.add_text.new.to.items c.add_value.new.to.items _ lt c.member-item.is c.in_ok-add_comma.ensures.ok keyed c.in_ok-add_text.ensures.ok c.in_ok-add_value.ensures.ok c.loop-member.invariant.rest;
+      keeps = keeps_on c.args.to.now.items c.loop-member.to.items c.add_value.new.to.items c.loop-member.invariant.keeps (keeps_on c.loop-member.to.items c.add_comma.new.to.items c.add_value.new.to.items (_, c.in_ok-add_comma.ensures.ok)
+          (keeps_on c.add_comma.new.to.items c.add_quoted.new.to.items c.add_value.new.to.items (_, keyed) (keeps_on c.add_quoted.new.to.items c.add_text.new.to.items c.add_value.new.to.items (_, c.in_ok-add_text.ensures.ok) (_, c.in_ok-add_value.ensures.ok))));
+      utf8 = λ u. c.in_ok-add_value.ensures.utf8 (c.in_ok-add_text.ensures.utf8 (c.in_ok-add_quoted.ensures.utf8 (c.in_ok-add_comma.ensures.utf8 (c.loop-member.invariant.utf8 u))));
+    }

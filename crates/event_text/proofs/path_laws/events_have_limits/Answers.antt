@@ -13,9 +13,9 @@ pub returns-clause-deep : goal.returns-clause-deep
 returns-clause-deep c event deep = let t : nat_lt 128 (event_depth event) ≡ true = grind (arith, nat_tests) in rw t refl
 
 pub returns-clause-large : goal.returns-clause-large
-returns-clause-large c event shallow large = let t : nat_lt 128 (event_depth event) ≡ false = grind (arith, nat_tests) in
+returns-clause-large c event (shallow, large) = let t : nat_lt 128 (event_depth event) ≡ false = grind (arith, nat_tests) in
     let u : nat_lt 16777216 (event_size event) ≡ true = grind (arith, nat_tests) in rw (t, u) refl
 
 pub returns-clause-put : goal.returns-clause-put
-returns-clause-put c event shallow small = let t : nat_lt 128 (event_depth event) ≡ false = grind (arith, nat_tests) in
+returns-clause-put c event (shallow, small) = let t : nat_lt 128 (event_depth event) ≡ false = grind (arith, nat_tests) in
     let u : nat_lt 16777216 (event_size event) ≡ false = grind (arith, nat_tests) in rw (t, u) refl

@@ -2,7 +2,7 @@ use Rattle.std.proofs.Common.{◌≡◌, Some, option_map, sym, ap, subst, ◌�
 use Rattle.event_tree.specs.PathTexts.{way_of, IsPathFault}
 use Rattle.event_text.specs.PathReading.{way_in}
 use Rattle.event_text.proofs.PathReads.{path_text, empty_fault, unclosed_fault, stray_fault}
-use Rattle.event_text.specs.declared.template.Piece.TheVariants as p
+use Rattle.event_text.specs.declared.template.TemplatePart.TheVariants as p
 use Rattle.event_text.proofs.template.read_field.Goals as goal
 
 pub returns-in_ok-of-in-Ok : goal.returns-in_ok-of-in-Ok

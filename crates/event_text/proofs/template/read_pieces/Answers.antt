@@ -1,7 +1,7 @@
 use Rattle.std.proofs.Common.{◌≡◌, ◌++◌, drop, Some, None, sym, ap, subst, ◌∙◌, arith}
 use Rattle.std.specs.Option.{IfSome}
 use Rattle.std.proofs.lemmas.Str.{IsCharBoundary-start}
-use Rattle.event_text.specs.Template.{placeholder, pieces_of, IsPlaced}
+use Rattle.event_text.specs.Template.{placeholder, template_parts, IsPlaced}
 use Rattle.event_text.proofs.Scans.{next_plain, next_place, last_plain}
 use Rattle.event_text.proofs.template.read_pieces.Goals as goal
 
@@ -10,7 +10,7 @@ loop-at-init c = record {
   within = omega arith;
   behind = omega arith;
   boundary = IsCharBoundary-start c.args.text.now c.utf8.text;
-  rest = ap (λ ps. ps ++ pieces_of c.args.text.now) (sym c.new-pieces.ensures);
+  rest = ap (λ ps. ps ++ template_parts c.args.text.now) (sym c.new-pieces.ensures);
 }
 
 pub loop-at-preserved-in-Some : goal.loop-at-preserved-in-Some
@@ -25,7 +25,7 @@ loop-at-preserved-in-Some c =
       within = place.1;
       behind = omega arith;
       boundary = place.3;
-      rest = next_place (pieces_of text) c.loop-at.pieces c.add_plain.new.pieces c.push.new.self text c.range.result.now c.loop-at.plain at n c.in-Some.piece c.loop-at-test.true place.0 found c.range.ensures.value c.in_ok-add_plain-in-Some.ensures c.in_ok-push-in-Some.ensures.ok i.rest;
+      rest = next_place (template_parts text) c.loop-at.pieces c.add_plain.new.pieces c.push.new.self text c.range.result.now c.loop-at.plain at n c.in-Some.piece c.loop-at-test.true place.0 found c.range.ensures.value c.in_ok-add_plain-in-Some.ensures c.in_ok-push-in-Some.ensures.ok i.rest;
     }
 
 pub loop-at-preserved : goal.loop-at-preserved
@@ -38,11 +38,11 @@ loop-at-preserved c =
       within = omega (arith, c.loop-at-test.true);
       behind = omega (arith, i.behind);
       boundary = i.boundary;
-      rest = next_plain (pieces_of text) c.loop-at.pieces text c.loop-at.plain at i.behind c.loop-at-test.true none i.rest;
+      rest = next_plain (template_parts text) c.loop-at.pieces text c.loop-at.plain at i.behind c.loop-at-test.true none i.rest;
     }
 
 pub returns : goal.returns
 returns c =
     let text = c.args.text.now in
     let i = c.loop-at.invariant in
-    last_plain (pieces_of text) c.loop-at.pieces c.add_plain-2.new.pieces text c.range_from.result.now c.loop-at.plain c.loop-at.at i.behind (omega (arith, c.loop-at-test.false, i.within)) c.range_from.ensures.value c.in_ok-add_plain.ensures i.rest
+    last_plain (template_parts text) c.loop-at.pieces c.add_plain-2.new.pieces text c.range_from.result.now c.loop-at.plain c.loop-at.at i.behind (omega (arith, c.loop-at-test.false, i.within)) c.range_from.ensures.value c.in_ok-add_plain.ensures i.rest

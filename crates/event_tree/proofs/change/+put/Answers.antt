@@ -1,7 +1,7 @@
 use Rattle.std.proofs.Common.{◌≡◌, length, Some, sym, ap, ◌∙◌, slice_get}
 use Rattle.std.specs.Option.{option_copied_mut}
-use Rattle.plain_lists.specs.Members.{get_member}
-use Rattle.event_tree.specs.Paths.{place, wrap}
+use Rattle.plain_data.specs.Members.{get_member}
+use Rattle.event_tree.specs.Paths.{list_place, wrap}
 use Rattle.event_tree.proofs.Puts.{puts_member, puts_item}
 use Rattle.event_tree.proofs.change.+put.Goals as goal
 
@@ -17,6 +17,6 @@ put_item-returns-in-Some-get_mut t c =
     let vs = c.args.items.now in
     let p = c.args.part.now in
     let i = c.in-Some.index in
-    let at : place p (length vs) ≡ Some i = ap (place p) (sym c.len.ensures) ∙ ap (λ s. place s c.len.result) (sym c.as_str.ensures) ∙ sym c.place_in.ensures.exact ∙ c.in-Some.is in
+    let at : list_place p (length vs) ≡ Some i = ap (list_place p) (sym c.len.ensures) ∙ ap (λ s. list_place s c.len.result) (sym c.as_str.ensures) ∙ sym c.place_in.ensures.exact ∙ c.in-Some.is in
     let found : slice_get vs i ≡ Some c.in-Some-get_mut.inner.now = sym c.get_mut.ensures.value ∙ ap option_copied_mut c.in-Some-get_mut.is in
     puts_item c.put_in.result p c.args.rest.now c.args.value (wrap c.args.rest.now c.args.value) vs i c.in-Some-get_mut.inner.now c.put_in.new.target at found c.put_in.ensures

@@ -1,7 +1,7 @@
 use Rattle.std.proofs.Common.{◌≡◌, ◌<◌, length, Some, refl, sym, ap, ◌∙◌, arith, rules, slice_get, remove}
 use Rattle.std.specs.Option.{option_map, option_copied_mut}
-use Rattle.plain_lists.specs.Members.{get_member, remove_member}
-use Rattle.event_tree.specs.Paths.{place}
+use Rattle.plain_data.specs.Members.{get_member, remove_member}
+use Rattle.event_tree.specs.Paths.{list_place}
 use Rattle.event_tree.specs.Sizes.{size}
 use Rattle.event_tree.specs.declared.value.Value.TheVariants as v
 use Rattle.event_tree.proofs.Sizes.{size-List, size-Object, items_size-remove, members_size-remove}
@@ -42,7 +42,7 @@ take_item-returns-then-index-len-clause-taken t c =
     let vs = c.args.items.now in
     let p = c.args.part.now in
     let i = c.in-Some.index in
-    let at : place p (length vs) ≡ Some i = ap (place p) (sym c.len.ensures) ∙ ap (λ s. place s c.len.result) (sym c.as_str.ensures) ∙ sym c.place_in.ensures.exact ∙ c.in-Some.is in
+    let at : list_place p (length vs) ≡ Some i = ap (list_place p) (sym c.len.ensures) ∙ ap (λ s. list_place s c.len.result) (sym c.as_str.ensures) ∙ sym c.place_in.ensures.exact ∙ c.in-Some.is in
     (takes_no_item p c.args.rest.now vs i at (omega arith), refl)
 
 pub take_item-returns-then-is_empty-clause-shorter : goal.take_item-returns-then-is_empty-clause-shorter
@@ -58,7 +58,7 @@ take_item-returns-in-Some-get_mut-clause-taken t c =
     let p = c.args.part.now in
     let i = c.in-Some.index in
     let n : 0 < length c.args.rest.now = search rules in
-    let at : place p (length vs) ≡ Some i = ap (place p) (sym c.len.ensures) ∙ ap (λ s. place s c.len.result) (sym c.as_str.ensures) ∙ sym c.place_in.ensures.exact ∙ c.in-Some.is in
+    let at : list_place p (length vs) ≡ Some i = ap (list_place p) (sym c.len.ensures) ∙ ap (λ s. list_place s c.len.result) (sym c.as_str.ensures) ∙ sym c.place_in.ensures.exact ∙ c.in-Some.is in
     let found : slice_get vs i ≡ Some c.in-Some-get_mut.inner.now = sym c.get_mut.ensures.value ∙ ap option_copied_mut c.in-Some-get_mut.is in
     takes_through_item (option_map (λ cut. cut.value) c.take_in.result) p c.args.rest.now vs i c.in-Some-get_mut.inner.now c.take_in.new.target n at found c.take_in.ensures.taken
 

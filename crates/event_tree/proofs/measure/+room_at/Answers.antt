@@ -1,6 +1,6 @@
 use Rattle.std.proofs.Common.{◌≡◌, Some, sym, ap, ◌∙◌, arith, rules, slice_get}
 use Rattle.std.specs.Option.{option_copied}
-use Rattle.plain_lists.specs.Members.{get_member}
+use Rattle.plain_data.specs.Members.{get_member}
 use Rattle.event_tree.specs.Sizes.{size}
 use Rattle.event_tree.specs.declared.value.Value.TheVariants as v
 use Rattle.event_tree.proofs.Sizes.{size-List, size-Object, items_size-get, members_size-get}

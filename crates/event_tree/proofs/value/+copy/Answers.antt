@@ -1,5 +1,5 @@
 use Rattle.std.proofs.Common.{◌<◌, length, arith}
-use Rattle.plain_lists.proofs.MemberLemmas.{below_next}
+use Rattle.plain_data.proofs.MemberLemmas.{below_next}
 use Rattle.event_tree.proofs.Depths.{falls_member}
 use Rattle.event_tree.proofs.value.+copy.Goals as goal
 

@@ -1,6 +1,6 @@
 use Rattle.std.proofs.Common.{◌++◌, ◌∙◌}
-use Rattle.outside.proofs.Growth.{grows_then}
-use Rattle.outside.proofs.Causes.{cause_from}
+use Rattle.io_traits.proofs.Growth.{grows_then}
+use Rattle.io_traits.proofs.Causes.{cause_from}
 use Rattle.logstash_top.proofs.PartsLemmas.{next_part, part_more, in_next_part}
 use Rattle.logstash_top.proofs.parts.write_parts.Goals as goal
 

@@ -1,5 +1,5 @@
 use Rattle.std.proofs.Common.{◌≡◌, ◌++◌, ℕ, List, drop}
-use Rattle.outside.specs.Telling.{Grows}
+use Rattle.io_traits.specs.Telling.{Grows}
 use Rattle.logstash_top.specs.Parts.{parts_text}
 use Rattle.logstash_top.proofs.parts.write_parts.Given as goal
 

@@ -1,7 +1,7 @@
 use Rattle.std.proofs.Common.{◌≡◌, ◌++◌, [], ◌∷◌, false, take, refl, sym, ap, ◌∙◌, arith, append-nil}
-use Rattle.outside.specs.Pieces.{Came, End, Nothing}
-use Rattle.outside.proofs.Growth.{grows_same, grows_by, grows_then, grows_still, shrinks_by, in_part_none}
-use Rattle.outside.proofs.Causes.{cause_from, cause_of, no_cause}
+use Rattle.io_traits.specs.Pieces.{Came, End, Nothing}
+use Rattle.io_traits.proofs.Growth.{grows_same, grows_by, grows_then, grows_still, shrinks_by, in_part_none}
+use Rattle.io_traits.proofs.Causes.{cause_from, cause_of, no_cause}
 use Rattle.in_lines.specs.Polls.{rest_through}
 use Rattle.in_lines.specs.Events.{events_of}
 use Rattle.in_lines.specs.Rows.{out_bytes}

@@ -1,5 +1,5 @@
 use Rattle.std.proofs.Common.{◌≡◌, List, false}
-use Rattle.outside.specs.Telling.{Grows}
+use Rattle.io_traits.specs.Telling.{Grows}
 use Rattle.in_lines.specs.Polls.{Poll, is_ended, rest_through}
 use Rattle.in_lines.specs.Events.{events_of}
 use Rattle.in_lines.specs.Rows.{out_bytes}

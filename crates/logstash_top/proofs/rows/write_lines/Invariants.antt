@@ -1,6 +1,6 @@
 use Rattle.std.proofs.Common.{◌≡◌, ◌++◌, ℕ, false, List, length}
 use Rattle.byte_lines.specs.Unread.{lines_left, rest_of}
-use Rattle.outside.specs.Telling.{Grows}
+use Rattle.io_traits.specs.Telling.{Grows}
 use Rattle.logstash_top.specs.Rows.{rows_at}
 use Rattle.logstash_top.proofs.rows.write_lines.Given as goal
 

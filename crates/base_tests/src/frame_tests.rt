@@ -1,0 +1,111 @@
+use crate::bitwise::crc32_bitwise;
+use crc_frame::{Slot, crc32, frame, newest, unframe};
+use std::test::Fail;
+
+// The frame of the element 5 with the body `k`.
+const SMALL: [u8; 17] = [
+    0x00, 0x00, 0x00, 0x00, 0x00, 0x00, 0x00, 0x05, 0x00, 0x00, 0x00, 0x01, 0x6B, 0x9C, 0xC2, 0x5E,
+    0xA0,
+];
+
+#[test]
+fn computes_known_crcs(rt: HostRuntime) {
+    let known: [(&[u8], u32); 8] = [
+        (b"", 0),
+        (b"a", 0xE8B7_BE43),
+        (b"1234567", 0x5003_699F),
+        (b"12345678", 0x9AE0_DAAF),
+        (b"123456789", 0xCBF4_3926),
+        (b"The quick brown fox jumps over the lazy dog", 0x414F_A339),
+        (&[0; 32], 0x190A_55AD),
+        (&[0xFF; 17], 0x025D_4ABC),
+    ];
+    for (bytes, crc) in known {
+        assert_eq!(rt; crc32(bytes), crc, "of {bytes:?}");
+        assert_eq!(rt; crc32_bitwise(bytes), crc, "of {bytes:?}");
+    }
+}
+
+#[test]
+fn reads_frames_back(rt: HostRuntime) -> Result<(), Fail> {
+    let mut bytes = Vec::new(rt.alloc());
+    frame(5, b"k", &mut bytes)?;
+    assert_eq!(rt; bytes.as_slice(), SMALL.as_slice());
+    frame(u64::MAX, b"", &mut bytes)?;
+    bytes.extend_from_slice(b"and more")?;
+
+    let first = unframe(&bytes).ok_or("no first frame")?;
+    assert_eq!(rt; first.number, 5);
+    assert_eq!(rt; first.body, b"k".as_slice());
+    assert_eq!(rt; first.total, 17);
+    let second = unframe(&bytes[first.total..]).ok_or("no second frame")?;
+    assert_eq!(rt; second.number, u64::MAX);
+    assert_eq!(rt; second.body, b"".as_slice());
+    assert_eq!(rt; second.total, 16);
+    assert!(rt; unframe(b"and more").is_none());
+    Ok(())
+}
+
+#[test]
+fn refuses_frames_cut_or_changed(rt: HostRuntime) {
+    for len in 0..SMALL.len() {
+        assert!(rt; unframe(&SMALL[..len]).is_none(), "of {len} bytes");
+    }
+    for place in 0..SMALL.len() {
+        for bit in 0..u8::BITS {
+            let mut changed = SMALL;
+            changed[place] ^= 1 << bit;
+            assert!(rt;
+                unframe(&changed).is_none(),
+                "with bit {bit} of byte {place} changed"
+            );
+        }
+    }
+}
+
+// Slots of 14 bytes with the version 1, which say nothing but their turn.
+const NO_SLOT: [u8; 14] = [0; 14];
+
+const TURN_0: [u8; 14] = [0, 1, 0, 0, 0, 0, 0, 0, 0, 0, 0xF4, 0xF1, 0x7C, 0x35];
+
+const TURN_1: [u8; 14] = [0, 1, 0, 0, 0, 0, 0, 0, 0, 1, 0x83, 0xF6, 0x4C, 0xA3];
+
+const TURN_2: [u8; 14] = [0, 1, 0, 0, 0, 0, 0, 0, 0, 2, 0x1A, 0xFF, 0x1D, 0x19];
+
+const LAST_TURN: [u8; 14] = [
+    0, 1, 0xFF, 0xFF, 0xFF, 0xFF, 0xFF, 0xFF, 0xFF, 0xFF, 0xB0, 0x97, 0x7C, 0x40,
+];
+
+fn file_of(first: [u8; 14], second: [u8; 14]) -> [u8; 28] {
+    let mut file = [0; 28];
+    file[..14].copy_from_slice(&first);
+    file[14..].copy_from_slice(&second);
+    file
+}
+
+#[test]
+fn finds_the_newest_slot(rt: HostRuntime) {
+    let cases = [
+        (NO_SLOT, NO_SLOT, None),
+        (TURN_0, NO_SLOT, Some(Slot { turn: 0, place: 0 })),
+        (TURN_0, TURN_1, Some(Slot { turn: 1, place: 14 })),
+        (TURN_2, TURN_1, Some(Slot { turn: 2, place: 0 })),
+        (NO_SLOT, TURN_1, Some(Slot { turn: 1, place: 14 })),
+        (TURN_1, TURN_2, None),
+        (TURN_0, LAST_TURN, Some(Slot { turn: 0, place: 0 })),
+        (
+            TURN_2,
+            LAST_TURN,
+            Some(Slot {
+                turn: u64::MAX,
+                place: 14,
+            }),
+        ),
+    ];
+    for (first, second, slot) in cases {
+        let file = file_of(first, second);
+        assert_eq!(rt; newest(&file, 14), slot, "of {first:?} and {second:?}");
+    }
+    assert_eq!(rt; newest(&TURN_0, 14), Some(Slot { turn: 0, place: 0 }));
+    assert_eq!(rt; newest(&TURN_0[..13], 14), None);
+}

@@ -1,0 +1,112 @@
+use plain_data::{Fields, Items, Text};
+use std::alloc::{AllocError, Global};
+use std::test::Fail;
+
+fn fields_of(alloc: Global, members: &[(&str, u32)]) -> Result<Fields<u32>, AllocError> {
+    let mut fields = Fields::new(alloc);
+    for (key, value) in members {
+        let _ = fields.insert(Text::of(alloc, key)?, *value)?;
+    }
+    Ok(fields)
+}
+
+fn has_members(fields: &Fields<u32>, members: &[(&str, u32)]) -> bool {
+    for (left, right) in fields.members().iter().zip(members) {
+        if left.0.as_str() != right.0 || left.1 != right.1 {
+            return false;
+        }
+    }
+    fields.len() == members.len()
+}
+
+#[test]
+fn texts_are_ordered_by_their_bytes(rt: HostRuntime) -> Result<(), Fail> {
+    // Sorted by their bytes in UTF-8, each below the next.
+    let sorted = ["", "B", "a", "a\0", "ab", "b", "z", "é", "日", "𝄞"];
+    let mut last = Text::of(rt.alloc(), "")?;
+    for word in &sorted[1..] {
+        let text = Text::of(rt.alloc(), word)?;
+        assert!(rt; last < text && last != text, "{last:?} to {text:?}");
+        last = text.clone()?;
+        assert!(rt; last == text, "{text:?}");
+    }
+    Ok(())
+}
+
+#[test]
+fn texts_are_written_as_strings_are(rt: HostRuntime) -> Result<(), Fail> {
+    let text = Text::from_string(String::from_str(rt.alloc(), "é\"")?).copy()?;
+    assert_eq!(rt; text.len(), 3);
+    assert!(rt; !text.is_empty());
+    assert_eq!(rt;
+        format!(in rt.alloc(); "{text}|{text:?}|{text:>4}")?.as_str(),
+        "é\"|\"é\\\"\"|  é\""
+    );
+    assert_eq!(rt; text.into_string().as_str(), "é\"");
+    Ok(())
+}
+
+#[test]
+fn items_are_changed_in_place(rt: HostRuntime) -> Result<(), Fail> {
+    let mut items = Items::from_vec(vec![in rt.alloc(); 1, 2, 3]?);
+    items.insert(1, 9)?;
+    items.push(4)?;
+    items.set(0, 7);
+    if let Some(last) = items.get_mut(4) {
+        *last = 8;
+    }
+    items.as_mut_slice().swap(0, 1);
+    assert_eq!(rt; items.as_slice(), [9, 7, 2, 3, 8].as_slice());
+    assert_eq!(rt; items.get(1), Some(&7));
+    assert_eq!(rt; items.last(), Some(&8));
+    Ok(())
+}
+
+#[test]
+fn items_are_taken_away(rt: HostRuntime) -> Result<(), Fail> {
+    let mut items = Items::with_capacity(rt.alloc(), 2)?;
+    items.append(Items::from_vec(vec![in rt.alloc(); 1, 2, 3, 4]?))?;
+    let copy = items.clone()?;
+    assert_eq!(rt; items.remove(1), 2);
+    assert_eq!(rt; items.pop(), Some(4));
+    items.truncate(1);
+    assert_eq!(rt; items.into_vec().as_slice(), [1].as_slice());
+    assert_eq!(rt; copy.as_slice(), [1, 2, 3, 4].as_slice());
+    Ok(())
+}
+
+#[test]
+fn fields_are_ordered_by_their_keys(rt: HostRuntime) -> Result<(), Fail> {
+    let mut fields = fields_of(rt.alloc(), &[("b", 1), ("é", 2), ("a", 3), ("b", 4)])?;
+    assert!(rt; has_members(&fields, &[("a", 3), ("b", 4), ("é", 2)]));
+    let last = Text::of(rt.alloc(), "日")?;
+    assert!(rt; !fields.is_below("é"));
+    assert!(rt; fields.is_below("日"));
+    fields.push(last, 5)?;
+    assert!(rt; has_members(&fields, &[("a", 3), ("b", 4), ("é", 2), ("日", 5)]));
+    Ok(())
+}
+
+#[test]
+fn fields_are_read_and_written_by_their_keys(rt: HostRuntime) -> Result<(), Fail> {
+    let mut fields = fields_of(rt.alloc(), &[("b", 1), ("a", 2)])?;
+    if let Some(value) = fields.get_mut("a") {
+        *value = 3;
+    }
+    assert_eq!(rt; fields.get("a"), Some(&3));
+    assert_eq!(rt; fields.get("aa"), None);
+    assert_eq!(rt; fields.remove("b"), Some(1));
+    assert!(rt; !fields.contains_key("b"));
+    Ok(())
+}
+
+#[test]
+fn fields_are_copied(rt: HostRuntime) -> Result<(), Fail> {
+    let mut fields = fields_of(rt.alloc(), &[("b", 1), ("a", 2)])?;
+    let copy = Fields::from_vec(fields.clone()?.into_vec());
+    assert!(rt; copy == fields);
+    fields.clear();
+    assert!(rt; fields.is_empty());
+    assert!(rt; has_members(&copy, &[("a", 2), ("b", 1)]));
+    Ok(())
+}

@@ -1,5 +1,0 @@
-use Rattle.std.proofs.Common.{◌≡◌, false}
-use Rattle.byte_lines.proofs.tests.lines_in_pieces.Given as goal
-
-abbrev pub invariant-loop-piece : goal.invariant-loop-piece
-invariant-loop-piece l = l.reader.ended ≡ false

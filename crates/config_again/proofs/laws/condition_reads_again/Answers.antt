@@ -1,5 +1,0 @@
-use Rattle.config_again.proofs.Conditions.{again_condition}
-use Rattle.config_again.proofs.laws.condition_reads_again.Goals as goal
-
-pub returns : goal.returns
-returns c = λ levels tokens condition reads. again_condition reads

@@ -1,0 +1,4 @@
+pub mod Prints
+pub mod Tokens
+pub mod Conditions
+pub mod Printed

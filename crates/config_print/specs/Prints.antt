@@ -1,0 +1,6 @@
+-- What a function that prints does to the text.
+use Rattle.std.specs.Prelude.{◌≡◌, ℕ, List, ◌++◌, String, string_bytes}
+
+-- the bytes were printed behind the old text
+abbrev pub Prints : {Z : Type 0} → String Z → String Z → List ℕ → Type 0
+Prints old new bytes = string_bytes new ≡ string_bytes old ++ bytes

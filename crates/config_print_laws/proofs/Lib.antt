@@ -1,0 +1,17 @@
+pub mod Equations
+pub mod Conditions
+pub mod Fresh
+pub mod Good
+pub mod GoodStatements
+pub mod Names
+pub mod Again
+pub mod Bools
+pub mod Placed
+pub mod Strings
+pub mod Words
+pub mod Numbers
+pub mod Fit
+pub mod Scan
+pub mod Lays
+pub mod Printed
+pub mod RoundTrip

@@ -1,0 +1,4 @@
+pub mod Tokens
+pub mod Once
+pub mod Laws
+pub mod Answers

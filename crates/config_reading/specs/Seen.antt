@@ -1,7 +1,0 @@
--- The tokens of a list of lexemes, without their places.
-use Rattle.std.specs.Prelude.{List, map}
-use Rattle.config_grammar.specs.declared.token.Token.{Token}
-use Rattle.config_grammar.specs.declared.token.Lexeme.{Lexeme}
-
-unfoldable pub seen : List Lexeme → List Token
-seen found = map (λ l. l.token) found

@@ -1,0 +1,17 @@
+use std::alloc::{AllocError, Global};
+
+/// The cases of a table: what stands between lines `---`, or its lines where there is no such line.
+pub fn cases_of(alloc: Global, table: &str) -> Result<Vec<&str>, AllocError> {
+    let table = table.strip_suffix('\n').unwrap_or(table);
+    let between = if table.contains("\n---\n") {
+        "\n---\n"
+    } else {
+        "\n"
+    };
+    table.split(between).collect(alloc)
+}
+
+/// What stands before the first blank, and what stands behind it.
+pub fn first_word(line: &str) -> (&str, &str) {
+    line.split_once(' ').unwrap_or((line, ""))
+}

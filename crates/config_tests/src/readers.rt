@@ -1,0 +1,92 @@
+use crate::cases::first_word;
+use crate::show::{add_array, add_hash, add_number, add_text};
+use config_grammar::{FromFault, Plugin, SettingFault, SettingValue, Settings};
+use config_parse::parse;
+use plain_data::{Items, Text};
+use std::alloc::{AllocError, Global};
+
+/// The settings of the last input of a configuration's text, and behind them a second one of the name `word`.
+pub fn settings_of(alloc: Global, text: &str) -> Result<Settings, AllocError> {
+    let mut settings = match parse(alloc, text) {
+        Ok(mut config) => last_settings(alloc, &mut config.inputs),
+        Err(_) => none(alloc),
+    };
+    let line = SettingValue::Text(Text::of(alloc, "line")?);
+    add(&mut settings.list, "word", line)?;
+    Ok(settings)
+}
+
+fn none(alloc: Global) -> Settings {
+    Settings {
+        list: Items::new(alloc),
+    }
+}
+
+fn last_settings(alloc: Global, inputs: &mut Items<Plugin>) -> Settings {
+    match inputs.pop() {
+        Some(plugin) => plugin.settings,
+        None => none(alloc),
+    }
+}
+
+fn add(
+    list: &mut Items<(Text, SettingValue)>,
+    name: &str,
+    value: SettingValue,
+) -> Result<(), AllocError> {
+    let name = Text::of(list.allocator(), name)?;
+    list.push((name, value))
+}
+
+/// What a reader answers at a name.
+pub fn answer(alloc: Global, settings: &Settings, case: &str) -> Result<String, AllocError> {
+    let mut shown = String::new(alloc);
+    let (reader, name) = first_word(case);
+    match add_answer(&mut shown, settings, reader, name) {
+        Ok(()) => Ok(shown),
+        Err(fault) => format!(in alloc; "{fault}"),
+    }
+}
+
+fn add_answer(
+    to: &mut String,
+    settings: &Settings,
+    reader: &str,
+    name: &str,
+) -> Result<(), FromFault> {
+    match reader {
+        "text" => match settings.text(name)? {
+            Some(text) => add_text(to, text)?,
+            None => to.push_str("none")?,
+        },
+        "flag" => match settings.flag(name)? {
+            Some(flag) => write!(to, "{flag}")?,
+            None => to.push_str("none")?,
+        },
+        "number" => match settings.number(name)? {
+            Some(number) => add_number(to, &number)?,
+            None => to.push_str("none")?,
+        },
+        "list" => match settings.list(name)? {
+            Some(values) => add_array(to, values)?,
+            None => to.push_str("none")?,
+        },
+        _ => match settings.hash(name)? {
+            Some(entries) => add_hash(to, entries)?,
+            None => to.push_str("none")?,
+        },
+    }
+    Ok(())
+}
+
+/// What a refusal of this kind says, of a setting of this name.
+pub fn refusal(alloc: Global, case: &str) -> Result<String, AllocError> {
+    let (kind, name) = first_word(case);
+    let name = Text::of(alloc, name)?;
+    let fault = match kind {
+        "missing" => SettingFault::Missing(name),
+        "unknown" => SettingFault::Unknown(name),
+        _ => SettingFault::BadPattern(name),
+    };
+    format!(in alloc; "{}", FromFault::Bad(fault))
+}

@@ -1,6 +1,0 @@
-use Rattle.std.proofs.Common.{◌≡◌, ◌++◌, drop, map, false, string_bytes}
-use Rattle.config_text.specs.Conditions.{members, literal}
-use Rattle.config_text.proofs.conditions.add_literals.Given as goal
-
-abbrev pub invariant-loop-literal : goal.invariant-loop-literal
-invariant-loop-literal l = string_bytes l.to ++ members l.later (map literal (drop l.literal-index l.literals)) ≡ string_bytes l.fn.to ++ members false (map literal l.literals)

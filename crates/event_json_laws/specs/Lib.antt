@@ -1,0 +1,6 @@
+pub mod Characters
+pub mod Numbers
+pub mod Strings
+pub mod Grammar
+pub mod Json
+pub mod Reading

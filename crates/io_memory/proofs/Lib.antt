@@ -1,0 +1,5 @@
+pub mod Changes
+pub mod PartLemmas
+pub mod Taking
+mod Pieces
+mod Linked

@@ -1,0 +1,104 @@
+use std::cell::Cell;
+use std::io::{self, BufWriter, ErrorKind, Read, Write};
+use std::test::Fail;
+use store_disk::{Clock, Failed, Sink, Source, StdinSource, Step, SystemClock, WriteSink};
+
+// A reader and a writer of which each call ends with an error.
+#[derive(Drop)]
+struct Broken(ErrorKind);
+
+impl Read for Broken {
+    fn read(&mut self, _room: &mut [u8]) -> io::Result<usize> {
+        Err(self.0.into())
+    }
+}
+
+impl Write for Broken {
+    fn write(&mut self, _bytes: &[u8]) -> io::Result<usize> {
+        Err(self.0.into())
+    }
+
+    fn flush(&mut self) -> io::Result<()> {
+        Err(self.0.into())
+    }
+}
+
+fn reads<R: Read>(
+    source: &mut StdinSource<R>,
+    room: &mut [u8],
+    want: Result<Step, Failed>,
+) -> bool {
+    source.read(room) == want
+}
+
+// The counts of a source are these after a read that answers so.
+fn counts(kind: ErrorKind, want: Result<Step, Failed>, faults: u64, waits: u64) -> bool {
+    let mut source = StdinSource::new(Broken(kind));
+    reads(&mut source, &mut [b'-'; 2], want) && (source.faults(), source.waits()) == (faults, waits)
+}
+
+#[test]
+fn a_stdin_source_reads_its_reader(rt: HostRuntime) {
+    let mut source = StdinSource::new(b"abc".as_slice());
+    let mut room = [b'-'; 2];
+    assert!(rt;
+        reads(&mut source, &mut [], Ok(Step::Bytes(0)))
+            && reads(&mut source, &mut room, Ok(Step::Bytes(2)))
+            && reads(&mut source, &mut room, Ok(Step::Bytes(1)))
+    );
+    assert_eq!(rt; &room, b"cb");
+    assert!(rt; reads(&mut source, &mut room, Ok(Step::End)));
+    assert!(rt; counts(ErrorKind::WouldBlock, Ok(Step::NotYet), 0, 1));
+    assert!(rt; counts(ErrorKind::Interrupted, Ok(Step::NotYet), 0, 1));
+    assert!(rt; counts(ErrorKind::NotConnected, Err(Failed), 1, 0));
+}
+
+// A writer that counts the bytes that reached it.
+#[derive(Drop)]
+struct Counting<'a>(&'a Cell<usize>);
+
+impl Write for Counting<'_> {
+    fn write(&mut self, bytes: &[u8]) -> io::Result<usize> {
+        self.0.set(self.0.get().saturating_add(bytes.len()));
+        Ok(bytes.len())
+    }
+
+    fn flush(&mut self) -> io::Result<()> {
+        Ok(())
+    }
+}
+
+fn hands_on<W: Write>(sink: &mut WriteSink<W>, want: Result<usize, Failed>) -> bool {
+    sink.write(b"abc") == want
+}
+
+fn empties<W: Write>(sink: &mut WriteSink<W>, want: Result<(), Failed>) -> bool {
+    sink.flush() == want
+}
+
+#[test]
+fn a_write_sink_writes_and_flushes_its_writer(rt: HostRuntime) -> Result<(), Fail> {
+    let reached = Cell::new(0);
+    let mut sink = WriteSink::new(BufWriter::new(rt.alloc(), Counting(&reached))?);
+    assert!(rt; hands_on(&mut sink, Ok(3)) && reached.get() == 0);
+    assert!(rt; empties(&mut sink, Ok(())) && reached.get() == 3);
+    assert_eq!(rt; sink.faults(), 0);
+    let mut sink = WriteSink::new(Broken(ErrorKind::StorageFull));
+    assert!(rt; hands_on(&mut sink, Err(Failed)) && empties(&mut sink, Err(Failed)));
+    assert_eq!(rt; sink.faults(), 2);
+    Ok(())
+}
+
+const YEAR_2020: i128 = 1_577_836_800_000_000_000;
+
+fn moment(clock: &mut SystemClock<&HostRuntime>) -> i128 {
+    clock.now().nanos()
+}
+
+#[test]
+fn a_system_clock_gives_a_moment_after_2020(rt: HostRuntime) {
+    let mut clock = SystemClock::new(&rt);
+    let first = moment(&mut clock);
+    clock.pause();
+    assert!(rt; YEAR_2020 < first && first < moment(&mut clock));
+}

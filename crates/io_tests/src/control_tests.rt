@@ -1,0 +1,15 @@
+use std::thread;
+use std::time::Duration;
+use store_disk::{Control, GoControl, Said};
+
+fn says(control: &mut GoControl<&HostRuntime>, want: Said) -> bool {
+    control.next() == want
+}
+
+#[test]
+fn a_go_control_looks_after_three_seconds(rt: HostRuntime) {
+    let mut control = GoControl::new(&rt);
+    let first = says(&mut control, Said::Go);
+    thread::sleep(&rt, Duration::from_millis(3_100));
+    assert!(rt; first && says(&mut control, Said::Look) && says(&mut control, Said::Go));
+}

@@ -1,0 +1,113 @@
+use std::alloc::{AllocError, Global};
+use std::test::Fail;
+use store_disk::{Come, ConnState, Failed, Gave, MemoryLinks, Script, Sent, Step};
+
+// What a piece of the list is: some bytes, or with None an end.
+type Piece = (u32, Option<&'static str>);
+
+fn links_of(
+    alloc: Global,
+    connections: u32,
+    pieces: &[Piece],
+    script: Script,
+) -> Result<MemoryLinks, AllocError> {
+    let mut list = Vec::new(alloc);
+    for (conn, bytes) in pieces {
+        let gave = match bytes {
+            Some(bytes) => Gave::Bytes(Vec::from_slice(alloc, bytes.as_bytes())?),
+            None => Gave::End,
+        };
+        list.push(Sent { conn: *conn, gave })?;
+    }
+    Ok(MemoryLinks::new(alloc, connections, list, script))
+}
+
+// A call of the links, with what it answers.
+#[derive(Drop)]
+enum Call {
+    Look(Result<Come, Failed>),
+    // A read of a connection into a room of three bytes, and what stands there then.
+    Read(u32, Result<Step, Failed>, &'static [u8; 3]),
+    Close(u32),
+}
+
+fn reads(links: &mut MemoryLinks, conn: u32, want: Result<Step, Failed>, stands: &[u8; 3]) -> bool {
+    let mut room = [b'-'; 3];
+    u64::from(conn) < links.came() && links.read(conn, &mut room) == want && &room == stands
+}
+
+fn answers(links: &mut MemoryLinks, call: &Call) -> bool {
+    match call {
+        Call::Look(want) => links.accept("localhost", 5044) == *want,
+        Call::Read(conn, want, stands) => reads(links, *conn, *want, stands),
+        Call::Close(conn) => {
+            links.close(*conn);
+            true
+        }
+    }
+}
+
+// The number of the first call that answers something else.
+fn first_wrong(links: &mut MemoryLinks, calls: &[Call]) -> Option<usize> {
+    for (number, call) in calls.iter().enumerate() {
+        if !answers(links, call) {
+            return Some(number);
+        }
+    }
+    None
+}
+
+fn closed(faults: u64, waits: u64) -> ConnState {
+    ConnState {
+        is_open: false,
+        faults,
+        waits,
+    }
+}
+
+// Two connections come, the first of which gives its pieces up to those of the second. Then the pieces
+// of both come in turn, and the second is closed before its end.
+const CALLS: [Call; 16] = [
+    Call::Look(Ok(Come::Conn(0))),
+    Call::Look(Ok(Come::NotYet)),
+    Call::Look(Err(Failed)),
+    Call::Read(0, Ok(Step::Bytes(3)), b"abc"),
+    Call::Read(0, Ok(Step::NotYet), b"---"),
+    Call::Read(0, Ok(Step::Bytes(2)), b"de-"),
+    Call::Read(0, Ok(Step::NotYet), b"---"),
+    Call::Look(Ok(Come::Conn(1))),
+    Call::Look(Ok(Come::Ended)),
+    Call::Read(1, Err(Failed), b"---"),
+    Call::Read(1, Ok(Step::Bytes(2)), b"fg-"),
+    Call::Read(0, Ok(Step::End), b"---"),
+    Call::Read(0, Ok(Step::End), b"---"),
+    Call::Read(1, Ok(Step::Bytes(1)), b"h--"),
+    Call::Close(1),
+    Call::Read(1, Ok(Step::End), b"---"),
+];
+
+#[test]
+fn memory_links_give_their_pieces_in_turn(rt: HostRuntime) -> Result<(), Fail> {
+    let pieces = [
+        (0, Some("abcde")),
+        (1, Some("")),
+        (1, Some("fg")),
+        (0, None),
+        (0, Some("x")),
+        (1, Some("h")),
+        (1, Some("i")),
+    ];
+    let script = Script::new(rt.alloc(), &[2, 9], &[1, 4])?;
+    let mut links = links_of(rt.alloc(), 2, &pieces, script)?;
+    assert_eq!(rt; first_wrong(&mut links, &CALLS), None);
+    assert_eq!(rt; (links.given().len(), links.left()), (7, 0));
+    assert_eq!(rt; (links.accept_faults(), links.accept_waits()), (1, 1));
+    assert_eq!(rt; links.state(0), closed(0, 2));
+    assert_eq!(rt; links.state(1), closed(1, 0));
+    let script = links.script();
+    assert_eq!(rt;
+        (script.made(), script.faults(), script.waits()),
+        (15, 2, 3)
+    );
+    Ok(())
+}

@@ -1,3 +1,0 @@
-pub mod Taking
-mod Pieces
-mod Linked

@@ -1,9 +1,0 @@
--- The pieces of a source's list.
-use Rattle.outside.specs.Pieces.{Piece, Came, End}
-use Rattle.memory_outside.specs.declared.memory_sources.Gave.{Gave}
-use Rattle.memory_outside.specs.declared.memory_sources.Gave.TheVariants.{Bytes}
-use Rattle.memory_outside.specs.declared.memory_sources.Gave.TheVariants.{End as AtEnd}
-
-abbrev pub piece_of : Gave → Piece
-piece_of (Bytes bytes) = Came bytes.items
-piece_of AtEnd = End

@@ -1,0 +1,3 @@
+pub mod boxed
+pub mod fields
+pub mod items

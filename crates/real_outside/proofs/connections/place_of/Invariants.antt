@@ -1,6 +1,0 @@
-use Rattle.std.proofs.Common.{◌≡◌, drop, map}
-use Rattle.real_outside.specs.Links.{open_of, place_from}
-use Rattle.real_outside.proofs.connections.place_of.Given as goal
-
-abbrev pub invariant-loop-place : goal.invariant-loop-place
-invariant-loop-place g l = place_from l.place l.conn (map open_of (drop l.place l.members)) ≡ place_from 0 l.conn (map open_of l.members)

@@ -1,5 +1,0 @@
-use Rattle.std.proofs.Common.{◌≡◌, ◌≤◌, length}
-use Rattle.real_outside.proofs.opened_files.read_from.Given as goal
-
-abbrev pub invariant-loop : goal.invariant-loop
-invariant-loop l = record { within : l.count ≤ length l.into; same : length l.into ≡ length l.fn.into }

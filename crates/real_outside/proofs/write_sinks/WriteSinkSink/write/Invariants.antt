@@ -1,9 +1,0 @@
-use Rattle.std.proofs.Common.{◌≡◌}
-use Rattle.std.specs.Io.KnownBytes.{Keeps}
-use Rattle.real_outside.proofs.write_sinks.WriteSinkSink.write.Given as goal
-
-abbrev pub invariant-loop : goal.invariant-loop
-invariant-loop g l = record {
-  faults : l.self-inside.faults ≡ l.fn.self.faults;
-  kept : Keeps (g.W.Write.contents l.fn.self.output) (g.W.Write.contents l.self-inside.output);
-}

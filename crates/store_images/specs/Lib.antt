@@ -1,6 +1,0 @@
-pub mod Images
-pub mod Times
-pub mod Chance
-pub mod Moments
-pub mod Steps
-pub mod Leftovers

@@ -1,0 +1,221 @@
+// What a stop may leave of the files of a store in memory.
+ghost use Rattle.std.specs.Prelude.{◌≡◌, ◌<◌, ◌+◌, ◌-◌, IsTrue, OnOk, IfOk};
+ghost use Rattle.io_traits.specs.Reads.{file_length};
+ghost use Rattle.store_trait.specs.Steps.{synced};
+ghost use Rattle.store_trait.specs.Leftovers.{torn, stale, write_left, cut_left, removal_left};
+ghost use Rattle.store_memory.specs.Calls.{step_of, step_in};
+ghost use Rattle.io_memory.specs.Tables.{content_of, Changed};
+ghost use Rattle.store_memory.specs.Calls.{Applied};
+ghost use Rattle.store_memory.specs.Leaving.{fate_of, left_at, IsHeld, IsLeftAfter, IsSettled, LeftBy};
+
+use crate::calls::{Call, Logged};
+use crate::steps::apply;
+use io_memory::{Table, append_in, copy, cut_in, length_in, remove_in, write_in};
+use std::alloc::{AllocError, Global};
+
+/// What becomes of a change that no sync settled.
+#[derive(Clone, Copy, Debug, PartialEq, Eq)]
+pub enum Left {
+    /// It is there as a whole.
+    Kept,
+    /// It is not there.
+    Lost,
+    /// The first half of it is there.
+    Torn,
+    /// A write reached the file's length alone, and other bytes stand in place of its own.
+    Stale,
+}
+
+// The byte that stands for those that a disk had before.
+const STALE: u8 = 165;
+
+// The length of a file, or 0 of a missing one.
+fn end_of(files: &Table, name: &str) -> u64
+    ensures { result ≡ file_length (content_of files.now name.now) }
+{
+    match length_in(files, name) {
+        Some(length) => length,
+        None => 0,
+    }
+}
+
+// What is left of a write.
+fn leave_write(
+    files: &mut Table,
+    name: &str,
+    at: u64,
+    bytes: &[u8],
+    left: Left,
+) -> Result<(), AllocError>
+    ensures { OnOk result
+        (Changed name.now (write_left (fate_of left) at bytes.now) files.old files.new) }
+{
+    match left {
+        Left::Kept => write_in(files, name, at, bytes),
+        Left::Lost => Ok(()),
+        Left::Torn => write_in(files, name, at, &bytes[..bytes.len() / 2]),
+        Left::Stale => write_stale(files, name, at, bytes),
+    }
+}
+
+// Brings a file to the length that a write gives it, by other bytes.
+fn write_stale(files: &mut Table, name: &str, at: u64, bytes: &[u8]) -> Result<(), AllocError>
+    ensures { OnOk result (Changed name.now (write_left stale at bytes.now) files.old files.new) }
+{
+    let more = stale_length(end_of(files, name), at, bytes.len())?;
+    let stale = vec![in files.allocator(); STALE; more]?;
+    append_in(files, name, stale.as_slice())
+}
+
+// How far a write of `count` bytes at a place reaches past the end of a file.
+fn stale_length(end: u64, at: u64, count: usize) -> Result<usize, AllocError>
+    ensures { IfOk result (λ n. n ≡ at + count - end) }
+{
+    if at <= end {
+        return Ok(count.saturating_sub((end - at) as usize));
+    }
+    match ((at - end) as usize).checked_add(count) {
+        Some(more) => Ok(more),
+        None => Err(AllocError),
+    }
+}
+
+// What is left of a cut.
+fn leave_cut(files: &mut Table, name: &str, length: u64, left: Left)
+    ensures { Changed name.now (cut_left (fate_of left) length) files.old files.new }
+{
+    match left {
+        Left::Kept => cut_in(files, name, length),
+        Left::Torn => cut_halfway(files, name, length),
+        Left::Lost | Left::Stale => {}
+    }
+}
+
+// Cuts a file to the middle between its length and this one.
+fn cut_halfway(files: &mut Table, name: &str, length: u64)
+    ensures { Changed name.now (cut_left torn length) files.old files.new }
+{
+    let more = end_of(files, name).saturating_sub(length) / 2;
+    cut_in(files, name, length.saturating_add(more));
+}
+
+// What is left of a removal.
+fn leave_removal(files: &mut Table, name: &str, left: Left)
+    ensures { Changed name.now (removal_left (fate_of left)) files.old files.new }
+{
+    if left == Left::Kept {
+        remove_in(files, name);
+    }
+}
+
+// What is left of a call, where reads gave `held`.
+fn leave(files: &mut Table, held: &Table, call: &Call, left: Left) -> Result<(), AllocError>
+    ensures { OnOk result (LeftBy (fate_of left) held.now (step_of call.now) files.old files.new) }
+{
+    match call {
+        Call::Append(name, bytes) => {
+            let at = end_of(held, name.as_str());
+            leave_write(files, name.as_str(), at, bytes.as_slice(), left)
+        }
+        Call::WriteAt(name, at, bytes) => {
+            leave_write(files, name.as_str(), *at, bytes.as_slice(), left)
+        }
+        Call::Cut(name, length) => {
+            leave_cut(files, name.as_str(), *length, left);
+            Ok(())
+        }
+        Call::Remove(name) => {
+            leave_removal(files, name.as_str(), left);
+            Ok(())
+        }
+        Call::Sync => {
+            *files = copy(held)?;
+            Ok(())
+        }
+        _ => Ok(()),
+    }
+}
+
+// How many of the calls the last sync settled.
+fn settled_in(calls: &[Logged]) -> usize
+    ensures { IsSettled calls.now result }
+{
+    let mut settled = 0;
+    for at in 0..calls.len() {
+        if is_sync(&calls[at]) {
+            settled = at + 1;
+        }
+    }
+    settled
+}
+
+fn is_sync(logged: &Logged) -> bool
+    ensures { IsTrue result → step_in logged.now ≡ synced }
+{
+    match logged.call {
+        Call::Sync => logged.worked,
+        _ => false,
+    }
+}
+
+// What reads give after these calls.
+fn replay(base: &Table, calls: &[Logged]) -> Result<Table, AllocError>
+    ensures { IfOk result (λ files. IsHeld base.now calls.now files) }
+{
+    let mut files = copy(base)?;
+    for logged in calls {
+        redo(&mut files, logged)?;
+    }
+    Ok(files)
+}
+
+// Makes the step of a call of the log.
+fn redo(files: &mut Table, logged: &Logged) -> Result<(), AllocError>
+    ensures { OnOk result (Applied (step_in logged.now) files.old files.new) }
+{
+    if logged.worked {
+        return apply(files, &logged.call);
+    }
+    Ok(())
+}
+
+// What is left of a call of the log, where reads gave `held`.
+fn leave_in(files: &mut Table, held: &Table, logged: &Logged, left: Left) -> Result<(), AllocError>
+    ensures { OnOk result
+        (LeftBy (fate_of left) held.now (step_in logged.now) files.old files.new) }
+{
+    if logged.worked {
+        return leave(files, held, &logged.call, left);
+    }
+    Ok(())
+}
+
+// What becomes of the change of the number `at` among `count` calls.
+fn fate(choice: u64, count: usize, at: usize) -> Left
+    requires { at < count }
+    ensures { result ≡ left_at choice count at }
+{
+    match choice {
+        0 => Left::Kept,
+        1 => Left::Lost,
+        2 if at + 1 == count => Left::Torn,
+        2 => Left::Kept,
+        _ => Left::Stale,
+    }
+}
+
+/// What a stop after these calls may leave, by a choice: with 0 all changes are kept, with 1 none is
+/// kept since the last sync, with 2 all but the last call are kept and that one is torn, and with any
+/// other number each change since the last sync leaves stale bytes.
+pub fn leave_all(base: &Table, calls: &[Logged], choice: u64) -> Result<Table, AllocError>
+    ensures { IfOk result (λ files. IsLeftAfter choice base.now calls.now files) }
+{
+    let settled = settled_in(calls);
+    let mut held = replay(base, &calls[..settled])?;
+    let mut files = copy(&held)?;
+    for at in settled..calls.len() {
+        leave_in(&mut files, &held, &calls[at], fate(choice, calls.len(), at))?;
+        redo(&mut held, &calls[at])?;
+    }
+    Ok(files)
+}

@@ -1,0 +1,7 @@
+pub mod Images
+pub mod Times
+pub mod Calls
+pub mod Chance
+pub mod Moments
+pub mod Steps
+pub mod Leftovers
