@@ -1,6 +1,6 @@
 -- The rows of lines that one poll made whole.
-use Rattle.std.specs.Prelude.{◌≡◌, ◌++◌, ℕ, false, ℤ, List, map}
-use Rattle.byte_lines.specs.Unread.{Unread, lines_left, rest_of}
+use Rattle.std.specs.Prelude.{◌++◌, ℕ, ℤ, List, map}
+use Rattle.byte_lines.specs.Unread.{Unread, lines_left}
 use Rattle.in_lines.specs.Polls.{received_at}
 use Rattle.in_lines.specs.Events.{event_of}
 use Rattle.in_lines.specs.Rows.{row_of, out_bytes}
@@ -24,7 +24,3 @@ fed reader bytes = record reader { bytes = reader.bytes ++ bytes }
 -- those of the lines that bytes make whole
 abbrev pub rows_fed : ℤ → Unread → List ℕ → List ℕ
 rows_fed moment reader bytes = rows_left moment (fed reader bytes)
-
--- a reader that met no end keeps the bytes behind its last whole line
-abbrev pub KeepsRest : Unread → Unread → Type 0
-KeepsRest old new = old.ended ≡ false → rest_of new ≡ rest_of old

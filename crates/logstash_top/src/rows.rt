@@ -1,7 +1,7 @@
 ghost use Rattle.std.specs.Prelude.{◌≡◌, [], Err, OnOk};
-ghost use Rattle.byte_lines.specs.Unread.{lines_left};
+ghost use Rattle.byte_lines.specs.Unread.{KeepsRest, lines_left};
 ghost use Rattle.io_traits.specs.Counts.{HasCause};
-ghost use Rattle.logstash_top.specs.Rows.{KeepsRest, row_at, rows_left};
+ghost use Rattle.logstash_top.specs.Rows.{row_at, rows_left};
 ghost use Rattle.logstash_top.specs.Sinks.{Took, TookInPart};
 
 use crate::run_fault::RunFault;
