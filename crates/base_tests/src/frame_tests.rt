@@ -1,5 +1,6 @@
 use crate::bitwise::crc32_bitwise;
 use crc_frame::{Slot, crc32, frame, newest, unframe};
+use std::alloc::{AllocError, Global};
 use std::test::Fail;
 
 // The frame of the element 5 with the body `k`.
@@ -8,40 +9,51 @@ const SMALL: [u8; 17] = [
     0xA0,
 ];
 
+// Bytes, and their CRC-32.
+const KNOWN: [(&[u8], u32); 8] = [
+    (b"", 0),
+    (b"a", 0xE8B7_BE43),
+    (b"1234567", 0x5003_699F),
+    (b"12345678", 0x9AE0_DAAF),
+    (b"123456789", 0xCBF4_3926),
+    (b"The quick brown fox jumps over the lazy dog", 0x414F_A339),
+    (&[0; 32], 0x190A_55AD),
+    (&[0xFF; 17], 0x025D_4ABC),
+];
+
 #[test]
 fn computes_known_crcs(rt: HostRuntime) {
-    let known: [(&[u8], u32); 8] = [
-        (b"", 0),
-        (b"a", 0xE8B7_BE43),
-        (b"1234567", 0x5003_699F),
-        (b"12345678", 0x9AE0_DAAF),
-        (b"123456789", 0xCBF4_3926),
-        (b"The quick brown fox jumps over the lazy dog", 0x414F_A339),
-        (&[0; 32], 0x190A_55AD),
-        (&[0xFF; 17], 0x025D_4ABC),
-    ];
-    for (bytes, crc) in known {
-        assert_eq!(rt; crc32(bytes), crc, "of {bytes:?}");
-        assert_eq!(rt; crc32_bitwise(bytes), crc, "of {bytes:?}");
+    for (bytes, crc) in &KNOWN {
+        assert_eq!(rt; crc32(bytes), *crc, "of {bytes:?}");
+        assert_eq!(rt; crc32_bitwise(bytes), *crc, "of {bytes:?}");
     }
+}
+
+// Whether a frame stands at a place, with this number and body, and of so many bytes.
+fn has_frame(bytes: &[u8], at: usize, number: u64, body: &[u8], total: usize) -> bool {
+    match bytes.get(at..) {
+        Some(rest) => match unframe(rest) {
+            Some(frame) => frame.number == number && frame.body == body && frame.total == total,
+            None => false,
+        },
+        None => false,
+    }
+}
+
+// Two frames, and bytes that are none.
+fn two_frames(alloc: Global) -> Result<Vec<u8>, AllocError> {
+    let mut bytes = Vec::new(alloc);
+    frame(5, b"k", &mut bytes)?;
+    frame(u64::MAX, b"", &mut bytes)?;
+    bytes.extend_from_slice(b"and more")?;
+    Ok(bytes)
 }
 
 #[test]
 fn reads_frames_back(rt: HostRuntime) -> Result<(), Fail> {
-    let mut bytes = Vec::new(rt.alloc());
-    frame(5, b"k", &mut bytes)?;
-    assert_eq!(rt; bytes.as_slice(), SMALL.as_slice());
-    frame(u64::MAX, b"", &mut bytes)?;
-    bytes.extend_from_slice(b"and more")?;
-
-    let first = unframe(&bytes).ok_or("no first frame")?;
-    assert_eq!(rt; first.number, 5);
-    assert_eq!(rt; first.body, b"k".as_slice());
-    assert_eq!(rt; first.total, 17);
-    let second = unframe(&bytes[first.total..]).ok_or("no second frame")?;
-    assert_eq!(rt; second.number, u64::MAX);
-    assert_eq!(rt; second.body, b"".as_slice());
-    assert_eq!(rt; second.total, 16);
+    let bytes = two_frames(rt.alloc())?;
+    assert_eq!(rt; bytes.get(..17), Some(SMALL.as_slice()));
+    assert!(rt; has_frame(&bytes, 0, 5, b"k", 17) && has_frame(&bytes, 17, u64::MAX, b"", 16));
     assert!(rt; unframe(b"and more").is_none());
     Ok(())
 }
@@ -83,28 +95,30 @@ fn file_of(first: [u8; 14], second: [u8; 14]) -> [u8; 28] {
     file
 }
 
+// Two slots, and the newest of them.
+const NEWEST: [([u8; 14], [u8; 14], Option<Slot>); 8] = [
+    (NO_SLOT, NO_SLOT, None),
+    (TURN_0, NO_SLOT, Some(Slot { turn: 0, place: 0 })),
+    (TURN_0, TURN_1, Some(Slot { turn: 1, place: 14 })),
+    (TURN_2, TURN_1, Some(Slot { turn: 2, place: 0 })),
+    (NO_SLOT, TURN_1, Some(Slot { turn: 1, place: 14 })),
+    (TURN_1, TURN_2, None),
+    (TURN_0, LAST_TURN, Some(Slot { turn: 0, place: 0 })),
+    (
+        TURN_2,
+        LAST_TURN,
+        Some(Slot {
+            turn: u64::MAX,
+            place: 14,
+        }),
+    ),
+];
+
 #[test]
 fn finds_the_newest_slot(rt: HostRuntime) {
-    let cases = [
-        (NO_SLOT, NO_SLOT, None),
-        (TURN_0, NO_SLOT, Some(Slot { turn: 0, place: 0 })),
-        (TURN_0, TURN_1, Some(Slot { turn: 1, place: 14 })),
-        (TURN_2, TURN_1, Some(Slot { turn: 2, place: 0 })),
-        (NO_SLOT, TURN_1, Some(Slot { turn: 1, place: 14 })),
-        (TURN_1, TURN_2, None),
-        (TURN_0, LAST_TURN, Some(Slot { turn: 0, place: 0 })),
-        (
-            TURN_2,
-            LAST_TURN,
-            Some(Slot {
-                turn: u64::MAX,
-                place: 14,
-            }),
-        ),
-    ];
-    for (first, second, slot) in cases {
-        let file = file_of(first, second);
-        assert_eq!(rt; newest(&file, 14), slot, "of {first:?} and {second:?}");
+    for (first, second, slot) in &NEWEST {
+        let file = file_of(*first, *second);
+        assert_eq!(rt; newest(&file, 14), *slot, "of {first:?} and {second:?}");
     }
     assert_eq!(rt; newest(&TURN_0, 14), Some(Slot { turn: 0, place: 0 }));
     assert_eq!(rt; newest(&TURN_0[..13], 14), None);

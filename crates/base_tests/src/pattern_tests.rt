@@ -1,4 +1,5 @@
 use pattern_box::{Pattern, PatternFault, Patterns};
+use plain_data::Text;
 use std::alloc::{AllocError, Global};
 use std::test::Fail;
 
@@ -49,26 +50,44 @@ fn sent<T: Send>(value: T) -> T {
     value
 }
 
+// A list of one pattern, which may go to another thread.
+fn one_pattern(alloc: Global, text: &str) -> Result<Patterns, PatternFault> {
+    let mut patterns = Patterns::new(alloc);
+    patterns.push(sent(Pattern::new(alloc, text)?))?;
+    Ok(patterns)
+}
+
+// Whether the first pattern of a list finds these spans.
+fn finds(patterns: &mut Patterns, text: &str, wanted: Option<&[Span]>) -> Result<bool, AllocError> {
+    let Some(pattern) = patterns.get_mut(0) else {
+        return Ok(false);
+    };
+    match pattern.spans(text)? {
+        Some(spans) => Ok(wanted == Some(spans.as_slice())),
+        None => Ok(wanted.is_none()),
+    }
+}
+
 #[test]
 fn spans_are_those_of_the_first_match(rt: HostRuntime) -> Result<(), Fail> {
-    let mut patterns = Patterns::new(rt.alloc());
-    for (text, _, _) in &SPANS {
-        patterns.push(sent(Pattern::new(rt.alloc(), text)?))?;
-    }
-    for (index, (_, text, wanted)) in SPANS.iter().enumerate() {
-        let pattern = patterns.get_mut(index).ok_or("no pattern")?;
-        let found = pattern.spans(text)?;
-        let spans = found.as_ref().map(|spans| spans.as_slice());
-        assert_eq!(rt; spans, *wanted, "{text}");
+    for (pattern, text, wanted) in &SPANS {
+        let mut patterns = one_pattern(rt.alloc(), pattern)?;
+        let found = finds(&mut patterns, text, *wanted)?;
+        assert!(rt; found, "{text}");
     }
     Ok(())
+}
+
+// The text with each match of a pattern replaced.
+fn replaced(alloc: Global, pattern: &str, text: &str, with: &str) -> Result<Text, PatternFault> {
+    let mut pattern = Pattern::new(alloc, pattern)?;
+    Ok(pattern.replace_all(text, with)?)
 }
 
 #[test]
 fn each_match_is_replaced(rt: HostRuntime) -> Result<(), Fail> {
     for (pattern, text, with, wanted) in REPLACED {
-        let mut pattern = Pattern::new(rt.alloc(), pattern)?;
-        assert_eq!(rt; pattern.replace_all(text, with)?.as_str(), wanted);
+        assert_eq!(rt; replaced(rt.alloc(), pattern, text, with)?.as_str(), wanted);
     }
     Ok(())
 }

@@ -19,16 +19,20 @@ fn has_members(fields: &Fields<u32>, members: &[(&str, u32)]) -> bool {
     fields.len() == members.len()
 }
 
+// Whether a text is below another, which is not equal to it and is to its clone.
+fn is_below(alloc: Global, text: &str, other: &str) -> Result<bool, AllocError> {
+    let other = Text::of(alloc, other)?;
+    let clone = other.clone()?;
+    let text = Text::of(alloc, text)?;
+    Ok(text < other && text != other && clone == other)
+}
+
 #[test]
 fn texts_are_ordered_by_their_bytes(rt: HostRuntime) -> Result<(), Fail> {
     // Sorted by their bytes in UTF-8, each below the next.
     let sorted = ["", "B", "a", "a\0", "ab", "b", "z", "é", "日", "𝄞"];
-    let mut last = Text::of(rt.alloc(), "")?;
-    for word in &sorted[1..] {
-        let text = Text::of(rt.alloc(), word)?;
-        assert!(rt; last < text && last != text, "{last:?} to {text:?}");
-        last = text.clone()?;
-        assert!(rt; last == text, "{text:?}");
+    for (text, other) in sorted.iter().zip(&sorted[1..]) {
+        assert!(rt; is_below(rt.alloc(), text, other)?, "{text} to {other}");
     }
     Ok(())
 }

@@ -16,7 +16,7 @@ use Rattle.event_tree.specs.declared.value.Value.TheVariants as v
 use Rattle.byte_reader.specs.Fronts.{run_at}
 use Rattle.element_code.specs.Reading.{exact_number, same_number, moment_of, is_moment, text_in, is_above, key_at}
 use Rattle.time_instant.specs.Calendar.{first_moment, last_moment}
-use Rattle.event_tree.proofs.Orders.{both_true}
+use Rattle.event_tree.proofs.Sounds.{both_true}
 
 pub last_byte : (bytes : List ℕ) → big_number 1 (drop 8 bytes) ≡ slice_index bytes 8
 last_byte bytes = omega (arith, get_or-drop 8 bytes 0 0)

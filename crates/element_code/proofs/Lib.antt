@@ -6,6 +6,7 @@ pub mod Numbers
 pub mod Again
 pub mod Sound
 pub mod Lengths
+pub mod Wholes
 pub mod Added
 pub mod Spellings
 pub mod Within

@@ -7,7 +7,7 @@ use Rattle.crc_frame.proofs.Numbers.{IsBytes}
 use Rattle.event_tree.specs.Values.{on_values}
 use Rattle.event_tree.specs.declared.value.Value.{Value}
 use Rattle.event_tree.specs.declared.value.Value.TheVariants as v
-use Rattle.event_tree.proofs.Orders.{both_true}
+use Rattle.event_tree.proofs.Sounds.{both_true}
 use Rattle.byte_reader.specs.Fronts.{Reads, count_bytes, run_at, ◌>>=◌}
 use Rattle.byte_reader.proofs.Fronts.{chosen, run_takes, length-count_bytes}
 use Rattle.byte_reader.proofs.Cuts.{bind_err, run_cut}

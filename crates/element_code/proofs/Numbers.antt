@@ -14,7 +14,7 @@ use Rattle.byteorder.specs.Endian.{big_bytes, big_number}
 use Rattle.byteorder.specs.Numbers.{big_from-lt, big_number-reads_back}
 use Rattle.crc_frame.proofs.Numbers.{IsBytes, IsBytes-drop, big_bytes-big_number}
 use Rattle.time_instant.specs.Calendar.{IsMoment, first_moment, last_moment}
-use Rattle.event_tree.proofs.Orders.{first, second as second_true}
+use Rattle.event_tree.proofs.Sounds.{first, second as second_true}
 use Rattle.event_tree.specs.Number.{Num, IsLeast, least}
 use Rattle.event_tree.specs.declared.value.Value.{Value}
 use Rattle.event_tree.specs.declared.value.Value.TheVariants as v

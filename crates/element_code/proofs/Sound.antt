@@ -11,7 +11,7 @@ use Rattle.event_tree.specs.Values.{Members, on_values}
 use Rattle.event_tree.specs.Events.{Ev, both}
 use Rattle.event_tree.specs.declared.value.Value.{Value}
 use Rattle.event_tree.specs.declared.value.Value.TheVariants as v
-use Rattle.event_tree.proofs.Orders.{first, second as second_true}
+use Rattle.event_tree.proofs.Sounds.{first, second as second_true}
 use Rattle.byte_reader.specs.Fronts.{Reads, count_bytes, front_at, number_at, repeated, run_at, ◌>>=◌}
 use Rattle.byte_reader.proofs.Fronts.{bind_ok, chosen, ok_is, front_takes, count_takes, run_takes}
 use Rattle.element_code.specs.Parts.{Part, plain, text, key, part_bytes, bytes_of, number_bytes, time_bytes, items_parts, members_parts, parts, spelling, object_parts, event_parts, event_spelling}

@@ -1,6 +1,6 @@
 -- What `decode` answers.
 use Rattle.std.specs.Prelude.{◌≡◌, ℕ, ◌≤◌, List, length, Result, Ok, Err, ⊤}
-use Rattle.event_tree.specs.Events.{Ev}
+use Rattle.event_tree.specs.Events.{Ev, IsEvent}
 use Rattle.element_code.specs.Parts.{event_spelling}
 use Rattle.element_code.specs.Values.{IsWhole}
 use Rattle.element_code.specs.declared.fault.ElementFault.{ElementFault}
@@ -22,3 +22,7 @@ IsAt (Err (At at)) is = is at
 -- the event that these bytes spell is what was read, unless memory ran out
 abbrev pub ReadsWhatIsSpelled : Result Ev ElementFault → List ℕ → Type 0
 ReadsWhatIsSpelled read bytes = (e : Ev) → IsWhole e → event_spelling e ≡ bytes → length bytes ≤ 16777216 → ReadsAs read e
+
+-- the event that has this spelling is what was read, unless memory ran out: whatever calls made it
+abbrev pub ReadsEachEvent : Result Ev ElementFault → List ℕ → Type 0
+ReadsEachEvent read bytes = (e : Ev) → IsEvent e → event_spelling e ≡ bytes → ReadsAs read e

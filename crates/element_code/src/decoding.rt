@@ -2,7 +2,7 @@ ghost use Rattle.std.specs.Prelude.{◌≡◌, IfOk, Err};
 ghost use Rattle.element_code.specs.Parts.{event_spelling};
 ghost use Rattle.element_code.specs.Values.{IsWhole};
 ghost use Rattle.element_code.specs.Faults.{IsRefusedAt};
-ghost use Rattle.element_code.specs.Gives.{ReadsWhatIsSpelled, IsAt};
+ghost use Rattle.element_code.specs.Gives.{ReadsWhatIsSpelled, ReadsEachEvent, IsAt};
 ghost use Rattle.element_code.specs.declared.fault.ElementFault.TheVariants.{At};
 
 use crate::fault::ElementFault;
@@ -26,6 +26,9 @@ pub fn decode(alloc: Global, bytes: &[u8]) -> Result<Event, ElementFault>
 
     // What is spelled so is read, unless memory runs out.
     ensures only { ReadsWhatIsSpelled result bytes.now }
+
+    // So what `encode` wrote of an event is read as that event.
+    ensures again { ReadsEachEvent result bytes.now }
 
     // A fault is where the bytes stop being the spelling of an event.
     ensures at { IsAt result (IsRefusedAt bytes.now) }

@@ -1,7 +1,8 @@
 ghost use Rattle.std.specs.Prelude.{◌≡◌, ◌∷◌, ◌++◌, length, OnOk, OnErr};
-ghost use Rattle.event_tree.specs.Events.{event_size};
+ghost use Rattle.event_tree.specs.Events.{IsEvent, event_size};
 ghost use Rattle.byte_reader.specs.Fronts.{count_bytes, run_bytes};
 ghost use Rattle.element_code.specs.Parts.{number_tag, text_tag, time_tag, bytes_of, number_bytes, time_bytes, items_bytes, members_bytes, object_parts, spelling, event_spelling};
+ghost use Rattle.element_code.specs.Values.{IsWhole};
 ghost use Rattle.element_code.specs.Adds.{Writes};
 
 use crate::tags;
@@ -9,14 +10,16 @@ use byteorder::{BigEndian, ByteOrder};
 use event_tree::{Event, Instant, Items, Number, Text, Value};
 use std::alloc::AllocError;
 
-/// Appends the one spelling of an event, whose length is the size that the event keeps. Want of memory
-/// leaves the bytes as they were.
+/// Appends the one spelling of an event, whose length is the size that the event keeps; `decode` reads
+/// it as the same event. Want of memory leaves the bytes as they were.
 ///
 /// It asks for memory once, and walks the event once, with at most 128 levels of recursion.
 pub fn encode(event: &Event, to: &mut Vec<u8>) -> Result<(), AllocError>
     ensures ok { OnOk result (to.new.items ≡ to.old.items ++ event_spelling event.now) }
     ensures err { OnErr result (to.new.items ≡ to.old.items) }
     ensures size { length (event_spelling event.now) ≡ event_size event.now }
+    ensures event { IsEvent event.now }
+    ensures whole { IsWhole event.now }
 {
     to.reserve(event.size() as usize)?;
     let length = to.len();

@@ -12,7 +12,7 @@ use Rattle.event_json.specs.declared.fault.JsonStop.TheVariants as stops
 use Rattle.event_json.specs.Stops.{Fails, fault_at}
 use Rattle.event_json.specs.Faults.{IsFault, IsOnly}
 
-same_ok : (d e : Value) → ◌≡◌ {A = Result Value Fault} (Ok d) (Ok e) → d ≡ e
+pub same_ok : (d e : Value) → ◌≡◌ {A = Result Value Fault} (Ok d) (Ok e) → d ≡ e
 same_ok d e h = cc
 
 no_fault : (d : Value) (f : Fault) → ◌≡◌ {A = Result Value Fault} (Ok d) (Err f) → ⊥

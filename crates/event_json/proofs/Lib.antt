@@ -17,3 +17,5 @@ pub mod WrittenNumbers
 pub mod WrittenValues
 pub mod NumberParts
 pub mod LeastForms
+pub mod Gathered
+pub mod OneFault

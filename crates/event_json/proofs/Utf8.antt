@@ -12,7 +12,7 @@ use Rattle.std.proofs.lemmas.List.{append-nil}
 use lib.Utf8.{scalars, scalar, encodes, encode}
 use Rattle.event_tree.specs.Number.{Num}
 use Rattle.std.proofs.Common.{Result, Ok, Err, OnOk}
-use Rattle.event_tree.proofs.Orders.{first, second}
+use Rattle.event_tree.proofs.Sounds.{first, second}
 use Rattle.event_tree.specs.Adds.{Adds}
 use Rattle.event_json.specs.TimeText.{digit, nine_digits, two_digits, four_digits, date_text, clock_text, date_time_text, fraction_text, decimals_of, nanos_in_day, year_of, month_of, day_in_month, time_text_of}
 use Rattle.event_json.specs.Json.{escaped, quoted, hex_digit, zeros, pointed, sign_of, number_text}
@@ -115,49 +115,93 @@ number_utf8 n h =
     let front = zeros (n.scale + 1 - length digits) in
     IsUtf8-from_ascii (number_text n) (IsAscii-append (sign_of n.mantissa) (pointed n.scale (front ++ digits)) (low_ascii _ (low_sign n.mantissa)) (ascii_pointed n.scale (front ++ digits) (IsAscii-append front digits (low_ascii front (low_zeros _)) (IsAscii-decimal (unsigned_abs n.mantissa) h))))
 
-low_digit : (p n : ℕ) → digit p n < 128
-low_digit p n = omega arith
+-- each byte is one that stands in a string as it is
+abbrev Plain : List ℕ → Type 0
+Plain [] = Unit {0}
+Plain (b ∷ bs) = (44 < b) × (b < 91) × Plain bs
 
-low_take : (k : ℕ) (bs : List ℕ) → Low bs → Low (take k bs)
-low_take zero bs h = tt
-low_take (suc k) [] h = tt
-low_take (suc k) (b ∷ bs) h = (h.0, low_take k bs h.1)
+plain_low : (bs : List ℕ) → Plain bs → Low bs
+plain_low [] h = tt
+plain_low (b ∷ bs) h = (omega (arith, h.1), plain_low bs h.2)
 
-pub low_two : (n : ℕ) → Low (two_digits n)
-low_two n = (low_digit 10 n, (low_digit 1 n, tt))
+escaped_plain : (b : ℕ) → 44 < b → b < 91 → escaped b ≡ b ∷ []
+escaped_plain b low high =
+    let a : (b == 34) ≡ false = grind (arith, nat_tests) in
+    let c : (b == 92) ≡ false = grind (arith, nat_tests) in
+    let d : (b == 8) ≡ false = grind (arith, nat_tests) in
+    let e : (b == 9) ≡ false = grind (arith, nat_tests) in
+    let f : (b == 10) ≡ false = grind (arith, nat_tests) in
+    let g : (b == 12) ≡ false = grind (arith, nat_tests) in
+    let i : (b == 13) ≡ false = grind (arith, nat_tests) in
+    let j : nat_lt b 32 ≡ false = grind (arith, nat_tests) in
+    rw (a, c, d, e, f, g, i, j) refl
 
-pub low_four : (n : ℕ) → Low (four_digits n)
-low_four n = (low_digit 1000 n, (low_digit 100 n, (low_digit 10 n, (low_digit 1 n, tt))))
+plain_same : (bs : List ℕ) → Plain bs → flat_map escaped bs ≡ bs
+plain_same [] h = refl
+plain_same (b ∷ bs) h = ap (λ l. l ++ flat_map escaped bs) (escaped_plain b h.0 h.1) ∙ ap (λ l. b ∷ l) (plain_same bs h.2)
 
-low_nine : (n : ℕ) → Low (nine_digits n)
-low_nine n = (low_digit 100000000 n, (low_digit 10000000 n, (low_digit 1000000 n, (low_digit 100000 n, (low_digit 10000 n, (low_digit 1000 n, (low_digit 100 n, (low_digit 10 n, (low_digit 1 n, tt)))))))))
+plain_append : (xs ys : List ℕ) → Plain xs → Plain ys → Plain (xs ++ ys)
+plain_append [] ys h k = k
+plain_append (x ∷ xs) ys h k = (h.0, h.1, plain_append xs ys h.2 k)
 
-low_date : (y m d : ℕ) → Low (date_text y m d)
-low_date y m d =
-    let rest : Low (45 ∷ two_digits d) = (omega arith, low_two d) in
-    let behind : Low (45 ∷ (two_digits m ++ 45 ∷ two_digits d)) = (omega arith, low_append (two_digits m) (45 ∷ two_digits d) (low_two m) rest) in
-    low_append (four_digits y) (45 ∷ (two_digits m ++ 45 ∷ two_digits d)) (low_four y) behind
+plain_take : (k : ℕ) (bs : List ℕ) → Plain bs → Plain (take k bs)
+plain_take zero bs h = tt
+plain_take (suc k) [] h = tt
+plain_take (suc k) (b ∷ bs) h = (h.0, h.1, plain_take k bs h.2)
 
-low_clock : (h m s : ℕ) → Low (clock_text h m s)
-low_clock h m s =
-    let rest : Low (58 ∷ two_digits s) = (omega arith, low_two s) in
-    let behind : Low (58 ∷ (two_digits m ++ 58 ∷ two_digits s)) = (omega arith, low_append (two_digits m) (58 ∷ two_digits s) (low_two m) rest) in
-    low_append (two_digits h) (58 ∷ (two_digits m ++ 58 ∷ two_digits s)) (low_two h) behind
+plain_digit : (p n : ℕ) (bs : List ℕ) → Plain bs → Plain (digit p n ∷ bs)
+plain_digit p n bs h = (omega arith, omega arith, h)
 
-low_date_time : (date clock fraction : List ℕ) → Low date → Low clock → Low fraction → Low (date_time_text date clock fraction)
-low_date_time date clock fraction h k l =
-    let last : Low (90 ∷ []) = (omega arith, tt) in
-    let rest : Low (46 ∷ (fraction ++ 90 ∷ [])) = (omega arith, low_append fraction (90 ∷ []) l last) in
-    let behind : Low (84 ∷ (clock ++ 46 ∷ (fraction ++ 90 ∷ []))) = (omega arith, low_append clock (46 ∷ (fraction ++ 90 ∷ [])) k rest) in
-    low_append date (84 ∷ (clock ++ 46 ∷ (fraction ++ 90 ∷ []))) h behind
+plain_two : (n : ℕ) → Plain (two_digits n)
+plain_two n = plain_digit 10 n (digit 1 n ∷ []) (plain_digit 1 n [] tt)
 
--- an instant's text is ASCII
-pub low_time : (t : ℤ) → Low (time_text_of t)
+plain_four : (n : ℕ) → Plain (four_digits n)
+plain_four n = plain_digit 1000 n (digit 100 n ∷ two_digits n) (plain_digit 100 n (two_digits n) (plain_two n))
+
+plain_six : (n : ℕ) → Plain (digit 100000 n ∷ digit 10000 n ∷ four_digits n)
+plain_six n = plain_digit 100000 n (digit 10000 n ∷ four_digits n) (plain_digit 10000 n (four_digits n) (plain_four n))
+
+plain_nine : (n : ℕ) → Plain (nine_digits n)
+plain_nine n =
+    let six = digit 100000 n ∷ digit 10000 n ∷ four_digits n in
+    plain_digit 100000000 n (digit 10000000 n ∷ digit 1000000 n ∷ six) (plain_digit 10000000 n (digit 1000000 n ∷ six) (plain_digit 1000000 n six (plain_six n)))
+
+-- behind a `-`, a `.`, a `:`, the `T` or the `Z`
+plain_behind : (b : ℕ) (bs : List ℕ) → 44 < b → b < 91 → Plain bs → Plain (b ∷ bs)
+plain_behind b bs low high h = (low, high, h)
+
+plain_date : (y m d : ℕ) → Plain (date_text y m d)
+plain_date y m d =
+    let day : Plain (45 ∷ two_digits d) = plain_behind 45 (two_digits d) (omega arith) (omega arith) (plain_two d) in
+    let behind : Plain (45 ∷ (two_digits m ++ 45 ∷ two_digits d)) = plain_behind 45 (two_digits m ++ 45 ∷ two_digits d) (omega arith) (omega arith) (plain_append (two_digits m) (45 ∷ two_digits d) (plain_two m) day) in
+    plain_append (four_digits y) (45 ∷ (two_digits m ++ 45 ∷ two_digits d)) (plain_four y) behind
+
+plain_clock : (h m s : ℕ) → Plain (clock_text h m s)
+plain_clock h m s =
+    let second : Plain (58 ∷ two_digits s) = plain_behind 58 (two_digits s) (omega arith) (omega arith) (plain_two s) in
+    let behind : Plain (58 ∷ (two_digits m ++ 58 ∷ two_digits s)) = plain_behind 58 (two_digits m ++ 58 ∷ two_digits s) (omega arith) (omega arith) (plain_append (two_digits m) (58 ∷ two_digits s) (plain_two m) second) in
+    plain_append (two_digits h) (58 ∷ (two_digits m ++ 58 ∷ two_digits s)) (plain_two h) behind
+
+plain_date_time : (date clock fraction : List ℕ) → Plain date → Plain clock → Plain fraction → Plain (date_time_text date clock fraction)
+plain_date_time date clock fraction h k l =
+    let end : Plain (90 ∷ []) = plain_behind 90 [] (omega arith) (omega arith) tt in
+    let rest : Plain (46 ∷ (fraction ++ 90 ∷ [])) = plain_behind 46 (fraction ++ 90 ∷ []) (omega arith) (omega arith) (plain_append fraction (90 ∷ []) l end) in
+    let behind : Plain (84 ∷ (clock ++ 46 ∷ (fraction ++ 90 ∷ []))) = plain_behind 84 (clock ++ 46 ∷ (fraction ++ 90 ∷ [])) (omega arith) (omega arith) (plain_append clock (46 ∷ (fraction ++ 90 ∷ [])) k rest) in
+    plain_append date (84 ∷ (clock ++ 46 ∷ (fraction ++ 90 ∷ []))) h behind
+
+plain_time : (t : ℤ) → Plain (time_text_of t)
 unfolding time_text_of
-low_time t =
+plain_time t =
     let time = nanos_in_day t in
-    low_date_time (date_text (year_of t) (month_of t) (day_in_month t)) (clock_text (time / 3600000000000) (time / 60000000000 % 60) (time / 1000000000 % 60)) (fraction_text (time % 1000000000))
-    (low_date (year_of t) (month_of t) (day_in_month t)) (low_clock (time / 3600000000000) (time / 60000000000 % 60) (time / 1000000000 % 60)) (low_take (decimals_of (time % 1000000000)) (nine_digits (time % 1000000000)) (low_nine (time % 1000000000)))
+    plain_date_time (date_text (year_of t) (month_of t) (day_in_month t)) (clock_text (time / 3600000000000) (time / 60000000000 % 60) (time / 1000000000 % 60)) (fraction_text (time % 1000000000))
+    (plain_date (year_of t) (month_of t) (day_in_month t)) (plain_clock (time / 3600000000000) (time / 60000000000 % 60) (time / 1000000000 % 60)) (plain_take (decimals_of (time % 1000000000)) (nine_digits (time % 1000000000)) (plain_nine (time % 1000000000)))
+
+-- an instant's text is ASCII, and stands in a string as it is
+pub low_time : (t : ℤ) → Low (time_text_of t)
+low_time t = plain_low (time_text_of t) (plain_time t)
+
+pub time_same : (t : ℤ) → flat_map escaped (time_text_of t) ≡ time_text_of t
+time_same t = plain_same (time_text_of t) (plain_time t)
 
 pub time_utf8 : (t : ℤ) → IsUtf8 (time_text_of t)
 time_utf8 t = low_utf8 (time_text_of t) (low_time t)

@@ -15,7 +15,16 @@ hex_digit n = if nat_lt n 10 then 48 + n else 87 + n
 
 -- how a byte of a string is written (section 7): with a short escape where there is one, a control character by its number, any other as it is
 abbrev pub escaped : ℕ → List ℕ
-escaped b = if b == quote then backslash ∷ quote ∷ [] else (if b == backslash then backslash ∷ backslash ∷ [] else (if b == backspace then backslash ∷ small_b ∷ [] else (if b == tab then backslash ∷ small_t ∷ [] else (if b == line_feed then backslash ∷ small_n ∷ [] else (if b == form_feed then backslash ∷ small_f ∷ [] else (if b == carriage_return then backslash ∷ small_r ∷ [] else (if nat_lt b 32 then backslash ∷ small_u ∷ digit_zero ∷ digit_zero ∷ hex_digit (b / 16) ∷ hex_digit (b % 16) ∷ [] else b ∷ [])))))))
+escaped b =
+    if b == quote then backslash ∷ quote ∷ []
+    else (if b == backslash then backslash ∷ backslash ∷ []
+    else (if b == backspace then backslash ∷ small_b ∷ []
+    else (if b == tab then backslash ∷ small_t ∷ []
+    else (if b == line_feed then backslash ∷ small_n ∷ []
+    else (if b == form_feed then backslash ∷ small_f ∷ []
+    else (if b == carriage_return then backslash ∷ small_r ∷ []
+    else (if nat_lt b 32 then backslash ∷ small_u ∷ digit_zero ∷ digit_zero ∷ hex_digit (b / 16) ∷ hex_digit (b % 16) ∷ []
+    else b ∷ [])))))))
 
 -- a string (section 7)
 abbrev pub quoted : List ℕ → List ℕ

@@ -2,6 +2,8 @@ pub mod TimeText
 pub mod Json
 pub mod Stops
 pub mod Faults
-pub mod Timeless
+pub mod Untimed
 pub mod NumberGrammar
 pub mod LeastForms
+pub mod Gathered
+pub mod TextLaws

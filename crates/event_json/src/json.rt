@@ -1,4 +1,7 @@
-ghost use Rattle.std.specs.Prelude.{◌≡◌, ◌<◌, ◌≤◌, length, ◌++◌, OnOk, OnErr, IsUtf8};
+ghost use Rattle.std.specs.Prelude.{◌≡◌, ◌<◌, ◌≤◌, length, ◌++◌, OnOk, OnErr, IsUtf8, true};
+ghost use Rattle.time_instant.specs.Calendar.{IsMoment};
+ghost use Rattle.event_tree.specs.Sound.{is_number, sound, items_sound, members_sound};
+ghost use Rattle.event_json.specs.Untimed.{ReadsBack};
 ghost use Rattle.event_json.specs.Json.{json, quoted, quoted_time, escaped, items_text, members_text, comma_if, number_text, sign_of, pointed_digits, zeros, hex_digit};
 ghost use Rattle.event_tree.specs.Adds.{Adds, Keeps};
 
@@ -13,11 +16,13 @@ use time_instant::Instant;
 /// as its text in quotes, a number as its decimal text.
 ///
 /// Want of memory leaves the bytes as they were. Bytes that are UTF-8 are so with the text behind
-/// them.
+/// them. Where lists and objects nest at most 100 deep, `read_json` reads the text as the value, with
+/// the text of each time in its place.
 pub fn write_json(value: &Value, to: &mut Vec<u8>) -> Result<(), AllocError>
     ensures ok { OnOk result (to.new.items ≡ to.old.items ++ json value.now) }
     ensures err { OnErr result (to.new.items ≡ to.old.items) }
     ensures utf8 { IsUtf8 to.old.items → OnOk result (IsUtf8 to.new.items) }
+    ensures reads_back { OnOk result (ReadsBack value.now) }
 {
     let length = to.len();
     let written = add_value(to, value);
@@ -27,12 +32,12 @@ pub fn write_json(value: &Value, to: &mut Vec<u8>) -> Result<(), AllocError>
     written
 }
 
-#[tactic(auto, using(event_tree::proofs::Depths::falls, crate::proofs::Jsons::jsons))]
+#[tactic(auto, using(event_tree::proofs::Depths::falls, event_tree::proofs::Sounds::sounds, crate::proofs::Jsons::jsons))]
 #[cycle(write)]
 fn add_value(to: &mut Vec<u8>, value: &Value) -> Result<(), AllocError>
     ensures ok { OnOk result (Adds (json value.now) to.old.items to.new.items) }
     ensures err { OnErr result (Keeps to.old.items to.new.items) }
-    ensures utf8 { IsUtf8 to.old.items → OnOk result (IsUtf8 to.new.items) }
+    ensures sound { OnOk result (sound value.now ≡ true) }
 {
     match value {
         Value::Null => add_text(to, "null"),
@@ -52,12 +57,12 @@ fn add_value(to: &mut Vec<u8>, value: &Value) -> Result<(), AllocError>
     }
 }
 
-#[tactic(auto, using(event_tree::proofs::Depths::falls, crate::proofs::Jsons::jsons))]
+#[tactic(auto, using(event_tree::proofs::Depths::falls, event_tree::proofs::Sounds::sounds, crate::proofs::Jsons::jsons))]
 #[cycle(write)]
 fn add_items(to: &mut Vec<u8>, items: &[Value]) -> Result<(), AllocError>
     ensures ok { OnOk result (Adds (items_text items.now) to.old.items to.new.items) }
     ensures err { OnErr result (Keeps to.old.items to.new.items) }
-    ensures utf8 { IsUtf8 to.old.items → OnOk result (IsUtf8 to.new.items) }
+    ensures sound { OnOk result (items_sound items.now ≡ true) }
 {
     let mut later = false;
     for item in items {
@@ -68,12 +73,12 @@ fn add_items(to: &mut Vec<u8>, items: &[Value]) -> Result<(), AllocError>
     add_text(to, "]")
 }
 
-#[tactic(auto, using(event_tree::proofs::Depths::falls, crate::proofs::Jsons::jsons))]
+#[tactic(auto, using(event_tree::proofs::Depths::falls, event_tree::proofs::Sounds::sounds, crate::proofs::Jsons::jsons))]
 #[cycle(write)]
 fn add_members(to: &mut Vec<u8>, members: &[(Text, Value)]) -> Result<(), AllocError>
     ensures ok { OnOk result (Adds (members_text members.now) to.old.items to.new.items) }
     ensures err { OnErr result (Keeps to.old.items to.new.items) }
-    ensures utf8 { IsUtf8 to.old.items → OnOk result (IsUtf8 to.new.items) }
+    ensures sound { OnOk result (members_sound members.now ≡ true) }
 {
     let mut later = false;
     for member in members {
@@ -89,7 +94,6 @@ fn add_members(to: &mut Vec<u8>, members: &[(Text, Value)]) -> Result<(), AllocE
 fn add_comma(to: &mut Vec<u8>, later: bool) -> Result<(), AllocError>
     ensures ok { OnOk result (Adds (comma_if later) to.old.items to.new.items) }
     ensures err { OnErr result (Keeps to.old.items to.new.items) }
-    ensures utf8 { IsUtf8 to.old.items → OnOk result (IsUtf8 to.new.items) }
 {
     if later { add_text(to, ",") } else { Ok(()) }
 }
@@ -97,7 +101,6 @@ fn add_comma(to: &mut Vec<u8>, later: bool) -> Result<(), AllocError>
 fn add_quoted(to: &mut Vec<u8>, text: &str) -> Result<(), AllocError>
     ensures ok { OnOk result (Adds (quoted text.now) to.old.items to.new.items) }
     ensures err { OnErr result (Keeps to.old.items to.new.items) }
-    ensures utf8 { IsUtf8 to.old.items → OnOk result (IsUtf8 to.new.items) }
 {
     add(to, b"\"")?;
     let mut rest = text.as_bytes();
@@ -143,7 +146,7 @@ fn hex(n: u8) -> u8
 fn add_time(to: &mut Vec<u8>, moment: Instant) -> Result<(), AllocError>
     ensures ok { OnOk result (Adds (quoted_time moment) to.old.items to.new.items) }
     ensures err { OnErr result (Keeps to.old.items to.new.items) }
-    ensures utf8 { IsUtf8 to.old.items → OnOk result (IsUtf8 to.new.items) }
+    ensures moment { IsMoment moment }
 {
     let (text, length) = time_text(moment);
     add(to, b"\"")?;
@@ -154,12 +157,13 @@ fn add_time(to: &mut Vec<u8>, moment: Instant) -> Result<(), AllocError>
 fn add_number(to: &mut Vec<u8>, number: &Number) -> Result<(), AllocError>
     ensures ok { OnOk result (Adds (number_text number.now) to.old.items to.new.items) }
     ensures err { OnErr result (Keeps to.old.items to.new.items) }
-    ensures utf8 { IsUtf8 to.old.items → OnOk result (IsUtf8 to.new.items) }
+    ensures sound { is_number number.now ≡ true }
 {
+    let places = number.scale() as usize;
     add_sign(to, number.mantissa())?;
     let mut buffer = Buffer::new();
     let digits = buffer.format(number.mantissa().unsigned_abs());
-    add_pointed(to, digits.as_bytes(), number.scale() as usize)
+    add_pointed(to, digits.as_bytes(), places)
 }
 
 fn add_sign(to: &mut Vec<u8>, number: i64) -> Result<(), AllocError>
@@ -210,7 +214,6 @@ fn add(to: &mut Vec<u8>, bytes: &[u8]) -> Result<(), AllocError>
 fn add_text(to: &mut Vec<u8>, text: &str) -> Result<(), AllocError>
     ensures ok { OnOk result (Adds text.now to.old.items to.new.items) }
     ensures err { OnErr result (Keeps to.old.items to.new.items) }
-    ensures utf8 { IsUtf8 to.old.items → OnOk result (IsUtf8 to.new.items) }
 {
     add(to, text.as_bytes())
 }

@@ -1,16 +1,19 @@
 //! What holds of JSON texts, as contracts of functions that do nothing.
-ghost use Rattle.std.specs.Prelude.{◌≡◌, ◌↔◌, ℕ, ℤ, List, Option, Some, None};
+ghost use Rattle.std.specs.Prelude.{◌≡◌, ◌↔◌, ℕ, ℤ, List, Option, Some, None, true};
 ghost use Rattle.event_tree.specs.Number.{Num, IsLeast, least};
 ghost use Rattle.event_tree.specs.NumberTexts.{NumberReads};
+ghost use Rattle.event_tree.specs.Sound.{sound};
 ghost use Rattle.event_tree.specs.declared.value.Value.{Value};
 ghost use Rattle.event_json.specs.LeastForms.{IsValueOf};
 ghost use Rattle.event_json.specs.NumberGrammar.{IsNumberText};
-ghost use Rattle.event_json.specs.Timeless.{IsTimeless, ReadsBack};
+ghost use Rattle.event_json.specs.TextLaws.{TextsHaveOneValue, TextsAreComputed, TextsHaveNoFault, FaultsAreOne};
+ghost use Rattle.event_json.specs.Untimed.{ReadsBack};
 
-/// What `write_json` writes of a value without times is a JSON text of that value, of as many levels as
-/// the value has. With at most 100 of them `read_json` therefore reads it as the same value.
+/// What `write_json` writes of a value is a JSON text of that value with the text of each time in its
+/// place, of as many levels as the value has. With at most 100 of them `read_json` therefore reads it
+/// so.
 pub fn what_is_written_reads_back()
-    ensures { (levels : ℕ) (value : Value) → IsTimeless levels value → ReadsBack levels value }
+    ensures { (value : Value) → sound value ≡ true → ReadsBack value }
 {}
 
 /// What `Number::read` answers is what the grammar of JSON says (RFC 8259, section 6): the number of 64
@@ -27,4 +30,18 @@ pub fn least_forms_are_least()
         → IsLeast n.mantissa n.scale × IsValueOf mantissa places n }
     ensures none { (mantissa : ℤ) (places : ℕ) (n : Num) → least mantissa places ≡ None
         → IsLeast n.mantissa n.scale → IsValueOf mantissa places n → ⊥ }
+{}
+
+/// A JSON text (RFC 8259) has one value, however many levels are allowed, which is the one that is
+/// computed, and bytes that are no text are none that is computed.
+pub fn texts_have_one_value()
+    ensures once { TextsHaveOneValue }
+    ensures computed { TextsAreComputed }
+{}
+
+/// A text has no fault, and bytes that are no text have one fault, at one place: what `read_json`
+/// answers is the one that the definition allows.
+pub fn faults_are_at_one_place()
+    ensures none { TextsHaveNoFault }
+    ensures once { FaultsAreOne }
 {}

@@ -1,5 +1,5 @@
 // From bytes to a value.
-ghost use Rattle.std.specs.Prelude.{◌≡◌, [], length, OnOk, IfOk, IfErr};
+ghost use Rattle.std.specs.Prelude.{◌≡◌, [], ◌∷◌, ◌++◌, length, OnOk, IfOk, IfErr};
 ghost use Rattle.std.specs.Str.{IsAscii};
 ghost use Rattle.event_json_laws.specs.Numbers.{number_of as computed_number, number_value as value_of_number};
 ghost use Rattle.event_json_laws.specs.Reading.{skip as skipped, number_at, scalar_at, after_word as behind_word, key_at, after_colon as behind_colon, entry_at, spaced_at, item_at, member_at, elements_at, list_at, object_at, node_at, read as read_all};
@@ -8,6 +8,7 @@ ghost use Rattle.event_json_laws.specs.Json.{JsonWithin};
 ghost use Rattle.event_tree.specs.declared.value.Value.{Value};
 ghost use Rattle.event_json.specs.Stops.{Gives, items_at, members_at, fault_at};
 ghost use Rattle.event_json.specs.Faults.{IsFault, IsOnly};
+ghost use Rattle.event_json.specs.Gathered.{put_all};
 
 use crate::fault::{JsonFault, JsonStop};
 use crate::front::{after_byte, rest_of};
@@ -15,6 +16,9 @@ use crate::scan::{after_word, number_end, skip, stopped};
 use crate::string::string;
 use event_tree::{Fields, Items, Number, Text, Value};
 use std::alloc::{AllocError, Global};
+
+// Keys with their values, of which some may be equal.
+type Pairs = Vec<(Text, Value)>;
 
 // The text behind blanks.
 fn unspaced(text: &str) -> &str
@@ -98,12 +102,37 @@ fn after_colon(text: &str) -> Result<&str, JsonStop>
     }
 }
 
+// Adds a pair behind the others.
+fn add_pair(pairs: &mut Pairs, key: Text, value: Value) -> Result<(), AllocError>
+    ensures { OnOk result (pairs.new.items ≡ pairs.old.items ++ (key, value) ∷ []) }
+{
+    pairs.push((key, value))?;
+    Ok(())
+}
+
 // Of two equal keys the last one's value stands.
 fn put_last(found: &mut Fields<Value>, key: Text, value: Value) -> Result<(), AllocError>
     ensures { OnOk result (found.new ≡ insert_member key value found.old) }
 {
+    if found.is_below(key.as_str()) {
+        return found.push(key, value);
+    }
     found.insert(key, value)?;
     Ok(())
+}
+
+// The members that these pairs are, of which the last with a key stands. They are sorted once, so that
+// each goes behind those before it.
+fn gathered(pairs: Pairs) -> Result<Fields<Value>, AllocError>
+    ensures { IfOk result (λ fields. fields ≡ put_all [] pairs.items) }
+{
+    let mut sorted = pairs;
+    sorted.sort_by(|one, other| one.0.cmp(&other.0))?;
+    let mut found = Fields::with_capacity(*sorted.allocator(), sorted.len())?;
+    for (key, value) in sorted {
+        put_last(&mut found, key, value)?;
+    }
+    Ok(found)
 }
 
 // A value whose arrays and objects nest no deeper than `levels`.
@@ -178,19 +207,20 @@ fn object(alloc: Global, text: &str, levels: usize) -> Result<(Value, &str), Jso
     if let Some(rest) = after_byte(inside, b'}') {
         return Ok((Value::Object(Fields::new(alloc)), rest));
     }
-    let (found, rest) = members(alloc, inside, levels)?;
-    Ok((Value::Object(found), rest))
+    let (pairs, rest) = members(alloc, inside, levels)?;
+    Ok((Value::Object(gathered(pairs)?), rest))
 }
 
+// The pairs of an object, up to its end, in the order of the text.
 #[cycle(read)]
-fn members(alloc: Global, text: &str, levels: usize) -> Result<(Fields<Value>, &str), JsonStop>
-    ensures { Gives (λ x. (x.0, x.1.now)) result (members_at levels text.now) }
+fn members(alloc: Global, text: &str, levels: usize) -> Result<(Pairs, &str), JsonStop>
+    ensures { Gives (λ x. (put_all [] x.0.items, x.1.now)) result (members_at levels text.now) }
 {
-    let mut found = Fields::new(alloc);
+    let mut found = Vec::new(alloc);
     let mut rest = text;
     for _ in 0..text.len() {
         let (key, value, after) = entry(alloc, rest, levels)?;
-        put_last(&mut found, key, value)?;
+        add_pair(&mut found, key, value)?;
         if let Some(behind) = after_byte(after, b'}') {
             return Ok((found, behind));
         }
@@ -241,8 +271,9 @@ fn fault_of(stop: JsonStop, length: usize) -> JsonFault
 /// one's value stands. An escaped surrogate without its partner reads as U+FFFD.
 ///
 /// Bytes that are no UTF-8 are `NotUtf8`, which is tested first. Reading then goes once over the
-/// text, copies what a string has between escapes as a whole, and recurses once for each level. It
-/// takes memory for the value alone.
+/// text, copies what a string has between escapes as a whole, sorts the keys of each object once, and
+/// recurses once for each level. It takes memory for the value, and for the pairs of the objects that
+/// are open.
 pub fn read_json(alloc: Global, bytes: &[u8]) -> Result<Value, JsonFault>
     // What is read is a JSON text of that value, of at most 100 levels.
     ensures found { IfOk result (λ value. JsonWithin 100 bytes.now value) }

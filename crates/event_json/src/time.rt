@@ -1,4 +1,5 @@
 ghost use Rattle.std.specs.Prelude.{◌≡◌, ◌+◌, ◌/◌, ◌%◌, ◌<◌, ◌≤◌, ◌≤ℤ◌, pos, unsigned_abs, take};
+ghost use Rattle.time_instant.specs.Calendar.{IsMoment};
 ghost use Rattle.event_json.specs.TimeText.{digit, date_text, clock_text, nine_digits, decimals_of, time_text_of, moment_in};
 
 use jiff_core::civil::{Date, DateTime, Time};
@@ -12,6 +13,7 @@ pub fn time_text(moment: Instant) -> ([u8; 30], usize)
     ensures text { take result.1 result.0 ≡ time_text_of moment }
     ensures within { result.1 ≤ 30 }
     ensures reads_back { moment_in (take result.1 result.0) ≡ moment }
+    ensures moment { IsMoment moment }
 {
     let shown = DateTime::from_nanosecond_in_range(moment.nanos());
     let nanos = shown.time.subsec_nanosecond;

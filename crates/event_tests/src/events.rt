@@ -5,7 +5,7 @@ use crate::cases::first_word;
 use crate::{json, numbers};
 use event_json::{JsonFault, read_json};
 use event_text::{Template, value_text};
-use event_tree::{DeadLetter, DeadList, Event, Path, Text, Value};
+use event_tree::{DeadList, DeadPart, Event, Path, Text, Value};
 use std::alloc::{AllocError, Global};
 
 /// Makes the call of a line on the event, and adds what it answers.
@@ -32,8 +32,8 @@ fn filled(alloc: Global, template: &str, event: &Event) -> Result<Text, AllocErr
     Template::read(alloc, template)?.fill(event)
 }
 
-fn letter(alloc: Global, event: &Event) -> Result<DeadLetter, AllocError> {
-    Ok(DeadLetter {
+fn letter(alloc: Global, event: &Event) -> Result<DeadPart, AllocError> {
+    Ok(DeadPart {
         kind: Text::of(alloc, "if")?,
         id: Text::of(alloc, "filter_1")?,
         reason: Text::of(alloc, "order")?,

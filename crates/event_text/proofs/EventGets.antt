@@ -1,8 +1,8 @@
 -- The laws of paths at events.
-use Rattle.std.proofs.Common.{◌≡◌, ◌≢◌, ℕ, ◌<◌, List, [], ◌∷◌, ◌++◌, length, Bool, true, false, nat_lt, if◌then◌else◌, Option, Some, None, Result, Ok, Err, option_map, option_and_then, refl, sym, ap, ◌∙◌, rules, arith}
+use Rattle.std.proofs.Common.{◌≡◌, ◌≢◌, ℕ, ◌<◌, List, [], ◌∷◌, ◌++◌, length, Bool, true, false, nat_lt, if◌then◌else◌, Option, Some, None, Result, Ok, Err, option_map, option_and_then, refl, sym, ap, ◌∙◌, rules, arith, remove}
 use Rattle.std.proofs.lemmas.Option.{same_Some}
 use Rattle.event_tree.specs.Values.{Members}
-use Rattle.event_tree.specs.Paths.{at, put, take}
+use Rattle.event_tree.specs.Paths.{list_place, at, put, take, wrap}
 use Rattle.event_tree.specs.Events.{Ev, IsEvent, event_depth, event_size, event_at, event_put, event_take, take_meta, object_in, object, object_put, with_fields, with_meta, limited, to}
 use Rattle.event_tree.specs.declared.fault.PutFault.{PutFault}
 use Rattle.event_tree.specs.declared.fault.PutFault.TheVariants.{Deep, Large}
@@ -10,8 +10,9 @@ use Rattle.event_tree.specs.declared.value.Value.{Value, out-Value, roll-Value, 
 use Rattle.event_tree.specs.declared.value.Value.TheOpen.{Value-F}
 use Rattle.event_tree.specs.declared.value.Value.TheVariants as v
 use Rattle.event_text.specs.PathLaws.{IsNoList, event_passes_end}
-use Rattle.event_text.proofs.PutGets.{at_put, at_put_other}
-use Rattle.event_text.proofs.TakeGets.{taken, at_take, at_take_other}
+use Rattle.event_text.proofs.PutGets.{at_put, at_put_other, at_put_here}
+use Rattle.event_text.proofs.TakeGets.{taken, at_take, at_take_other, at_take_item}
+use Rattle.event_text.proofs.Levels.{Changed}
 
 ok_same : {A E : Type 0} (a b : A) → ◌≡◌ {A = Result A E} (Ok a) (Ok b) → a ≡ b
 ok_same a b e = ap (λ o. elim o [ Ok x ↦ x | Err x ↦ a ]) e
@@ -114,9 +115,9 @@ take_apart false true ps qs x old new apart h = let l = left_of (with_fields old
 pub taken_gone : (meta : Bool) (front : List (List ℕ)) (p : List ℕ) (ms : Members) (x : Value) (old new : Ev) → IsEvent old → event_at (to meta front) old ≡ Some (v.Object ms)
     → event_take (to meta (front ++ p ∷ [])) old ≡ Some (x, new) → event_at (to meta (front ++ p ∷ [])) new ≡ None
 taken_gone true front p ms x old new is found h = let l = meta_left (front ++ p ∷ []) x old new (some_parts front [] p) h in
-    ap (λ e. at (front ++ p ∷ []) e.meta) l.2 ∙ at_take p x front old.meta l.0 ms is.meta_ordered found l.1
+    ap (λ e. at (front ++ p ∷ []) e.meta) l.2 ∙ at_take p x front old.meta l.0 ms is.meta_sound found l.1
 taken_gone false front p ms x old new is found h = let l = left_of (with_fields old) (take (front ++ p ∷ []) old.fields) x new h in
-    ap (λ e. at (front ++ p ∷ []) e.fields) l.2 ∙ at_take p x front old.fields l.0 ms is.fields_ordered found l.1
+    ap (λ e. at (front ++ p ∷ []) e.fields) l.2 ∙ at_take p x front old.fields l.0 ms is.fields_sound found l.1
 
 pub meta_emptied : (x : Value) (old new : Ev) → event_take (to true []) old ≡ Some (x, new) → event_at (to true []) new ≡ Some (v.Object [])
 meta_emptied x old new h = let l = left_of (with_meta old) (take_meta [] old.meta) x new h in
@@ -124,3 +125,19 @@ meta_emptied x old new h = let l = left_of (with_meta old) (take_meta [] old.met
   where
     empty : (y : Value) → ◌≡◌ {A = Option (Value × Value)} (Some (old.meta, v.Object [])) (Some (x, y)) → y ≡ v.Object []
     empty y e = sym (ap (λ r. r.1) (same_Some (old.meta, v.Object []) (x, y) e))
+
+-- ---- lists
+
+pub put_here : (meta : Bool) (front : List (List ℕ)) (p : List ℕ) (d e made : Value) (old new : Ev) → ((a b : Value) → a ≡ e → Changed p (put [] d) (wrap [] d) a b → b ≡ made) → event_at (to meta front) old ≡ Some e
+    → limited (event_put (to meta (front ++ p ∷ [])) d old) ≡ Ok new → event_at (to meta front) new ≡ Some made
+put_here true front p d e made old new here found h = let b = became (with_meta old) (object_put (front ++ p ∷ []) d old.meta) new (within (event_put (to true (front ++ p ∷ [])) d old) new h) in
+    ap (λ x. at front x.meta) b.2 ∙ at_put_here p d e made here front old.meta b.0 found (put_same (put (front ++ p ∷ []) d old.meta) b.0 b.1)
+put_here false front p d e made old new here found h = let b = became (with_fields old) (object_put (front ++ p ∷ []) d old.fields) new (within (event_put (to false (front ++ p ∷ [])) d old) new h) in
+    ap (λ x. at front x.fields) b.2 ∙ at_put_here p d e made here front old.fields b.0 found (put_same (put (front ++ p ∷ []) d old.fields) b.0 b.1)
+
+pub taken_closed : (meta : Bool) (front : List (List ℕ)) (p : List ℕ) (vs : List Value) (i : ℕ) (x : Value) (old new : Ev) → list_place p (length vs) ≡ Some i → event_at (to meta front) old ≡ Some (v.List vs)
+    → event_take (to meta (front ++ p ∷ [])) old ≡ Some (x, new) → event_at (to meta front) new ≡ Some (v.List (remove vs i))
+taken_closed true front p vs i x old new named found h = let l = meta_left (front ++ p ∷ []) x old new (some_parts front [] p) h in
+    ap (λ e. at front e.meta) l.2 ∙ at_take_item p x vs i named front old.meta l.0 found l.1
+taken_closed false front p vs i x old new named found h = let l = left_of (with_fields old) (take (front ++ p ∷ []) old.fields) x new h in
+    ap (λ e. at front e.fields) l.2 ∙ at_take_item p x vs i named front old.fields l.0 found l.1

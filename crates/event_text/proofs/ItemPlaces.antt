@@ -18,7 +18,7 @@ pub get_pushed : {X : Type 0} (xs : List X) (y : X) → slice_get (xs ++ y ∷ [
 get_pushed [] y = refl
 get_pushed (z ∷ xs) y = get_pushed xs y
 
-none_past : {X : Type 0} (xs : List X) (i : ℕ) → slice_get xs i ≡ None → length xs ≤ i
+pub none_past : {X : Type 0} (xs : List X) (i : ℕ) → slice_get xs i ≡ None → length xs ≤ i
 none_past [] i h = omega arith
 none_past (x ∷ xs) zero h = absurd (search (h, rules))
 none_past (x ∷ xs) (suc i) h = let le : length xs ≤ i = none_past xs i h in omega (arith, le)

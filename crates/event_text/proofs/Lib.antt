@@ -13,3 +13,5 @@ pub mod ItemPlaces
 pub mod PutGets
 pub mod TakeGets
 pub mod EventGets
+pub mod ValueLemmas
+pub mod TemplateLaws

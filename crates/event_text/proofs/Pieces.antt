@@ -5,14 +5,14 @@ use Rattle.std.proofs.lemmas.List.{drop-drop}
 use Rattle.std.proofs.lemmas.Bool.Decides.{nat_tests}
 use Rattle.std.specs.Str.{IsUtf8, IsCharBoundary}
 use Rattle.std.proofs.lemmas.Str.{IsCharBoundary-before_ascii, IsCharBoundary-after_ascii}
-use Rattle.event_tree.proofs.Orders.{first, second}
-use Rattle.event_text.specs.Template.{opens, before_close, placed, template_part_of, placeholder}
+use Rattle.event_tree.proofs.Sounds.{first, second}
+use Rattle.event_text.specs.Template.{opens, before_close, IsNextClose, placed, template_part_of, placeholder}
 use Rattle.event_text.specs.declared.template.TemplatePart.{TemplatePart}
 
 is_close : (b : ℕ) → b ≡ 125 → (b == 125) ≡ true
 is_close b h = grind (arith, nat_tests)
 
-not_close : (b : ℕ) → b ≢ 125 → (b == 125) ≡ false
+pub not_close : (b : ℕ) → b ≢ 125 → (b == 125) ≡ false
 not_close b h = grind (arith, nat_tests)
 
 first_close : (n : ℕ) (xs : List ℕ) → n < length xs → ((k : ℕ) → k < n → get_or xs k 0 ≢ 125) → get_or xs n 0 ≡ 125 → before_close xs ≡ Some (take n xs)
@@ -35,6 +35,10 @@ close_found bytes from at after within before is =
 
 pub close_missing : (bytes : List ℕ) (from : ℕ) → ((k : ℕ) → from ≤ k → k < length bytes → get_or bytes k 0 ≢ 125) → before_close (drop from bytes) ≡ None
 close_missing bytes from none = no_close (drop from bytes) (λ k h s. none (from + k) (omega arith) (omega (arith, length-drop from bytes, h)) (sym (get_or-drop from bytes k 0) ∙ s))
+
+-- further on the next `}` is the same, as long as it stands behind
+pub next_later : (bytes : List ℕ) (from later close : ℕ) → from ≤ later → IsNextClose bytes from close → IsNextClose bytes later close
+next_later bytes from later close on h = (h.0, λ k low high. h.1 k (omega (arith, on, low)) high, λ after within. h.2 (omega (arith, on, after)) within)
 
 two_front : (bytes : List ℕ) (at : ℕ) → at + 1 < length bytes → drop at bytes ≡ get_or bytes at 0 ∷ get_or bytes (at + 1) 0 ∷ drop (suc (at + 1)) bytes
 two_front bytes at h =

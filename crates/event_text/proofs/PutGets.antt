@@ -1,14 +1,17 @@
 -- What stands at a path after a put.
-use Rattle.std.proofs.Common.{◌≡◌, ◌≢◌, ℕ, List, [], ◌∷◌, ◌++◌, Bool, true, false, if◌then◌else◌, Option, Some, None, option_map, option_and_then, refl, sym, ap, ◌∙◌, slice_set}
+use Rattle.std.proofs.Common.{◌≡◌, ◌≢◌, ℕ, List, [], ◌∷◌, ◌++◌, Bool, true, false, if◌then◌else◌, Option, Some, None, option_map, option_and_then, refl, sym, ap, ◌∙◌, arith, rules, length, ◌<◌, slice_get, slice_set}
 use Rattle.plain_data.specs.Members.{get_member, set_member, insert_member}
 use Rattle.plain_data.proofs.ChangeLemmas.{get_member-insert_member, get_member-set_member, get_member-insert_member-other, get_member-set_member-other}
 use Rattle.event_tree.specs.Values.{Members}
-use Rattle.event_tree.specs.Paths.{step, at, put, wrap, over}
+use Rattle.event_tree.specs.Paths.{list_place, step, at, put, wrap, over}
+use Rattle.event_tree.proofs.PutLaws.{list_no_object}
+use Rattle.std.proofs.lemmas.Option.{same_Some, slice_get_past}
 use Rattle.event_tree.specs.declared.value.Value.{Value}
 use Rattle.event_tree.specs.declared.value.Value.TheVariants as v
 use Rattle.event_text.specs.PathLaws.{IsNoList, is_from_end, passes_end_in, passes_end}
 use Rattle.event_text.proofs.Levels.{step-List, step-Object, Changed, set_item, push_item, set_field, insert_field, changed}
-use Rattle.event_text.proofs.ItemPlaces.{step_pushed, step_set, step_is}
+use Rattle.event_text.proofs.ItemPlaces.{none_past, step_pushed, step_set, step_is}
+use Rattle.event_text.proofs.TakeGets.{list_is}
 
 passes-List : (p : List ℕ) (ps : List (List ℕ)) (vs : List Value) (o : Option Value) → step p (v.List vs) ≡ o → passes_end (p ∷ ps) (v.List vs) ≡ over (passes_end ps) (is_from_end p) o
 passes-List p ps vs o e = ap (passes_end_in p (passes_end ps)) (v.outs-List vs) ∙ ap (over (passes_end ps) (is_from_end p)) (sym (step-List p vs) ∙ e)
@@ -90,3 +93,51 @@ module _ (p q : List ℕ) (ps qs : List (List ℕ)) (d : Value) (other : p ≢ q
   pub at_put_other : (front : List (List ℕ)) (old new : Value) → IsNoList (at front old) → put (front ++ p ∷ ps) d old ≡ Some new → at (front ++ q ∷ qs) new ≡ at (front ++ q ∷ qs) old
   at_put_other [] old new unlisted h = parted old new unlisted (changed p (put ps d) (wrap ps d) old new h)
   at_put_other (r ∷ front) old new unlisted h = deeper r front old new unlisted (λ x y k l. at_put_other front x y k l) (changed r (put (front ++ p ∷ ps) d) (wrap (front ++ p ∷ ps) d) old new h)
+
+-- ---- lists
+
+module _ (p : List ℕ) (d : Value) (vs : List Value) (i : ℕ) (named : list_place p (length vs) ≡ Some i) where
+  -- the same list and the same place
+  place_is : (ws : List Value) (j : ℕ) → ws ≡ vs → list_place p (length ws) ≡ Some j → j ≡ i
+  place_is ws j same at = same_Some j i (sym at ∙ ap (λ us. list_place p (length us)) same ∙ named)
+
+  pub set_here : i < length vs → (old new : Value) → old ≡ v.List vs → Changed p (put [] d) (wrap [] d) old new → new ≡ v.List (slice_set vs i d)
+  set_here within old new is (set_item ws j x y was at g h n) =
+      let same : ws ≡ vs = list_is ws vs (sym was ∙ is) in
+      n ∙ ap (λ us. v.List (slice_set us j y)) same ∙ ap (λ k. v.List (slice_set vs k y)) (place_is ws j same at) ∙ ap (λ z. v.List (slice_set vs i z)) (sym (same_Some d y h))
+  set_here within old new is (push_item ws j was at g n) =
+      let same : ws ≡ vs = list_is ws vs (sym was ∙ is) in
+      absurd (omega (arith, within, none_past ws j g, place_is ws j same at, ap length same))
+  set_here within old new is (set_field ms x y was g h n) = absurd (list_no_object vs ms (sym is ∙ was))
+  set_here within old new is (insert_field ms was g n) = absurd (list_no_object vs ms (sym is ∙ was))
+
+  pub added_here : i ≡ length vs → (old new : Value) → old ≡ v.List vs → Changed p (put [] d) (wrap [] d) old new → new ≡ v.List (vs ++ d ∷ [])
+  added_here end old new is (set_item ws j x y was at g h n) =
+      let same : ws ≡ vs = list_is ws vs (sym was ∙ is) in
+      let none : slice_get ws j ≡ None = slice_get_past ws j (omega (arith, end, place_is ws j same at, ap length same)) in
+      absurd (search (sym none ∙ g, rules))
+  added_here end old new is (push_item ws j was at g n) = n ∙ ap (λ us. v.List (us ++ d ∷ [])) (list_is ws vs (sym was ∙ is))
+  added_here end old new is (set_field ms x y was g h n) = absurd (list_no_object vs ms (sym is ∙ was))
+  added_here end old new is (insert_field ms was g n) = absurd (list_no_object vs ms (sym is ∙ was))
+
+module _ (p : List ℕ) (d e made : Value) (here : (old new : Value) → old ≡ e → Changed p (put [] d) (wrap [] d) old new → new ≡ made) where
+  module _ (r : List ℕ) (front : List (List ℕ)) (old new : Value) (is : at (r ∷ front) old ≡ Some e)
+      (inner : (x y : Value) → at front x ≡ Some e → put (front ++ p ∷ []) d x ≡ Some y → at front y ≡ Some made) where
+    through_here : (x y : Value) → step r old ≡ Some x → step r new ≡ Some y → put (front ++ p ∷ []) d x ≡ Some y → at (r ∷ front) new ≡ Some made
+    through_here x y was now h = ap (option_and_then (at front)) now ∙ inner x y (sym (ap (option_and_then (at front)) was) ∙ is) h
+
+    missing : step r old ≡ None → at (r ∷ front) new ≡ Some made
+    missing was = absurd (search (sym is ∙ ap (option_and_then (at front)) was, rules))
+
+    one_deeper : Changed r (put (front ++ p ∷ []) d) (wrap (front ++ p ∷ []) d) old new → at (r ∷ front) new ≡ Some made
+    one_deeper (set_item vs i x y was e g h n) = through_here x y
+        (ap (step r) was ∙ step-List r vs ∙ step_is r vs i (Some x) e g) (ap (step r) n ∙ step-List r (slice_set vs i y) ∙ step_set r vs i x y e g) h
+    one_deeper (push_item vs i was e g n) = missing (ap (step r) was ∙ step-List r vs ∙ step_is r vs i None e g)
+    one_deeper (set_field ms x y was g h n) = through_here x y
+        (ap (step r) was ∙ step-Object r ms ∙ g) (ap (step r) n ∙ step-Object r (set_member r y ms) ∙ get_member-set_member r y ms ∙ ap (option_map (λ _. y)) g) h
+    one_deeper (insert_field ms was g n) = missing (ap (step r) was ∙ step-Object r ms ∙ g)
+
+  -- what a put at a part of the value at the end of the front makes of that value
+  pub at_put_here : (front : List (List ℕ)) (old new : Value) → at front old ≡ Some e → put (front ++ p ∷ []) d old ≡ Some new → at front new ≡ Some made
+  at_put_here [] old new is h = ap Some (here old new (same_Some old e is) (changed p (put [] d) (wrap [] d) old new h))
+  at_put_here (r ∷ front) old new is h = one_deeper r front old new is (λ x y k l. at_put_here front x y k l) (changed r (put (front ++ p ∷ []) d) (wrap (front ++ p ∷ []) d) old new h)

@@ -4,12 +4,12 @@ use Rattle.std.proofs.lemmas.Option.{same_Some}
 use Rattle.plain_data.specs.Members.{Rises, get_member, set_member, remove_member}
 use Rattle.plain_data.proofs.ChangeLemmas.{get_member-set_member, get_member-remove_member, get_member-set_member-other, get_member-remove_member-other}
 use Rattle.event_tree.specs.Values.{Members}
-use Rattle.event_tree.specs.Ordered.{ordered}
+use Rattle.event_tree.specs.Sound.{sound}
 use Rattle.event_tree.specs.Paths.{list_place, step, step_in, at, take, cut_in, through_in}
 use Rattle.event_tree.specs.declared.value.Value.{Value, out-Value, roll-Value, out-roll-Value}
 use Rattle.event_tree.specs.declared.value.Value.TheOpen.{Value-F}
 use Rattle.event_tree.specs.declared.value.Value.TheVariants as v
-use Rattle.event_tree.proofs.Orders.{ordered-List, items_ordered-get, ordered-get_member, rises_of}
+use Rattle.event_tree.proofs.Sounds.{sound-List, items_sound-get, sound-get_member, rises_of}
 use Rattle.event_tree.proofs.PutLaws.{list_no_object}
 use Rattle.event_tree.proofs.Shapes.{Shape, shape_of, is_null, is_bool, is_number, is_text, is_time, is_list, is_object}
 use Rattle.event_text.specs.PathLaws.{IsNoList}
@@ -109,25 +109,25 @@ module _ (p q : List ℕ) (ps qs : List (List ℕ)) (x : Value) (other : p ≢ q
       ∙ sym (ap (option_and_then (at (front ++ q ∷ qs))) is))
       (was_cut_through r x old new (take (front ++ p ∷ ps)) (sym (take_more r (front ++ p ∷ ps) old (some_parts front ps p)) ∙ h))
 
--- the values of an ordered list or object are ordered
-step_ordered : (p : List ℕ) (d e : Value) → ordered d ≡ true → step p d ≡ Some e → ordered e ≡ true
-step_ordered p d e o h = by_shape (shape_of d)
+-- the values of a sound list or object are sound
+pub step_sound : (p : List ℕ) (d e : Value) → sound d ≡ true → step p d ≡ Some e → sound e ≡ true
+step_sound p d e o h = by_shape (shape_of d)
   where
-    at_place : (vs : List Value) (i : Option ℕ) → ordered (v.List vs) ≡ true → option_and_then (λ i. slice_get vs i) i ≡ Some e → ordered e ≡ true
+    at_place : (vs : List Value) (i : Option ℕ) → sound (v.List vs) ≡ true → option_and_then (λ i. slice_get vs i) i ≡ Some e → sound e ≡ true
     at_place vs None k g = absurd (search (g, rules))
-    at_place vs (Some i) k g = items_ordered-get vs i e (sym (ordered-List vs) ∙ k) g
+    at_place vs (Some i) k g = items_sound-get vs i e (sym (sound-List vs) ∙ k) g
 
-    scalar : (f : Value-F Value) → d ≡ roll-Value f → step_in p f ≡ None → ordered e ≡ true
+    scalar : (f : Value-F Value) → d ≡ roll-Value f → step_in p f ≡ None → sound e ≡ true
     scalar f is none = absurd (search (sym h ∙ ap (λ x. step p x) is ∙ ap (step_in p) (out-roll-Value f) ∙ none, rules))
 
-    by_shape : Shape d → ordered e ≡ true
+    by_shape : Shape d → sound e ≡ true
     by_shape (is_null is) = scalar Value-F.Null (is ∙ sym v.rolls-Null) refl
     by_shape (is_bool b is) = scalar (Value-F.Bool b) (is ∙ sym (v.rolls-Bool b)) refl
     by_shape (is_number n is) = scalar (Value-F.Num n) (is ∙ sym (v.rolls-Num n)) refl
     by_shape (is_text s is) = scalar (Value-F.Text s) (is ∙ sym (v.rolls-Text s)) refl
     by_shape (is_time t is) = scalar (Value-F.Time t) (is ∙ sym (v.rolls-Time t)) refl
-    by_shape (is_list vs is) = at_place vs (list_place p (length vs)) (ap ordered (sym is) ∙ o) (sym (step-List p vs) ∙ ap (step p) (sym is) ∙ h)
-    by_shape (is_object ms is) = ordered-get_member p ms e (ap ordered (sym is) ∙ o) (sym (step-Object p ms) ∙ ap (step p) (sym is) ∙ h)
+    by_shape (is_list vs is) = at_place vs (list_place p (length vs)) (ap sound (sym is) ∙ o) (sym (step-List p vs) ∙ ap (step p) (sym is) ∙ h)
+    by_shape (is_object ms is) = sound-get_member p ms e (ap sound (sym is) ∙ o) (sym (step-Object p ms) ∙ ap (step p) (sym is) ∙ h)
 
 object_is : (ms ns : Members) → v.Object ms ≡ v.Object ns → ms ≡ ns
 object_is ms ns e = fields (sym (v.outs-Object ms) ∙ ap out-Value e ∙ v.outs-Object ns)
@@ -144,6 +144,34 @@ object_is ms ns e = fields (sym (v.outs-Object ms) ∙ ap out-Value e ∙ v.outs
         members_of (Value-F.List vs) = ms
         members_of (Value-F.Object xs) = xs
 
+pub list_is : (vs ws : List Value) → v.List vs ≡ v.List ws → vs ≡ ws
+list_is vs ws e = ap items_of (sym (v.outs-List vs) ∙ ap out-Value e ∙ v.outs-List ws)
+  where
+    items_of : Value-F Value → List Value
+    items_of Value-F.Null = vs
+    items_of (Value-F.Bool b) = vs
+    items_of (Value-F.Num n) = vs
+    items_of (Value-F.Text s) = vs
+    items_of (Value-F.Time t) = vs
+    items_of (Value-F.List xs) = xs
+    items_of (Value-F.Object ms) = vs
+
+module _ (p : List ℕ) (x : Value) (vs : List Value) (i : ℕ) (named : list_place p (length vs) ≡ Some i) where
+  closed_here : (old new : Value) → old ≡ v.List vs → Cut p x old new → new ≡ v.List (remove vs i)
+  closed_here old new is (cut_item ws j listed e g n) =
+      let same : ws ≡ vs = list_is ws vs (sym listed ∙ is) in
+      let place : j ≡ i = same_Some j i (sym e ∙ ap (λ us. list_place p (length us)) same ∙ named) in
+      n ∙ ap (λ us. v.List (remove us j)) same ∙ ap (λ k. v.List (remove vs k)) place
+  closed_here old new is (cut_field ns was g n) = absurd (list_no_object vs ns (sym is ∙ was))
+
+  -- behind a take from a list the list has the other items
+  pub at_take_item : (front : List (List ℕ)) (old new : Value) → at front old ≡ Some (v.List vs) → take (front ++ p ∷ []) old ≡ Some (x, new) → at front new ≡ Some (v.List (remove vs i))
+  at_take_item [] old new is h = ap Some (closed_here old new (same_Some old (v.List vs) is) (was_cut p x old new h))
+  at_take_item (r ∷ front) old new is h =
+      one_further r (take (front ++ p ∷ [])) x old new (at (r ∷ front) new ≡ Some (v.List (remove vs i)))
+      (λ e y was now cut. ap (option_and_then (at front)) now ∙ at_take_item front e y (sym (ap (option_and_then (at front)) was) ∙ is) cut)
+      (was_cut_through r x old new (take (front ++ p ∷ [])) (sym (take_more r (front ++ p ∷ []) old (some_parts front [] p)) ∙ h))
+
 module _ (p : List ℕ) (x : Value) where
   gone_here : (old new : Value) (ms : Members) → old ≡ v.Object ms → Rises ms → Cut p x old new → at (p ∷ []) new ≡ None
   gone_here old new ms is rises (cut_item vs i listed e g n) = absurd (list_no_object vs ms (sym listed ∙ is))
@@ -151,10 +179,10 @@ module _ (p : List ℕ) (x : Value) where
       (ap (step p) n ∙ step-Object p (remove_member p ns) ∙ get_member-remove_member p ns (subst Rises (object_is ms ns (sym is ∙ was)) rises))
 
   -- behind a take from an object nothing stands at its path
-  pub at_take : (front : List (List ℕ)) (old new : Value) (ms : Members) → ordered old ≡ true → at front old ≡ Some (v.Object ms) → take (front ++ p ∷ []) old ≡ Some (x, new) → at (front ++ p ∷ []) new ≡ None
-  at_take [] old new ms o is h = let same : old ≡ v.Object ms = same_Some old (v.Object ms) is in gone_here old new ms same (rises_of ms (ap ordered (sym same) ∙ o)) (was_cut p x old new h)
+  pub at_take : (front : List (List ℕ)) (old new : Value) (ms : Members) → sound old ≡ true → at front old ≡ Some (v.Object ms) → take (front ++ p ∷ []) old ≡ Some (x, new) → at (front ++ p ∷ []) new ≡ None
+  at_take [] old new ms o is h = let same : old ≡ v.Object ms = same_Some old (v.Object ms) is in gone_here old new ms same (rises_of ms (ap sound (sym same) ∙ o)) (was_cut p x old new h)
   at_take (r ∷ front) old new ms o is h =
       one_further r (take (front ++ p ∷ [])) x old new (at (r ∷ (front ++ p ∷ [])) new ≡ None)
       (λ e y was now cut. ap (option_and_then (at (front ++ p ∷ []))) now
-      ∙ at_take front e y ms (step_ordered r old e o was) (sym (ap (option_and_then (at front)) was) ∙ is) cut)
+      ∙ at_take front e y ms (step_sound r old e o was) (sym (ap (option_and_then (at front)) was) ∙ is) cut)
       (was_cut_through r x old new (take (front ++ p ∷ [])) (sym (take_more r (front ++ p ∷ []) old (some_parts front [] p)) ∙ h))

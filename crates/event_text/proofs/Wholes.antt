@@ -5,7 +5,7 @@ use Rattle.std.specs.Option.{option_and_then, option_or}
 use Rattle.std.proofs.lemmas.Bool.Decides.{nat_tests}
 use Rattle.event_tree.specs.Events.{Way}
 use Rattle.event_tree.specs.Paths.{over}
-use Rattle.event_tree.proofs.Orders.{first, second}
+use Rattle.event_tree.proofs.Sounds.{first, second}
 use Rattle.event_text.specs.PathReading.{way_in}
 use Rattle.event_text.specs.DateFormats.{format_of}
 use Rattle.event_text.specs.Template.{before_close, placed, date_part_of, field_part_of, template_part_of, placeholder, with_plain, template_parts_behind, template_parts, as_written, written, IsRead, AreRead}
@@ -70,7 +70,7 @@ abbrev Stands : List ℕ → Option (TemplatePart × ℕ) → Type 0
 Stands text None = Unit {0}
 Stands text (Some f) = (0 < f.1) × IsRead f.0 × (written f.0 ++ drop f.1 text ≡ text)
 
-drop_whole : (inner more : List ℕ) → drop (length inner + 1) (inner ++ 125 ∷ more) ≡ more
+pub drop_whole : (inner more : List ℕ) → drop (length inner + 1) (inner ++ 125 ∷ more) ≡ more
 drop_whole [] more = refl
 drop_whole (b ∷ inner) more = let e : length (b ∷ inner) + 1 ≡ suc (length inner + 1) = omega arith in ap (λ n. drop n (b ∷ (inner ++ 125 ∷ more))) e ∙ drop_whole inner more
 

@@ -5,3 +5,4 @@ pub mod Template
 pub mod PathLaws
 pub mod TextLaws
 pub mod Adds
+pub mod ValueLaws

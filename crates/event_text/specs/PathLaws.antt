@@ -69,3 +69,21 @@ IsWithinLimits event = (event_depth event ≤ 128) × (event_size event ≤ 1677
 -- an event that is too large, and not too deep
 abbrev pub IsTooLarge : Ev → Type 0
 IsTooLarge event = (event_depth event ≤ 128) × (16777216 < event_size event)
+
+-- a part that names a place in the list that stands at the end of a front
+pub record Item : Type 0 where
+  pub meta : Bool
+  pub front : List (List ℕ)
+  pub part : List ℕ
+  pub items : List Value
+  pub place : ℕ
+
+-- the paths to the list and to the place
+abbrev pub list_of : Item → Way
+list_of item = to item.meta item.front
+
+abbrev pub way_of : Item → Way
+way_of item = to item.meta (item.front ++ item.part ∷ [])
+
+abbrev pub StandsIn : Item → Ev → Type 0
+StandsIn item event = (event_at (list_of item) event ≡ Some (v.List item.items)) × (list_place item.part (length item.items) ≡ Some item.place)

@@ -1,6 +1,6 @@
 -- What a template's text says, part by part, and the text that an event fills it to.
 use Rattle.std.specs.Str.{IsCharBoundary}
-use Rattle.std.specs.Prelude.{◌≡◌, ◌<◌, ◌≤◌, ℕ, zero, suc, ◌+◌, ◌-◌, ◌==◌, ◌&&◌, slice_index, true, ℤ, List, [], ◌∷◌, ◌++◌, length, take, drop, flat_map, Bool, false, if◌then◌else◌, codes, Option, Some, None, option_map, option_and_then}
+use Rattle.std.specs.Prelude.{◌≡◌, ◌≢◌, ◌<◌, ◌≤◌, ℕ, zero, suc, ◌+◌, ◌-◌, ◌==◌, ◌&&◌, slice_index, true, ℤ, List, [], ◌∷◌, ◌++◌, length, take, drop, flat_map, Bool, false, if◌then◌else◌, codes, Option, Some, None, option_map, option_and_then}
 use Rattle.std.specs.Option.{option_or}
 use Rattle.event_tree.specs.Characters.{plus, percent, opening_brace, closing_brace}
 use Rattle.event_tree.specs.Events.{Ev, event_at}
@@ -39,6 +39,10 @@ before_close (b ∷ bs) = if b == closing_brace then Some [] else option_map (λ
 -- the first `}` from one place on stands at the other
 abbrev pub ClosesAt : List ℕ → ℕ → ℕ → Type 0
 ClosesAt bytes from close = before_close (drop from bytes) ≡ Some (take (close - from) (drop from bytes))
+
+-- no `}` stands from one place on before the other, which is that of a `}` or the end of the bytes, or stands in front of the first
+abbrev pub IsNextClose : List ℕ → ℕ → ℕ → Type 0
+IsNextClose bytes from close = (close ≤ length bytes) × ((k : ℕ) → from ≤ k → k < close → slice_index bytes k ≢ closing_brace) × (from ≤ close → close < length bytes → slice_index bytes close ≡ closing_brace)
 
 -- `%{` stands at one place, and the first `}` behind it at the other
 pub record Encloses (text : List ℕ) (at close : ℕ) : Type 0 where

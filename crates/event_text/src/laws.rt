@@ -6,7 +6,7 @@ ghost use Rattle.std.specs.Prelude.{◌≡◌, ℕ, List, Some, flat_map};
 ghost use Rattle.event_tree.specs.Number.{Num};
 ghost use Rattle.event_tree.specs.NumberTexts.{NumberReads, IsI64};
 ghost use Rattle.event_json.specs.Json.{number_text};
-ghost use Rattle.event_text.specs.TextLaws.{PathsAreOne, PathsAreComputed, FaultyTextsAreNoPaths, FaultsAreOne, FaultsAreComputed, PathsHaveNoFault, NumbersAreOne, NumberTextsReadAsNoOther};
+ghost use Rattle.event_text.specs.TextLaws.{PathsAreOne, PathsAreComputed, FaultyTextsAreNoPaths, FaultsAreOne, FaultsAreComputed, PathsHaveNoFault, NumbersAreOne, NumberTextsReadAsNoOther, DatesAreRead, FieldsAreRead, OthersStay, UnclosedStays, UnopenedStays, PlainTextsAreOnePiece, RunsAreParts, OtherRunsAreRefused};
 ghost use Rattle.event_text.specs.Template.{template_parts, written, AreRead};
 
 /// A text is a path in one way at most, which is the one that is computed, and it is none where a
@@ -41,4 +41,23 @@ pub fn number_texts_read_back()
 pub fn pieces_are_those_of_the_text()
     ensures whole { (template : List ℕ) → flat_map written (template_parts template) ≡ template }
     ensures read { (template : List ℕ) → AreRead (template_parts template) }
+{}
+
+/// What begins with `%{`, a format behind `+` or else a path, and the next `}`, is that date or field,
+/// and then come the pieces of the rest. Where it is neither, where no `}` stands behind, and where a
+/// text begins otherwise, its first byte is plain, and reading goes on behind it. So these are all pieces
+/// that a template has. A text with no `%` is plain.
+pub fn placeholders_are_read()
+    ensures date { DatesAreRead }
+    ensures field { FieldsAreRead }
+    ensures other { OthersStay }
+    ensures unclosed { UnclosedStays }
+    ensures unopened { UnopenedStays }
+    ensures plain { PlainTextsAreOnePiece }
+{}
+
+/// A format is its longest runs of one letter, or of bytes that are no letters, each a part of its own.
+pub fn formats_are_read_run_by_run()
+    ensures part { RunsAreParts }
+    ensures other { OtherRunsAreRefused }
 {}

@@ -7,6 +7,7 @@ pub mod laws;
 pub mod path_laws;
 mod shown;
 mod template;
+pub mod value_laws;
 
 pub use date_format::DatePart;
 pub use event_json::{JsonFault, read_json, time_text, write_json};

@@ -1,13 +1,13 @@
 //! What `get` answers after a `put` or a `take`, as contracts of functions that do nothing: a caller
 //! learns the law by the call.
-ghost use Rattle.std.specs.Prelude.{◌≡◌, ◌≢◌, ℕ, ◌<◌, List, [], length, Bool, true, false, if◌then◌else◌, Some, None, Ok, Err};
+ghost use Rattle.std.specs.Prelude.{◌≡◌, ◌≢◌, ℕ, ◌<◌, List, [], ◌∷◌, ◌++◌, length, remove, slice_set, Bool, true, false, if◌then◌else◌, Some, None, Ok, Err};
 ghost use Rattle.std.specs.Option.{option_map};
 ghost use Rattle.event_tree.specs.Values.{Members};
 ghost use Rattle.event_tree.specs.Events.{Ev, Way, IsEvent, event_depth, to, event_at, event_put, event_take, limited};
 ghost use Rattle.event_tree.specs.declared.fault.PutFault.TheVariants.{ThroughScalar, Deep, Large};
 ghost use Rattle.event_tree.specs.declared.value.Value.{Value};
 ghost use Rattle.event_tree.specs.declared.value.Value.TheVariants as v;
-ghost use Rattle.event_text.specs.PathLaws.{Fork, PartsIn, one_end, other_end, key_of, IsWithinLimits, IsTooLarge, event_passes_end};
+ghost use Rattle.event_text.specs.PathLaws.{Fork, PartsIn, one_end, other_end, key_of, Item, StandsIn, list_of, way_of, IsWithinLimits, IsTooLarge, event_passes_end};
 
 /// After a `put` that succeeds, `get` of the same path gives the value. There is one exception: a put
 /// behind the last item of a list by a part that counts from its end, as `-0`. The list is longer then,
@@ -53,6 +53,24 @@ pub fn other_paths_are_not_taken()
         → event_at (other_end fork) new ≡ event_at (other_end fork) old }
     ensures apart { (way other : Way) (value : Value) (old new : Ev) → way.meta ≢ other.meta
         → event_take way old ≡ Some (value, new) → event_at other new ≡ event_at other old }
+{}
+
+/// A `take` of an item of a list leaves the others, closed up.
+pub fn lists_close_up()
+    ensures { (item : Item) (value : Value) (old new : Ev) → StandsIn item old
+        → event_take (way_of item) old ≡ Some (value, new)
+        → event_at (list_of item) new ≡ Some (v.List (remove item.items item.place)) }
+{}
+
+/// A `put` at an item of a list sets that item and keeps the others, and a `put` behind the last item
+/// adds one and keeps them all.
+pub fn items_are_set_and_added()
+    ensures set { (item : Item) (value : Value) (old new : Ev) → StandsIn item old
+        → item.place < length item.items → limited (event_put (way_of item) value old) ≡ Ok new
+        → event_at (list_of item) new ≡ Some (v.List (slice_set item.items item.place value)) }
+    ensures added { (item : Item) (value : Value) (old new : Ev) → StandsIn item old
+        → item.place ≡ length item.items → limited (event_put (way_of item) value old) ≡ Ok new
+        → event_at (list_of item) new ≡ Some (v.List (item.items ++ value ∷ [])) }
 {}
 
 /// The limits of events: 128 levels and 16,777,216 bytes. What would be past one of them is refused, the

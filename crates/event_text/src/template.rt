@@ -1,8 +1,7 @@
-ghost use Rattle.std.specs.Prelude.{◌≡◌, ◌<◌, ◌≤◌, ◌+◌, ◌++◌, length, drop, slice_index, MatchOption, IfOk, IfSome, IsTrue, OnOk, None};
-ghost use Rattle.event_tree.specs.Characters.{closing_brace};
+ghost use Rattle.std.specs.Prelude.{◌≡◌, ◌<◌, ◌≤◌, ◌+◌, ◌++◌, length, drop, MatchOption, IfOk, IfSome, IsTrue, OnOk, None};
 ghost use Rattle.event_tree.specs.declared.value.Value.{out-Value};
 ghost use Rattle.event_text.specs.Adds.{AddsText};
-ghost use Rattle.event_text.specs.Template.{text, template_parts, template_part_of, date_part_of, field_part_of, before_close, ClosesAt, Encloses, opens, placeholder, plain_parts, IsPlaced, template_part_text, as_written, moment_of, time_in};
+ghost use Rattle.event_text.specs.Template.{text, template_parts, template_part_of, date_part_of, field_part_of, IsNextClose, Encloses, opens, placeholder, plain_parts, IsPlaced, template_part_text, as_written, moment_of, time_in};
 
 use crate::date_format::{DatePart, add_date, read_format};
 use crate::shown::add_shown;
@@ -49,8 +48,8 @@ impl Template {
     /// event's moment. Everything else stays as written: where what stands between reads as neither,
     /// `%{` stays, and reading goes on right behind it. No text is refused.
     ///
-    /// It takes time in proportion to the text, and for each `%{` that opens nothing time up to the
-    /// next `}` once more.
+    /// It takes time in proportion to the text, and for each `%{` with a `}` behind it the time to read
+    /// what stands between, once as a format and once as a path, each up to the byte that makes it none.
     pub fn read(alloc: Global, text: &str) -> Result<Template, AllocError>
         ensures { IfOk result (λ template. template ≡ template_parts text.now) }
     {
@@ -134,8 +133,9 @@ fn read_pieces(alloc: Global, text: &str) -> Result<Items<TemplatePart>, AllocEr
     let mut pieces = Items::new(alloc);
     let mut plain = 0;
     let mut at = 0;
+    let mut next = 0;
     while at < text.len() {
-        match placeholder(alloc, text, at)? {
+        match placeholder(alloc, text, at, &mut next)? {
             Some((piece, length)) => {
                 add_plain(&mut pieces, &text[plain..at])?;
                 pieces.push(piece)?;
@@ -160,17 +160,21 @@ fn add_plain(pieces: &mut Items<TemplatePart>, run: &str) -> Result<(), AllocErr
     pieces.push(TemplatePart::Plain(Text::of(alloc, run)?))
 }
 
-// The field or date that stands at a place, and how many bytes it has.
+// The field or date that stands at a place, and how many bytes it has. `next` is the place of the next
+// `}`, as in `close_of`.
 fn placeholder(
     alloc: Global,
     text: &str,
     at: usize,
+    next: &mut usize,
 ) -> Result<Option<(TemplatePart, usize)>, AllocError>
-    requires { at < length text.now }
+    requires within { at < length text.now }
+    requires next { IsNextClose text.now (at + 2) next.old }
     ensures found { IfOk result (λ found. found ≡ placeholder (drop at text.now)) }
     ensures placed { IfOk result (λ found. IfSome found (λ f. IsPlaced f.1 text.now at)) }
+    ensures next { IsNextClose text.now (at + 2) next.new }
 {
-    let Some(close) = close_of(text.as_bytes(), at) else {
+    let Some(close) = close_of(text.as_bytes(), at, next) else {
         return Ok(None);
     };
     match read_piece(alloc, &text[at + 2..close])? {
@@ -179,19 +183,37 @@ fn placeholder(
     }
 }
 
-// The place of the `}` behind the `%{` at a place, where both stand.
-fn close_of(bytes: &[u8], at: usize) -> Option<usize>
-    requires { at < length bytes.now }
-    ensures { MatchOption result (placeholder (drop at bytes.now) ≡ None) (Encloses bytes.now at) }
+// The place of the `}` behind the `%{` at a place, where both stand. `next` is the place of the next
+// `}`, or the end: it is sought only where the last one that was found stands in front.
+fn close_of(bytes: &[u8], at: usize, next: &mut usize) -> Option<usize>
+    requires within { at < length bytes.now }
+    requires next { IsNextClose bytes.now (at + 2) next.old }
+    ensures close { MatchOption result (placeholder (drop at bytes.now) ≡ None) (Encloses bytes.now at) }
+    ensures next { IsNextClose bytes.now (at + 2) next.new }
 {
     if !opens_at(bytes, at) {
         return None;
     }
-    let close = close_at(bytes, at + 2);
+    *next = next_close(bytes, at + 2, *next);
+    let close = *next;
     if close == bytes.len() {
         return None;
     }
     Some(close)
+}
+
+// The place of the next `}` from `from` on, or the end, where the last one that was found is known.
+fn next_close(bytes: &[u8], from: usize, known: usize) -> usize
+    requires from { from ≤ length bytes.now }
+    requires known { IsNextClose bytes.now from known }
+    ensures after { from ≤ result }
+    ensures next { IsNextClose bytes.now from result }
+{
+    if known < from {
+        close_at(bytes, from)
+    } else {
+        known
+    }
 }
 
 // Whether `%{` stands at a place.
@@ -210,10 +232,7 @@ fn opens_at(bytes: &[u8], at: usize) -> bool
 fn close_at(bytes: &[u8], from: usize) -> usize
     requires { from ≤ length bytes.now }
     ensures after { from ≤ result }
-    ensures within { result ≤ length bytes.now }
-    ensures found { result < length bytes.now → ClosesAt bytes.now from result }
-    ensures missing { result ≡ length bytes.now → before_close (drop from bytes.now) ≡ None }
-    ensures end { result < length bytes.now → slice_index bytes.now result ≡ closing_brace }
+    ensures next { IsNextClose bytes.now from result }
 {
     for at in from..bytes.len() {
         if bytes[at] == b'}' {

@@ -4,7 +4,7 @@ use Rattle.std.specs.Prelude.{is_some, not, ◌==◌, ◌&&◌}
 use Rattle.std.proofs.lemmas.Bool.Decides.{nat_tests}
 use Rattle.event_tree.specs.Values.{depth}
 use Rattle.event_tree.specs.Sizes.{size, less}
-use Rattle.event_tree.specs.Ordered.{ordered}
+use Rattle.event_tree.specs.Sound.{are_texts, sound}
 use Rattle.event_tree.specs.Paths.{put, take}
 use Rattle.event_tree.specs.Growth.{room_at_end}
 use Rattle.event_tree.specs.Events.{Ev, IsObject, IsEvent, both, object_in, object, object_put, with_fields, with_meta, event_size, event_depth, limited}
@@ -104,14 +104,14 @@ module _ (ps : List (List ℕ)) (d old : Value) (room : ℕ) where
       ]
 
       module _ (free left : ℕ) (h : room_at_end room ps old ≡ Some (Some free)) (l : less free (size d) ≡ Some left) where
-        pub fits : (new : Value) → put ps d old ≡ Some new → (object_put ps d old ≡ Some new) × (depth new ≤ 128) × (size new + left ≡ size old + room) × (ordered d ≡ true → ordered old ≡ true → ordered new ≡ true)
+        pub fits : (new : Value) → put ps d old ≡ Some new → (object_put ps d old ≡ Some new) × (depth new ≤ 128) × (size new + left ≡ size old + room) × (are_texts ps ≡ true → sound d ≡ true → sound old ≡ true → sound new ≡ true)
         fits new p = elim (put_cases ps d old) [
           | refused a b ↦ absurd (search (sym b ∙ p, rules))
           | done m x a b k ↦
               let e : less (room + m.0) m.1 ≡ Some free = search (rw a at h, rules) in
               let s : x ≡ new = search (sym b ∙ p, rules) in
-              subst (λ y. (object_put ps d old ≡ Some y) × (depth y ≤ 128) × (size y + left ≡ size old + room) × (ordered d ≡ true → ordered old ≡ true → ordered y ≡ true)) s
-              (object_put-some d old o ps x m b k whole, omega (arith, k.shallow, shallow), omega (arith, k.size_is, less_some (room + m.0) m.1 free e, less_some free (size d) left l), k.order)
+              subst (λ y. (object_put ps d old ≡ Some y) × (depth y ≤ 128) × (size y + left ≡ size old + room) × (are_texts ps ≡ true → sound d ≡ true → sound old ≡ true → sound y ≡ true)) s
+              (object_put-some d old o ps x m b k whole, omega (arith, k.shallow, shallow), omega (arith, k.size_is, less_some (room + m.0) m.1 free e, less_some free (size d) left l), k.kept)
         ]
 
         pub refusal : (fault : PutFault) (new : Value) → Puts (Err fault) (put ps d old) old new → PutsWithin (Err fault) (object_put ps d old) room old new
@@ -181,8 +181,8 @@ turned f m is = record {
   meta_object = is.fields_object;
   small = omega (arith, is.small);
   shallow = omega (arith, is.shallow);
-  fields_ordered = is.meta_ordered;
-  meta_ordered = is.fields_ordered;
+  fields_sound = is.meta_sound;
+  meta_sound = is.fields_sound;
 }
 
 -- an event of so many bytes, one object of which becomes another
@@ -196,8 +196,8 @@ module _ (old other : Value) (was : IsEvent (both old other)) (whole : ℕ) (e :
           meta_object = was.meta_object;
           small = omega (arith, s);
           shallow = omega (arith, p.1, was.shallow);
-          fields_ordered = p.3;
-          meta_ordered = was.meta_ordered;
+          fields_sound = p.3;
+          meta_sound = was.meta_sound;
         },
         s,
       )
@@ -212,8 +212,8 @@ module _ (old other : Value) (was : IsEvent (both old other)) (whole : ℕ) (e :
           meta_object = was.meta_object;
           small = omega (arith, t, e, was.small);
           shallow = omega (arith, k.shallow, was.shallow);
-          fields_ordered = k.order was.fields_ordered;
-          meta_ordered = was.meta_ordered;
+          fields_sound = k.kept was.fields_sound;
+          meta_sound = was.meta_sound;
         },
         t,
       )

@@ -3,7 +3,7 @@ pub mod Folds
 pub mod Depths
 pub mod DepthLemmas
 pub mod Sizes
-pub mod Orders
+pub mod Sounds
 pub mod ListLemmas
 pub mod Digits
 pub mod Puts
@@ -17,3 +17,4 @@ pub mod Tens
 pub mod DecimalLemmas
 pub mod Shapes
 pub mod Adding
+pub mod EachSound

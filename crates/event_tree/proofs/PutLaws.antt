@@ -1,9 +1,9 @@
--- What a put does to the length of the encoding, to depth and to order, and that the growth tells where it has a way.
+-- What a put does to the length of the encoding, to depth and to what holds of each part, and that the growth tells where it has a way.
 use Rattle.std.proofs.Common.{◌≡◌, ℕ, ◌+◌, ◌<◌, ◌≤◌, max, List, [], ◌∷◌, ◌++◌, length, true, Option, Some, None, option_map, refl, sym, ap, subst, ◌∙◌, arith, slice_get, slice_set}
 use Rattle.plain_data.specs.Members.{get_member, set_member, insert_member}
 use Rattle.event_tree.specs.Values.{Members, depth}
 use Rattle.event_tree.specs.Sizes.{size}
-use Rattle.event_tree.specs.Ordered.{ordered}
+use Rattle.event_tree.specs.Sound.{are_texts, sound}
 use Rattle.event_tree.specs.Paths.{list_place, change_in, put, wrap, wrap_size}
 use Rattle.event_tree.specs.Growth.{growth_in, growth}
 use Rattle.event_tree.specs.Events.{IsObject}
@@ -13,7 +13,7 @@ use Rattle.event_tree.specs.declared.value.Value.TheVariants as v
 use Rattle.event_tree.proofs.Depths.{depth-List, depth-Object}
 use Rattle.event_tree.proofs.DepthLemmas.{items_depth-get, items_depth-set, items_depth-push, members_depth-get, members_depth-set, members_depth-insert, depth-wrap}
 use Rattle.event_tree.proofs.Sizes.{size-List, size-Object, items_size-set, items_size-push, members_size-set, members_size-insert, size-wrap}
-use Rattle.event_tree.proofs.Orders.{ordered-List, items_ordered-get, items_ordered-set, items_ordered-push, ordered-get_member, ordered-set_member, ordered-insert_member, ordered-wrap}
+use Rattle.event_tree.proofs.Sounds.{sound-List, items_sound-get, items_sound-set, items_sound-push, sound-get_member, sound-set_member, sound-insert_member, sound-wrap, first_text, other_texts}
 
 -- a list is no object
 pub list_no_object : {P : Type 0} (vs : List Value) (ms : Members) → v.List vs ≡ v.Object ms → P
@@ -24,7 +24,7 @@ pub record Grown (ps : List (List ℕ)) (d old new : Value) (m : ℕ × ℕ) : T
   pub size_is : size new + m.0 ≡ size old + m.1 + size d
   pub deep : length ps + depth d ≤ depth new
   pub shallow : depth new ≤ max (depth old) (length ps + depth d)
-  pub order : ordered d ≡ true → ordered old ≡ true → ordered new ≡ true
+  pub kept : are_texts ps ≡ true → sound d ≡ true → sound old ≡ true → sound new ≡ true
   pub object : 0 < length ps → IsObject old → IsObject new
 
 pub data PutCases (ps : List (List ℕ)) (d old : Value) : Type 0 where
@@ -42,7 +42,7 @@ module _ (p : List ℕ) (ps : List (List ℕ)) (d : Value) where
     size_is = omega (arith, size-List vs, size-List (slice_set vs i y), items_size-set vs i x y g, k.size_is);
     deep = omega (arith, depth-List (slice_set vs i y), (items_depth-set vs i x y g).0, k.deep);
     shallow = omega (arith, depth-List vs, depth-List (slice_set vs i y), (items_depth-set vs i x y g).1, items_depth-get vs i x g, k.shallow);
-    order = λ a b. ordered-List (slice_set vs i y) ∙ items_ordered-set vs i y (sym (ordered-List vs) ∙ b) (k.order a (items_ordered-get vs i x (sym (ordered-List vs) ∙ b) g));
+    kept = λ t a b. sound-List (slice_set vs i y) ∙ items_sound-set vs i y (sym (sound-List vs) ∙ b) (k.kept (other_texts p ps t) a (items_sound-get vs i x (sym (sound-List vs) ∙ b) g));
     object = λ n o. list_no_object vs o.0 o.1;
   }
 
@@ -51,7 +51,7 @@ module _ (p : List ℕ) (ps : List (List ℕ)) (d : Value) where
     size_is = omega (arith, size-List vs, size-List (vs ++ wrap ps d ∷ []), items_size-push vs (wrap ps d), size-wrap ps d);
     deep = omega (arith, depth-List (vs ++ wrap ps d ∷ []), items_depth-push vs (wrap ps d), depth-wrap ps d);
     shallow = omega (arith, depth-List vs, depth-List (vs ++ wrap ps d ∷ []), items_depth-push vs (wrap ps d), depth-wrap ps d);
-    order = λ a b. ordered-List (vs ++ wrap ps d ∷ []) ∙ items_ordered-push vs (wrap ps d) (sym (ordered-List vs) ∙ b) (ordered-wrap ps d a);
+    kept = λ t a b. sound-List (vs ++ wrap ps d ∷ []) ∙ items_sound-push vs (wrap ps d) (sym (sound-List vs) ∙ b) (sound-wrap ps d (other_texts p ps t) a);
     object = λ n o. list_no_object vs o.0 o.1;
   }
 
@@ -60,7 +60,7 @@ module _ (p : List ℕ) (ps : List (List ℕ)) (d : Value) where
     size_is = omega (arith, size-Object ms, size-Object (set_member p y ms), members_size-set p ms x y g, k.size_is);
     deep = omega (arith, depth-Object (set_member p y ms), (members_depth-set p ms x y g).0, k.deep);
     shallow = omega (arith, depth-Object ms, depth-Object (set_member p y ms), (members_depth-set p ms x y g).1, members_depth-get p ms x g, k.shallow);
-    order = λ a b. ordered-set_member p ms y b (k.order a (ordered-get_member p ms x b g));
+    kept = λ t a b. sound-set_member p ms y b (k.kept (other_texts p ps t) a (sound-get_member p ms x b g));
     object = λ n o. (set_member p y ms, refl);
   }
 
@@ -69,7 +69,7 @@ module _ (p : List ℕ) (ps : List (List ℕ)) (d : Value) where
     size_is = omega (arith, size-Object ms, size-Object (insert_member p (wrap ps d) ms), members_size-insert p ms (wrap ps d) g, size-wrap ps d);
     deep = omega (arith, depth-Object (insert_member p (wrap ps d) ms), (members_depth-insert p ms (wrap ps d)).0, depth-wrap ps d);
     shallow = omega (arith, depth-Object ms, depth-Object (insert_member p (wrap ps d) ms), (members_depth-insert p ms (wrap ps d)).1, depth-wrap ps d);
-    order = λ a b. ordered-insert_member p ms (wrap ps d) b (ordered-wrap ps d a);
+    kept = λ t a b. sound-insert_member p ms (wrap ps d) (first_text p ps t) b (sound-wrap ps d (other_texts p ps t) a);
     object = λ n o. (insert_member p (wrap ps d) ms, refl);
   }
 
@@ -116,7 +116,7 @@ put_cases [] d old = done (size old, 0) d refl refl (record {
   size_is = omega arith;
   deep = omega arith;
   shallow = omega arith;
-  order = λ a b. a;
+  kept = λ t a b. a;
   object = λ n o. absurd (omega arith);
 })
 put_cases (p ∷ ps) d old = from_level p ps d old (level p ps d (λ x. put_cases ps d x) (out-Value old))

@@ -1,9 +1,9 @@
--- What take does to depth and to order.
+-- What take does to depth and to what holds of each part.
 use Rattle.std.proofs.Common.{◌≡◌, ℕ, ◌≤◌, List, [], ◌∷◌, length, true, Option, Some, None, option_map, option_and_then, refl, sym, subst, ◌∙◌, arith, rules, slice_get, slice_set, remove}
 use Rattle.std.proofs.lemmas.Option.{some_pair_parts}
 use Rattle.plain_data.specs.Members.{get_member, set_member, remove_member}
 use Rattle.event_tree.specs.Values.{Members, depth}
-use Rattle.event_tree.specs.Ordered.{ordered}
+use Rattle.event_tree.specs.Sound.{sound}
 use Rattle.event_tree.specs.Paths.{list_place, cut_in, through_in, take}
 use Rattle.event_tree.specs.Events.{IsObject}
 use Rattle.event_tree.specs.declared.value.Value.{Value, out-Value, roll-Value, roll-out-Value}
@@ -11,40 +11,40 @@ use Rattle.event_tree.specs.declared.value.Value.TheOpen.{Value-F}
 use Rattle.event_tree.specs.declared.value.Value.TheVariants as v
 use Rattle.event_tree.proofs.Depths.{depth-List, depth-Object}
 use Rattle.event_tree.proofs.DepthLemmas.{items_depth-get, items_depth-set, items_depth-remove, members_depth-get, members_depth-set, members_depth-remove}
-use Rattle.event_tree.proofs.Orders.{ordered-List, items_ordered-get, items_ordered-set, items_ordered-remove, ordered-get_member, ordered-set_member, ordered-remove_member}
+use Rattle.event_tree.proofs.Sounds.{sound-List, items_sound-get, items_sound-set, items_sound-remove, sound-get_member, sound-set_member, sound-remove_member}
 use Rattle.event_tree.proofs.PutLaws.{list_no_object}
 
 -- what stays where something is taken from old and new is left
 pub record Kept (old new : Value) : Type 0 where
   pub shallow : depth new ≤ depth old
-  pub order : ordered old ≡ true → ordered new ≡ true
+  pub kept : sound old ≡ true → sound new ≡ true
   pub object : IsObject old → IsObject new
 
 cut_item : (vs : List Value) (i : ℕ) (x : Value) → slice_get vs i ≡ Some x → Kept (v.List vs) (v.List (remove vs i))
 cut_item vs i x g = record {
   shallow = omega (arith, depth-List vs, depth-List (remove vs i), items_depth-remove vs i x g);
-  order = λ b. ordered-List (remove vs i) ∙ items_ordered-remove vs i x (sym (ordered-List vs) ∙ b) g;
+  kept = λ b. sound-List (remove vs i) ∙ items_sound-remove vs i x (sym (sound-List vs) ∙ b) g;
   object = λ o. list_no_object vs o.0 o.1;
 }
 
 cut_field : (p : List ℕ) (ms : Members) → Kept (v.Object ms) (v.Object (remove_member p ms))
 cut_field p ms = record {
   shallow = omega (arith, depth-Object ms, depth-Object (remove_member p ms), members_depth-remove p ms);
-  order = λ b. ordered-remove_member p ms b;
+  kept = λ b. sound-remove_member p ms b;
   object = λ o. (remove_member p ms, refl);
 }
 
 through_item : (vs : List Value) (i : ℕ) (x y : Value) → slice_get vs i ≡ Some x → Kept x y → Kept (v.List vs) (v.List (slice_set vs i y))
 through_item vs i x y g k = record {
   shallow = omega (arith, depth-List vs, depth-List (slice_set vs i y), (items_depth-set vs i x y g).1, items_depth-get vs i x g, k.shallow);
-  order = λ b. ordered-List (slice_set vs i y) ∙ items_ordered-set vs i y (sym (ordered-List vs) ∙ b) (k.order (items_ordered-get vs i x (sym (ordered-List vs) ∙ b) g));
+  kept = λ b. sound-List (slice_set vs i y) ∙ items_sound-set vs i y (sym (sound-List vs) ∙ b) (k.kept (items_sound-get vs i x (sym (sound-List vs) ∙ b) g));
   object = λ o. list_no_object vs o.0 o.1;
 }
 
 through_field : (p : List ℕ) (ms : Members) (x y : Value) → get_member p ms ≡ Some x → Kept x y → Kept (v.Object ms) (v.Object (set_member p y ms))
 through_field p ms x y g k = record {
   shallow = omega (arith, depth-Object ms, depth-Object (set_member p y ms), (members_depth-set p ms x y g).1, members_depth-get p ms x g, k.shallow);
-  order = λ b. ordered-set_member p ms y b (k.order (ordered-get_member p ms x b g));
+  kept = λ b. sound-set_member p ms y b (k.kept (sound-get_member p ms x b g));
   object = λ o. (set_member p y ms, refl);
 }
 

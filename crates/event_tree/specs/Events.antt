@@ -2,7 +2,7 @@
 use Rattle.std.specs.Prelude.{◌≡◌, ℕ, max, ◌+◌, ◌-◌, ◌≤◌, List, [], ◌∷◌, Bool, true, if◌then◌else◌, nat_lt, Option, Some, None, option_map, option_and_then, Result, Ok, Err}
 use Rattle.event_tree.specs.Values.{Members, depth}
 use Rattle.event_tree.specs.Sizes.{size}
-use Rattle.event_tree.specs.Ordered.{ordered}
+use Rattle.event_tree.specs.Sound.{sound}
 use Rattle.event_tree.specs.Paths.{at, put, take}
 use Rattle.event_tree.specs.declared.value.Value.{Value, out-Value}
 use Rattle.event_tree.specs.declared.value.Value.TheOpen.{Value-F}
@@ -35,8 +35,8 @@ pub record IsEvent (e : Ev) : Type 0 where
   pub meta_object : IsObject e.meta
   pub small : event_size e ≤ 16777216
   pub shallow : event_depth e ≤ 128
-  pub fields_ordered : ordered e.fields ≡ true
-  pub meta_ordered : ordered e.meta ≡ true
+  pub fields_sound : sound e.fields ≡ true
+  pub meta_sound : sound e.meta ≡ true
 
 -- where a path leads: into `meta` or into `fields`, and there by which parts
 pub record Way : Type 0 where

@@ -1,8 +1,9 @@
 -- How a put changes the length of the encoding.
-use Rattle.std.specs.Prelude.{ℕ, ◌+◌, List, [], ◌∷◌, length, Option, Some, None, option_map, option_and_then, slice_get}
+use Rattle.std.specs.Prelude.{◌≡◌, ℕ, ◌+◌, true, List, [], ◌∷◌, length, Option, Some, None, option_map, option_and_then, slice_get, ⊤}
 use Rattle.plain_data.specs.Members.{get_member}
 use Rattle.event_tree.specs.Paths.{list_place, over, wrap_size}
 use Rattle.event_tree.specs.Sizes.{size, less}
+use Rattle.event_tree.specs.Sound.{are_texts}
 use Rattle.event_tree.specs.declared.value.Value.{Value, out-Value}
 use Rattle.event_tree.specs.declared.value.Value.TheOpen.{Value-F}
 
@@ -23,3 +24,9 @@ growth (p ∷ ps) old = growth_in p (growth ps) (wrap_size ps) (out-Value old)
 -- the room for a value at the end of the parts, where there is so much beside all that stands; none in it where that is too little
 abbrev pub room_at_end : ℕ → List (List ℕ) → Value → Option (Option ℕ)
 room_at_end room ps old = option_map (λ change. less (room + change.0) change.1) (growth ps old)
+
+-- where there is room, all parts are UTF-8
+abbrev pub TextsWhereRoom : Option (Option ℕ) → List (List ℕ) → Type 0
+TextsWhereRoom None ps = ⊤
+TextsWhereRoom (Some None) ps = ⊤
+TextsWhereRoom (Some (Some free)) ps = are_texts ps ≡ true

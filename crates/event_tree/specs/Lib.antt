@@ -2,7 +2,7 @@ pub mod Characters
 pub mod Number
 pub mod Values
 pub mod Sizes
-pub mod Ordered
+pub mod Sound
 pub mod Paths
 pub mod Growth
 pub mod Events

@@ -2,7 +2,7 @@
 use Rattle.std.specs.Prelude.{◌≡◌, ℕ, ◌+◌, ◌<◌, ◌≤◌, List, true, Option, Some, None, IsSome, IfSome, Result, Ok, Err, option_map}
 use Rattle.event_tree.specs.Values.{depth}
 use Rattle.event_tree.specs.Sizes.{size}
-use Rattle.event_tree.specs.Ordered.{ordered}
+use Rattle.event_tree.specs.Sound.{sound}
 use Rattle.event_tree.specs.Paths.{put, take}
 use Rattle.event_tree.specs.Events.{Ev, Way, event_put, limited}
 use Rattle.event_tree.specs.declared.cut.Cut.{Cut}
@@ -53,7 +53,7 @@ TakesFrom r with_left ps object old new = Takes r (option_map (λ x. (x.0, with_
 
 -- said is the object that there will be: so many bytes of the room are left, or the first of the reasons why it can't stand in an event with that much room
 abbrev pub PutsWithin : Result ℕ PutFault → Option Value → ℕ → Value → Value → Type 0
-PutsWithin (Ok left) said room old new = (said ≡ Some new) × (depth new ≤ 128) × (size new + left ≡ size old + room) × (ordered new ≡ true)
+PutsWithin (Ok left) said room old new = (said ≡ Some new) × (depth new ≤ 128) × (size new + left ≡ size old + room) × (sound new ≡ true)
 PutsWithin (Err ThroughScalar) said room old new = (said ≡ None) × (new ≡ old)
 PutsWithin (Err Deep) said room old new = ((x : Value) × (said ≡ Some x) × (128 < depth x)) × (new ≡ old)
 PutsWithin (Err Large) said room old new = ((x : Value) × (said ≡ Some x) × (depth x ≤ 128) × (size old + room < size x)) × (new ≡ old)

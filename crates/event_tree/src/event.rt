@@ -4,7 +4,7 @@ ghost use Rattle.event_tree.specs.Events.{Ev, IsEvent, IsObject, both, object, e
 ghost use Rattle.event_tree.specs.Outcomes.{PutEventAt, PutsWithin, Takes, TakesFrom};
 ghost use Rattle.event_tree.specs.Values.{depth};
 ghost use Rattle.event_tree.specs.Sizes.{size};
-ghost use Rattle.event_tree.specs.Ordered.{ordered};
+ghost use Rattle.event_tree.specs.Sound.{sound};
 ghost use Rattle.event_tree.specs.declared.value.Value.TheVariants as v;
 
 use crate::change::{get_in, put_in};
@@ -23,9 +23,10 @@ const MOST_BYTES: u64 = 16_777_216;
 
 /// An event: two objects, `fields` and `meta`.
 ///
-/// Each event keeps these: in every object the keys rise strictly in byte order; lists and objects
-/// nest at most 128 deep, `fields` and `meta` themselves being the first level; and its encoding has
-/// at most 16,777,216 bytes.
+/// Each event keeps these: in every object the keys rise strictly in byte order; keys and texts are
+/// UTF-8, numbers stand in least form within 64 bits, and times lie in the years 0001 to 9999; lists
+/// and objects nest at most 128 deep, `fields` and `meta` themselves being the first level; and its
+/// encoding has at most 16,777,216 bytes.
 pub struct Event {
     fields: Value,
     meta: Value,
@@ -243,14 +244,6 @@ impl Event {
     }
 }
 
-impl Clone for Event {
-    ghost is_clone = { λ event copy. copy ≡ event };
-
-    fn clone(&self) -> Result<Self, AllocError> {
-        self.copy()
-    }
-}
-
 // Puts a value into one of the two objects of an event that has `room` for that many more bytes, and
 // says how many it still has room for.
 fn put_within(
@@ -263,7 +256,7 @@ fn put_within(
     requires room { room + size target.old < 2 ^ 64 }
     requires object { IsObject target.old }
     requires shallow { depth target.old ≤ 128 }
-    requires ordered { ordered target.old ≡ true }
+    requires sound { sound target.old ≡ true }
     ensures { PutsWithin result (object_put parts.now value target.old) room target.old target.new }
 {
     let Some(found) = room_at(target, parts, room) else {

@@ -27,7 +27,7 @@ mod value;
 
 pub use event::Event;
 pub use fault::{PathFault, PutFault};
-pub use lists::{DeadLetter, DeadList, Events, Pairs};
+pub use lists::{DeadList, DeadPart, Events, Pairs};
 pub use number::Number;
 pub use path::Path;
 pub use plain_data::{Fields, Items, Names, Text};

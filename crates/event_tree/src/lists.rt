@@ -11,11 +11,11 @@ pub type Events = Items<Event>;
 pub type Pairs = Items<(Text, Text)>;
 
 /// What could not be delivered, in order.
-pub type DeadList = Items<DeadLetter>;
+pub type DeadList = Items<DeadPart>;
 
 /// An event that was not delivered: the kind and the id of the plugin where it failed, and why.
 #[derive(Drop)]
-pub struct DeadLetter {
+pub struct DeadPart {
     /// The kind of the plugin, as `mutate`, or `if` for a condition.
     pub kind: Text,
     /// The id of the plugin or the condition.
@@ -26,12 +26,12 @@ pub struct DeadLetter {
     pub event: Event,
 }
 
-impl DeadLetter {
-    /// The same letter again.
-    pub fn copy(&self) -> Result<DeadLetter, AllocError>
+impl DeadPart {
+    /// The same again.
+    pub fn copy(&self) -> Result<DeadPart, AllocError>
         ensures { IfOk result (λ copy. copy ≡ self.now) }
     {
-        Ok(DeadLetter {
+        Ok(DeadPart {
             kind: self.kind.copy()?,
             id: self.id.copy()?,
             reason: self.reason.copy()?,
@@ -40,8 +40,8 @@ impl DeadLetter {
     }
 }
 
-impl Clone for DeadLetter {
-    ghost is_clone = { λ letter copy. copy ≡ letter };
+impl Clone for DeadPart {
+    ghost is_clone = { λ part copy. copy ≡ part };
 
     fn clone(&self) -> Result<Self, AllocError> {
         self.copy()

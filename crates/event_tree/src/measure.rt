@@ -1,15 +1,18 @@
 // How deep and how large values are, as far as a limit.
 ghost use Rattle.std.specs.Prelude.{◌≡◌, ◌<◌, ◌≤◌, ◌+◌, ◌^◌, length, nat_le, nat_lt, true, IfSome};
 ghost use Rattle.plain_data.specs.Members.{Rises};
+ghost use Rattle.time_instant.specs.Calendar.{IsMoment};
 ghost use Rattle.event_tree.specs.Values.{depth, items_depth, members_depth};
-ghost use Rattle.event_tree.specs.Ordered.{ordered, items_ordered, members_ordered};
+ghost use Rattle.event_tree.specs.Sound.{are_texts, is_number, sound, items_sound, members_sound};
 ghost use Rattle.event_tree.specs.Sizes.{size, items_size, members_size, less};
 ghost use Rattle.event_tree.specs.Paths.{wrap_size};
-ghost use Rattle.event_tree.specs.Growth.{room_at_end};
+ghost use Rattle.event_tree.specs.Growth.{room_at_end, TextsWhereRoom};
 
+use crate::number::Number;
 use crate::place::place_in;
 use crate::value::Value;
 use plain_data::Text;
+use time_instant::Instant;
 
 fn take_room(room: u64, bytes: u64) -> Option<u64>
     ensures { result ≡ less room bytes }
@@ -21,29 +24,49 @@ fn take_room(room: u64, bytes: u64) -> Option<u64>
     }
 }
 
+/// How many bytes the encoding of a number has. Whoever reads a number knows that it is one of 64
+/// bits in least form.
+fn number_size(number: &Number) -> u64
+    ensures size { result ≡ 10 }
+    ensures sound { is_number number.now ≡ true }
+{
+    let _mantissa = number.mantissa();
+    let _scale = number.scale();
+    10
+}
+
+/// How many bytes the encoding of a time has. Whoever reads a time knows that it lies in its years.
+fn time_size(moment: &Instant) -> u64
+    ensures size { result ≡ 13 }
+    ensures moment { IsMoment moment.now }
+{
+    let _nanos = moment.nanos();
+    13
+}
+
 /// The room that the encoding of a value leaves, if there is enough.
-#[tactic(auto, using(crate::proofs::Depths::falls, crate::proofs::Sizes::sizes, crate::proofs::Orders::orders))]
+#[tactic(auto, using(crate::proofs::Depths::falls, crate::proofs::Sizes::sizes, crate::proofs::Sounds::sounds))]
 #[cycle(room)]
 pub(crate) fn room_after(value: &Value, room: u64) -> Option<u64>
     ensures room { result ≡ less room (size value.now) }
-    ensures ordered { IfSome result (λ _. ordered value.now ≡ true) }
+    ensures sound { IfSome result (λ _. sound value.now ≡ true) }
 {
     match value {
         Value::Null => take_room(room, 1),
         Value::Bool(_) => take_room(room, 1),
-        Value::Num(_) => take_room(room, 10),
-        Value::Text(text) => take_room(take_room(room, 5)?, text.len() as u64),
-        Value::Time(_) => take_room(room, 13),
+        Value::Num(number) => take_room(room, number_size(number)),
+        Value::Text(text) => take_room(take_room(room, 5)?, text.as_str().len() as u64),
+        Value::Time(moment) => take_room(room, time_size(moment)),
         Value::List(items) => room_after_items(items.as_slice(), take_room(room, 5)?),
         Value::Object(fields) => room_after_members(fields.members(), take_room(room, 5)?),
     }
 }
 
-#[tactic(auto, using(crate::proofs::Depths::falls, crate::proofs::Sizes::sizes, crate::proofs::Orders::orders))]
+#[tactic(auto, using(crate::proofs::Depths::falls, crate::proofs::Sizes::sizes, crate::proofs::Sounds::sounds))]
 #[cycle(room)]
 fn room_after_items(items: &[Value], room: u64) -> Option<u64>
     ensures room { result ≡ less room (items_size items.now) }
-    ensures ordered { IfSome result (λ _. items_ordered items.now ≡ true) }
+    ensures sound { IfSome result (λ _. items_sound items.now ≡ true) }
 {
     let mut left = room;
     for item in items {
@@ -52,16 +75,16 @@ fn room_after_items(items: &[Value], room: u64) -> Option<u64>
     Some(left)
 }
 
-#[tactic(auto, using(crate::proofs::Depths::falls, crate::proofs::Sizes::sizes, crate::proofs::Orders::orders))]
+#[tactic(auto, using(crate::proofs::Depths::falls, crate::proofs::Sizes::sizes, crate::proofs::Sounds::sounds))]
 #[cycle(room)]
 fn room_after_members(members: &[(Text, Value)], room: u64) -> Option<u64>
     requires { Rises members.now }
     ensures room { result ≡ less room (members_size members.now) }
-    ensures ordered { IfSome result (λ _. members_ordered members.now ≡ true) }
+    ensures sound { IfSome result (λ _. members_sound members.now ≡ true) }
 {
     let mut left = room;
     for member in members {
-        left = take_room(take_room(left, 4)?, member.0.len() as u64)?;
+        left = take_room(take_room(left, 4)?, member.0.as_str().len() as u64)?;
         left = room_after(&member.1, left)?;
     }
     Some(left)
@@ -128,12 +151,14 @@ pub(crate) fn is_too_deep(value: &Value, levels: usize) -> bool
 }
 
 /// The room that new objects leave, one for each part, without the value in the innermost.
+#[tactic(auto, using(crate::proofs::Sounds::texts))]
 fn room_after_parts(parts: &[Text], room: u64) -> Option<u64>
-    ensures { result ≡ less room (wrap_size parts.now) }
+    ensures room { result ≡ less room (wrap_size parts.now) }
+    ensures texts { IfSome result (λ _. are_texts parts.now ≡ true) }
 {
     let mut left = room;
     for part in parts {
-        left = take_room(take_room(left, 9)?, part.len() as u64)?;
+        left = take_room(take_room(left, 9)?, part.as_str().len() as u64)?;
     }
     Some(left)
 }
@@ -141,9 +166,11 @@ fn room_after_parts(parts: &[Text], room: u64) -> Option<u64>
 /// The room for a value at the end of the parts, where there is `room` beside all that stands: the
 /// value that it replaces makes room, and new keys and objects take it. `None` where the parts lead
 /// through neither object nor list, and `Some(None)` where there is not enough room for them.
+#[tactic(auto, using(crate::proofs::Sounds::texts))]
 pub(crate) fn room_at(target: &Value, parts: &[Text], room: u64) -> Option<Option<u64>>
     requires { room + size target.now < 2 ^ 64 }
-    ensures { result ≡ room_at_end room parts.now target.now }
+    ensures room { result ≡ room_at_end room parts.now target.now }
+    ensures texts { TextsWhereRoom result parts.now }
 {
     let Some((part, rest)) = parts.split_first() else {
         return Some(room_without(target, room));
@@ -172,7 +199,8 @@ fn room_without(value: &Value, room: u64) -> Option<u64>
 
 /// The room that a new member leaves, without the value in the innermost of its objects.
 fn room_after_member(part: &Text, rest: &[Text], room: u64) -> Option<u64>
-    ensures { result ≡ less room (4 + length part.now + wrap_size rest.now) }
+    ensures room { result ≡ less room (4 + length part.now + wrap_size rest.now) }
+    ensures texts { IfSome result (λ _. are_texts rest.now ≡ true) }
 {
     room_after_parts(rest, take_room(take_room(room, 4)?, part.len() as u64)?)
 }

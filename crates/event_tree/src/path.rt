@@ -46,15 +46,6 @@ impl Path {
         Ok(Path::of_parts(parts))
     }
 
-    /// The one part `name`, whatever its bytes, into `fields`.
-    pub fn field(alloc: Global, name: Text) -> Result<Path, AllocError>
-        ensures { IfOk result (λ path. path ≡ (record { meta = false; parts = name ∷ [] })) }
-    {
-        let mut parts = Items::new(alloc);
-        parts.push(name)?;
-        Ok(Path { meta: false, parts })
-    }
-
     /// The path of these parts, of which there is at least one: into `meta` where the first is
     /// `@metadata`, whatever the bytes of the others. It takes no memory.
     pub fn of_parts(parts: Items<Text>) -> Path
@@ -103,14 +94,6 @@ impl Path {
         ensures { IsTrue result ↔ (self.now ≡ other.now) }
     {
         self.meta == other.meta && self.parts == other.parts
-    }
-}
-
-impl Clone for Path {
-    ghost is_clone = { λ path copy. copy ≡ path };
-
-    fn clone(&self) -> Result<Self, AllocError> {
-        self.copy()
     }
 }
 

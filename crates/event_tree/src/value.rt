@@ -47,14 +47,6 @@ impl Value {
     }
 }
 
-impl Clone for Value {
-    ghost is_clone = { λ value copy. copy ≡ value };
-
-    fn clone(&self) -> Result<Self, AllocError> {
-        self.copy()
-    }
-}
-
 #[tactic(auto, using(crate::proofs::Depths::falls))]
 #[cycle(copy)]
 fn copy_value(value: &Value) -> Result<Value, AllocError>

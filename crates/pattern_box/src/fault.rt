@@ -33,11 +33,14 @@ impl Error for PatternFault {}
 
 impl fmt::Display for PatternFault {
     ghost use Rattle.pattern_box.specs.Texts.{fault_text};
+    ghost use Rattle.std.specs.Fmt.{styled_text};
 
     ghost output = { λ fault. Some (fault_text fault) };
 
+    ghost styled_output = { λ fault style. Some (styled_text style (fault_text fault)) };
+
     fn fmt<W: fmt::Write>(&self, f: &mut fmt::Formatter<W>) -> fmt::Result {
-        f.write_str(match self {
+        f.pad(match self {
             PatternFault::BadPattern => "bad pattern",
             PatternFault::Memory => "out of memory",
         })

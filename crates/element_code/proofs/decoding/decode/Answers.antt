@@ -1,10 +1,11 @@
-use Rattle.std.proofs.Common.{ap, sym, ◌∙◌, subst, arith, rules}
+use Rattle.std.proofs.Common.{length, ap, sym, ◌∙◌, subst, arith, rules}
 use Rattle.byte_reader.proofs.Fronts.{ok_is}
 use Rattle.element_code.specs.Faults.{IsRefusedAt}
 use Rattle.element_code.specs.Reading.{event_at}
 use Rattle.element_code.proofs.Sound.{event_sound}
 use Rattle.element_code.proofs.Again.{event_again}
 use Rattle.element_code.proofs.EventPlaces.{event_stops}
+use Rattle.element_code.proofs.Wholes.{is_whole, is_short}
 use Rattle.element_code.proofs.decoding.decode.Goals as goal
 
 pub overflow_sub-result : goal.overflow_sub-result
@@ -27,3 +28,12 @@ returns-in-Err-Left-clause-at c =
     let b = c.args.bytes.now in
     let r = event_stops b c.in-Err-Left.left (λ i. omega (arith, c.type_inv.bytes i)) (omega (arith, c.if-bytes-gt-MOST_BYTES.false)) (rw c.in-Err-Left.field-0-is at c.in-Err-Left.ensures) in
     subst (IsRefusedAt b) (omega (arith, r.sum)) r.is
+
+pub returns-then-bytes-gt-MOST_BYTES-clause-again : goal.returns-then-bytes-gt-MOST_BYTES-clause-again
+returns-then-bytes-gt-MOST_BYTES-clause-again c = λ e is spelled. omega (arith, is_short e is, ap length spelled, c.if-bytes-gt-MOST_BYTES.true)
+
+pub returns-in-Ok-clause-again : goal.returns-in-Ok-clause-again
+returns-in-Ok-clause-again c = λ e is spelled. returns-in-Ok-clause-only c e (is_whole e is) spelled (omega (arith, is_short e is, ap length spelled))
+
+pub returns-in-Err-Left-clause-again : goal.returns-in-Err-Left-clause-again
+returns-in-Err-Left-clause-again c = λ e is spelled. returns-in-Err-Left-clause-only c e (is_whole e is) spelled (omega (arith, is_short e is, ap length spelled))

@@ -1,10 +1,12 @@
-use Rattle.std.proofs.Common.{◌≡◌, ◌<◌, [], ◌∷◌, ◌++◌, length, map, false, arith, ap, subst, ◌∙◌, OnOk}
+use Rattle.std.specs.Str.{IsUtf8}
+use Rattle.std.proofs.Common.{ℕ, List, ◌≡◌, ◌<◌, [], ◌∷◌, ◌++◌, length, map, false, arith, ap, subst, ◌∙◌, OnOk}
 use Rattle.event_tree.specs.Values.{on_values}
 use Rattle.event_json.specs.Json.{json, quoted, items_json, members_json}
 use Rattle.event_tree.specs.Adds.{Adds}
 use Rattle.event_json.proofs.Jsons.{json-List, json-Object, items_on, members_on}
 use Rattle.event_tree.proofs.Depths.{falls_member}
 use Rattle.event_tree.proofs.Adding.{keeps_on}
+use Rattle.event_tree.proofs.Sounds.{items_behind, members_behind}
 use Rattle.event_json.proofs.Written.{keeps_err, keeps_after, adds_two}
 use Rattle.event_json.proofs.json.+write.Goals as goal
 
@@ -50,7 +52,7 @@ add_items-loop-item-preserved t c =
     record {
       rest = items_on c.args.items.now c.loop-item.item-index c.loop-item.later c.item-item.result c.loop-item.to.items c.add_comma.new.to.items c.add_value.new.to.items _ lt c.item-item.is c.in_ok-add_comma.ensures.ok c.in_ok-add_value.ensures.ok c.loop-item.invariant.rest;
       keeps = keeps_on c.args.to.now.items c.loop-item.to.items c.add_value.new.to.items c.loop-item.invariant.keeps (keeps_on c.loop-item.to.items c.add_comma.new.to.items c.add_value.new.to.items (_, c.in_ok-add_comma.ensures.ok) (_, c.in_ok-add_value.ensures.ok));
-      utf8 = λ u. c.in_ok-add_value.ensures.utf8 (c.in_ok-add_comma.ensures.utf8 (c.loop-item.invariant.utf8 u));
+      sound = items_behind c.args.items.now c.loop-item.item-index c.item-item.result lt c.item-item.is c.in_ok-add_value.ensures.sound ∙ c.loop-item.invariant.sound;
     }
 
 pub add_members-loop-member-preserved : goal.add_members-loop-member-preserved
@@ -62,5 +64,5 @@ add_members-loop-member-preserved t c =
       rest = members_on c.args.members.now c.loop-member.member-index c.loop-member.later m c.loop-member.to.items c.add_comma.new.to.items c.add_quoted.new.to.items c.add_text.new.to.items c.add_value.new.to.items _ lt c.member-item.is c.in_ok-add_comma.ensures.ok keyed c.in_ok-add_text.ensures.ok c.in_ok-add_value.ensures.ok c.loop-member.invariant.rest;
       keeps = keeps_on c.args.to.now.items c.loop-member.to.items c.add_value.new.to.items c.loop-member.invariant.keeps (keeps_on c.loop-member.to.items c.add_comma.new.to.items c.add_value.new.to.items (_, c.in_ok-add_comma.ensures.ok)
           (keeps_on c.add_comma.new.to.items c.add_quoted.new.to.items c.add_value.new.to.items (_, keyed) (keeps_on c.add_quoted.new.to.items c.add_text.new.to.items c.add_value.new.to.items (_, c.in_ok-add_text.ensures.ok) (_, c.in_ok-add_value.ensures.ok))));
-      utf8 = λ u. c.in_ok-add_value.ensures.utf8 (c.in_ok-add_text.ensures.utf8 (c.in_ok-add_quoted.ensures.utf8 (c.in_ok-add_comma.ensures.utf8 (c.loop-member.invariant.utf8 u))));
+      sound = members_behind c.args.members.now c.loop-member.member-index m lt c.member-item.is (subst (λ (ys : List ℕ). IsUtf8 ys) c.as_str.ensures c.as_str.utf8) c.in_ok-add_value.ensures.sound ∙ c.loop-member.invariant.sound;
     }

@@ -1,7 +1,6 @@
 use Rattle.event_json.specs.Json.{quoted}
 use Rattle.std.proofs.Common.{◌++◌}
 use Rattle.event_json.proofs.Runs.{all_written_ok, one_written_on}
-use Rattle.event_json.proofs.Utf8.{adds_utf8, quoted_utf8}
 use Rattle.event_tree.proofs.Adding.{keeps_on}
 use Rattle.event_json.proofs.json.add_quoted.Goals as goal
 
@@ -13,6 +12,3 @@ loop-to-preserved c = record {
   rest = one_written_on c.loop-to.rest.now (c.args.to.now.items ++ quoted c.args.text.now) c.run_length-count.result c.loop-to.to.items c.add-in-loop-to.new.to.items c.add_escaped.new.to.items c.run_length-count.ensures.run c.run_length-count.ensures.after c.run_length-count.ensures.within c.if-count-rest.false c.in_ok-add-2.ensures.ok c.in_ok-add_escaped.ensures.ok c.loop-to.invariant.rest;
   keeps = keeps_on c.args.to.now.items c.loop-to.to.items c.add_escaped.new.to.items c.loop-to.invariant.keeps (keeps_on c.loop-to.to.items c.add-in-loop-to.new.to.items c.add_escaped.new.to.items (_, c.in_ok-add-2.ensures.ok) (_, c.in_ok-add_escaped.ensures.ok));
 }
-
-pub returns-then-count-rest-clause-utf8 : goal.returns-then-count-rest-clause-utf8
-returns-then-count-rest-clause-utf8 c u = adds_utf8 c.add-then-count-rest.result (quoted c.args.text.now) c.args.to.now.items c.add-then-count-rest.new.to.items (quoted_utf8 c.args.text.now c.utf8.text) (returns-then-count-rest-clause-ok c) u

@@ -1,6 +1,7 @@
 use Rattle.std.proofs.Common.{◌≡◌, ◌-◌, ◌+◌, ◌*◌, [], length}
 use Rattle.std.specs.Prelude.{IsUtf8}
 use Rattle.event_json_laws.specs.Reading.{node_at, elements_at, item_at, member_at}
+use Rattle.event_json.specs.Gathered.{put_all}
 use Rattle.event_json.proofs.read.+read.Given as goal
 
 abbrev pub decreases-node : goal.decreases-node
@@ -33,5 +34,5 @@ invariant-items-loop l = record {
 abbrev pub invariant-members-loop : goal.invariant-members-loop
 invariant-members-loop l = record {
   utf8 : IsUtf8 l.rest;
-  so_far : elements_at 125 (member_at (node_at l.levels)) (length l.text - l.counter) l.found l.rest ≡ elements_at 125 (member_at (node_at l.levels)) (length l.text) [] l.text;
+  so_far : elements_at 125 (member_at (node_at l.levels)) (length l.text - l.counter) (put_all [] l.found.items) l.rest ≡ elements_at 125 (member_at (node_at l.levels)) (length l.text) [] l.text;
 }

@@ -1,9 +1,8 @@
 use Rattle.std.proofs.Common.{arith}
-use Rattle.event_text.proofs.Pieces.{close_found, close_missing}
 use Rattle.event_text.proofs.template.close_at.Goals as goal
 
-pub returns-then-bytes-at-eq125-clause-found : goal.returns-then-bytes-at-eq125-clause-found
-returns-then-bytes-at-eq125-clause-found c h = close_found c.args.bytes.now c.args.from c.loop-at.at (omega (arith, c.loop-at.auto.at)) h c.loop-at.invariant c.if-bytes-at-eq125.true
+pub returns-then-bytes-at-eq125-clause-next : goal.returns-then-bytes-at-eq125-clause-next
+returns-then-bytes-at-eq125-clause-next c = (omega (arith, c.loop-at.auto.at), c.loop-at.invariant, λ after within. omega (arith, c.if-bytes-at-eq125.true))
 
-pub returns-clause-missing : goal.returns-clause-missing
-returns-clause-missing c h = close_missing c.args.bytes.now c.args.from (λ k low high. c.loop-at.invariant k low (omega (arith, high, c.loop-at-test.false)))
+pub returns-clause-next : goal.returns-clause-next
+returns-clause-next c = (omega arith, λ k low high. c.loop-at.invariant k low (omega (arith, high, c.loop-at-test.false)), λ after within. absurd (omega (arith, within)))

@@ -1,7 +1,8 @@
-use Rattle.std.proofs.Common.{◌≡◌, ◌++◌, drop, Some, None, sym, ap, subst, ◌∙◌, arith}
+use Rattle.std.proofs.Common.{◌≡◌, ◌+◌, ◌++◌, drop, Some, None, sym, ap, subst, ◌∙◌, arith}
 use Rattle.std.specs.Option.{IfSome}
 use Rattle.std.proofs.lemmas.Str.{IsCharBoundary-start}
 use Rattle.event_text.specs.Template.{placeholder, template_parts, IsPlaced}
+use Rattle.event_text.proofs.Pieces.{next_later}
 use Rattle.event_text.proofs.Scans.{next_plain, next_place, last_plain}
 use Rattle.event_text.proofs.template.read_pieces.Goals as goal
 
@@ -10,6 +11,7 @@ loop-at-init c = record {
   within = omega arith;
   behind = omega arith;
   boundary = IsCharBoundary-start c.args.text.now c.utf8.text;
+  next = (omega arith, λ k low high. absurd (omega (arith, high)), λ after within. absurd (omega (arith, after)));
   rest = ap (λ ps. ps ++ template_parts c.args.text.now) (sym c.new-pieces.ensures);
 }
 
@@ -25,6 +27,7 @@ loop-at-preserved-in-Some c =
       within = place.1;
       behind = omega arith;
       boundary = place.3;
+      next = next_later text (at + 2) (at + n + 2) c.placeholder.new.next (omega arith) c.in_ok-piece.ensures.next;
       rest = next_place (template_parts text) c.loop-at.pieces c.add_plain.new.pieces c.push.new.self text c.range.result.now c.loop-at.plain at n c.in-Some.piece c.loop-at-test.true place.0 found c.range.ensures.value c.in_ok-add_plain-in-Some.ensures c.in_ok-push-in-Some.ensures.ok i.rest;
     }
 
@@ -38,6 +41,7 @@ loop-at-preserved c =
       within = omega (arith, c.loop-at-test.true);
       behind = omega (arith, i.behind);
       boundary = i.boundary;
+      next = next_later text (at + 2) (at + 1 + 2) c.placeholder.new.next (omega arith) c.in_ok-piece.ensures.next;
       rest = next_plain (template_parts text) c.loop-at.pieces text c.loop-at.plain at i.behind c.loop-at-test.true none i.rest;
     }
 

@@ -1,19 +1,19 @@
 use Rattle.std.proofs.Common.{◌≡◌, drop, ◌+◌, ◌*◌}
 use Rattle.event_tree.specs.Values.{depth, items_depth, members_depth}
 use Rattle.event_tree.specs.Sizes.{items_size, members_size, less}
-use Rattle.event_tree.specs.Ordered.{items_ordered, members_ordered}
+use Rattle.event_tree.specs.Sound.{items_sound, members_sound}
 use Rattle.event_tree.proofs.measure.+room.Given as goal
 
 abbrev pub invariant-room_after_items-loop-item : goal.invariant-room_after_items-loop-item
 invariant-room_after_items-loop-item l = record {
   room : less l.left (items_size (drop l.item-index l.items)) ≡ less l.room (items_size l.items);
-  ordered : items_ordered (drop l.item-index l.items) ≡ items_ordered l.items;
+  sound : items_sound (drop l.item-index l.items) ≡ items_sound l.items;
 }
 
 abbrev pub invariant-room_after_members-loop-member : goal.invariant-room_after_members-loop-member
 invariant-room_after_members-loop-member l = record {
   room : less l.left (members_size (drop l.member-index l.members)) ≡ less l.room (members_size l.members);
-  ordered : members_ordered (drop l.member-index l.members) ≡ members_ordered l.members;
+  sound : members_sound (drop l.member-index l.members) ≡ members_sound l.members;
 }
 
 abbrev pub decreases-room_after : goal.decreases-room_after

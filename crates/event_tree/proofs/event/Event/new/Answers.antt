@@ -1,7 +1,7 @@
 use Rattle.std.proofs.Common.{[], arith, refl}
 use Rattle.event_tree.proofs.Depths.{depth-Object}
 use Rattle.event_tree.proofs.Sizes.{size-Object}
-use Rattle.event_tree.proofs.Orders.{ordered_rises}
+use Rattle.event_tree.proofs.Sounds.{sound_rises}
 use Rattle.event_tree.proofs.event.Event.new.Goals as goal
 
 pub invariant_of-result : goal.invariant_of-result
@@ -11,8 +11,8 @@ invariant_of-result c = rw (c.new.ensures, c.new-2.ensures) (
     meta_object = ([], refl);
     small = omega (arith, size-Object []);
     shallow = omega (arith, depth-Object []);
-    fields_ordered = ordered_rises [] tt refl;
-    meta_ordered = ordered_rises [] tt refl;
+    fields_sound = sound_rises [] tt refl;
+    meta_sound = sound_rises [] tt refl;
   }),
   omega (arith, size-Object []),
 )

@@ -4,7 +4,7 @@ use Rattle.event_tree.specs.Sizes.{size}
 use Rattle.event_tree.specs.declared.value.Value.TheVariants as v
 use Rattle.event_tree.proofs.Depths.{depth-Object}
 use Rattle.event_tree.proofs.Sizes.{size-Object}
-use Rattle.event_tree.proofs.Orders.{ordered_rises}
+use Rattle.event_tree.proofs.Sounds.{sound_rises}
 use Rattle.event_tree.proofs.EventPuts.{size-object}
 use Rattle.event_tree.proofs.event.Event.take_whole_meta.Goals as goal
 
@@ -21,8 +21,8 @@ invariant_of-self c =
         meta_object = ([], refl);
         small = omega (arith, size-Object [], m, was.small);
         shallow = omega (arith, depth-Object [], was.shallow);
-        fields_ordered = was.fields_ordered;
-        meta_ordered = ordered_rises [] tt refl;
+        fields_sound = was.fields_sound;
+        meta_sound = sound_rises [] tt refl;
       },
       omega (arith, size-Object [], c.self.invariant.1, c.size_without.ensures, r, m, f),
     )
