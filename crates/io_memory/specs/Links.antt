@@ -1,5 +1,6 @@
 -- What connections in memory hold, and what their calls do.
-use Rattle.std.specs.Prelude.{◌≡◌, ℕ, ◌-◌, min, Bool, true, false, List, [], ◌∷◌, ◌++◌, Result, Ok, Err, nat_eq, nat_lt, not, length, take, drop, filter, slice_index_or, slice_set, OnOk, if◌then◌else◌}
+use Rattle.std.specs.Prelude.{◌≡◌, ◌⊎◌, ℕ, ◌-◌, min, Bool, true, false, List, [], ◌∷◌, ◌++◌, Option, Some, None, Result, Ok, Err, nat_eq, nat_lt, not, length, take, drop, filter, slice_index_or, slice_set, OnOk, if◌then◌else◌}
+use Rattle.std.specs.Option.{option_map}
 use Rattle.io_traits.specs.Counts.{one_more}
 use Rattle.io_traits.specs.Pieces.{Piece, Came, End, Nothing, bytes_in}
 use Rattle.io_traits.specs.declared.faults.Failed.{Failed}
@@ -18,8 +19,9 @@ use Rattle.io_memory.specs.declared.memory_links.ConnState.{ConnState}
 abbrev pub sent_of : Sent → ℕ × Piece
 sent_of s = (s.conn, piece_of s.gave)
 
--- how many connections come in all, those that came, the pieces that they gave, the pieces that are left, how often a look failed and found none, and the script
+-- where looks were made, if that is told, how many connections come in all, those that came, the pieces that they gave, the pieces that are left, how often a look failed and found none, and the script
 pub record Linking : Type 0 where
+  pub looks : Option (List (List ℕ × ℕ))
   pub connections : ℕ
   pub came : List ConnState
   pub given : List (ℕ × Piece)
@@ -30,7 +32,7 @@ pub record Linking : Type 0 where
 
 -- before the first look
 abbrev pub beginning : ℕ → List (ℕ × Piece) → Course → Linking
-beginning connections left script = record { connections = connections; came = []; given = []; left = left; accept_faults = 0; accept_waits = 0; script = script }
+beginning connections left script = record { looks = Some []; connections = connections; came = []; given = []; left = left; accept_faults = 0; accept_waits = 0; script = script }
 
 -- how many connections are still to come
 abbrev pub coming_of : Linking → ℕ
@@ -121,7 +123,15 @@ next_come s = if waits_next s.script then NotYet else if nat_lt (length s.came) 
 abbrev pub shut : Linking → ℕ → Linking
 shut s conn = record (with_state s conn (record (state_of s conn) { is_open = false })) { left = without conn s.left }
 
--- what they hold after a look, by its answer
+-- one look more is told, or none is told any more
+abbrev pub NotesLook : Option (List (List ℕ × ℕ)) → Option (List (List ℕ × ℕ)) → List ℕ → ℕ → Type 0
+NotesLook old new host port = (new ≡ option_map (λ looks. looks ++ (host, port) ∷ []) old) ⊎ (new ≡ None)
+
+-- so far, and with other looks that are told
+abbrev pub looked : Linking → Option (List (List ℕ × ℕ)) → Linking
+looked s looks = record s { looks = looks }
+
+-- what they hold after a look, by its answer, but for where it was made
 abbrev pub after_accept : Linking → Result Come Failed → Linking
 after_accept s (Ok (Conn n)) = record s { came = s.came ++ fresh ∷ []; script = worked s.script }
 after_accept s (Ok NotYet) = record s { accept_waits = one_more s.accept_waits; script = waited s.script }

@@ -11,6 +11,7 @@ mod memory_sinks;
 mod memory_sources;
 mod scripts;
 mod tables;
+mod told_looks;
 
 pub use list_clocks::ListClock;
 pub use list_controls::ListControl;

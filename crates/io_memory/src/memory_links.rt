@@ -6,7 +6,9 @@ ghost use Rattle.io_memory.specs.Links.{sent_of, first_from};
 
 use crate::memory_sources::Gave;
 use crate::scripts::Script;
+use crate::told_looks::ToldLooks;
 use io_traits::{Come, Failed, Links, Step};
+use plain_data::Text;
 use std::alloc::{AllocError, Global};
 use std::collections::VecDeque;
 use std::marker::Model;
@@ -35,6 +37,7 @@ pub struct ConnState {
 /// Their pieces stand in one list, and a connection gives a piece once it is the first that is left.
 /// Nothing is left of a connection whose end was read, and of one that was closed.
 pub struct MemoryLinks {
+    looks: ToldLooks,
     connections: u32,
     came: Vec<ConnState>,
     given: Vec<Sent>,
@@ -48,6 +51,7 @@ pub struct MemoryLinks {
 impl Drop for MemoryLinks {
     fn drop(self) {
         let MemoryLinks {
+            looks: _looks,
             connections: _,
             came: _came,
             given: _given,
@@ -66,6 +70,7 @@ impl Model for MemoryLinks {
     ghost Value = { Linking };
 
     ghost view = { λ s. record {
+      looks = s.looks;
       connections = s.connections;
       came = s.came.items;
       given = map sent_of s.given.items;
@@ -79,7 +84,8 @@ impl Model for MemoryLinks {
 }
 
 impl MemoryLinks {
-    ghost use Rattle.io_memory.specs.Links.{IsFilled, sent_of, is_full, beginning, state_of, faults_of, waits_of, with_state, one_fault, one_wait, next_from, step_of, found, next_come, shut, taken_off, after_accept, after_step, after_read, first_from};
+    ghost use Rattle.std.specs.Option.{option_map};
+    ghost use Rattle.io_memory.specs.Links.{IsFilled, sent_of, is_full, beginning, state_of, faults_of, waits_of, with_state, one_fault, one_wait, next_from, step_of, found, NotesLook, looked, next_come, shut, taken_off, after_accept, after_step, after_read, first_from};
     ghost use Rattle.io_memory.specs.Scripts.{fails_next};
 
     /// So many connections, which come one at each look, with these pieces. Pieces without bytes are
@@ -95,6 +101,7 @@ impl MemoryLinks {
     {
         pieces.retain(|sent| sent.is_full());
         MemoryLinks {
+            looks: ToldLooks::new(alloc),
             connections,
             came: Vec::new(alloc),
             given: Vec::new(alloc),
@@ -103,6 +110,13 @@ impl MemoryLinks {
             accept_waits: 0,
             script,
         }
+    }
+
+    /// The host and the port of each look, in their order; None once it found no memory to keep one.
+    pub fn looks(&self) -> Option<&[(Text, u16)]>
+        ensures { option_map (λ looks. looks.now) result ≡ self.now.looks }
+    {
+        self.looks.told()
     }
 
     /// How many connections came.
@@ -346,9 +360,24 @@ impl MemoryLinks {
         }
     }
 
-    /// Gives the next connection, or `Come::Ended` once all came, whatever the host and port. It fails
-    /// where its script names the call, and where it finds no memory for the connection.
-    pub fn accept(&mut self, _host: &str, _port: u16) -> Result<Come, Failed>
+    /// Gives the next connection, or `Come::Ended` once all came, whatever the host and port, which it
+    /// tells. It fails where its script names the call, and where it finds no memory for the
+    /// connection.
+    pub fn accept(&mut self, host: &str, port: u16) -> Result<Come, Failed>
+        ensures looks { NotesLook self.old.looks self.new.looks host.now port }
+        ensures named { IsTrue (fails_next self.old.script) → IsErr result }
+        ensures comes { IfOk result (λ come. come ≡ next_come self.old) }
+        ensures state { self.new ≡ after_accept (looked self.old self.new.looks) result }
+        ensures cause { HasCause self.old.accept_faults self.new.accept_faults (IsErr result) }
+        ensures waits { HasCause self.old.accept_waits self.new.accept_waits
+            (result ≡ Ok Come.NotYet) }
+    {
+        self.looks.note(host, port);
+        self.look()
+    }
+
+    // Looks for the next connection.
+    fn look(&mut self) -> Result<Come, Failed>
         ensures named { IsTrue (fails_next self.old.script) → IsErr result }
         ensures comes { IfOk result (λ come. come ≡ next_come self.old) }
         ensures state { self.new ≡ after_accept self.old result }
@@ -429,6 +458,8 @@ impl Sent {
 
 impl Links for MemoryLinks {
     ghost use Rattle.io_memory.specs.Links.{coming_of, faults_of, left_of, waits_of};
+
+    ghost looks = { λ s. s.looks };
 
     ghost came = { λ s. length s.came };
 

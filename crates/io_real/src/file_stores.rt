@@ -4,7 +4,6 @@ ghost use Rattle.io_traits.specs.Counts.{HasCause};
 ghost use Rattle.io_real.specs.Adapters.{store_called, store_listed, store_synced};
 
 use crate::fault_counts::{counted, counted_list};
-use crate::folders::names_in;
 use crate::opened_files::OpenedFiles;
 use io_traits::{Failed, ListFault};
 use plain_data::Names;
@@ -18,10 +17,20 @@ use store_trait::Store;
 /// A store over the files of the machine. A contract sees its count of faults, and
 /// whether a sync failed.
 ///
-/// A file is opened once and kept open; where more than 32 are, one that didn't change is closed.
-/// What is appended is there for every later read. A file that is made has its folders made where
-/// they are missing. A sync syncs the files that changed since the last one, and then the folders in
-/// which names changed, one by one.
+/// What an earlier process left unsynced is synced before it is relied on: a folder when a name in it
+/// is first asked for, and a file when it is first opened. Both are opened for reading alone, and a
+/// file is opened for writing before its first change. A folder is no file.
+///
+/// A file is opened once and kept open; where 32 are, one is closed, which is synced first if it
+/// changed. What is appended is there for every later read. A file that is made has its folders made
+/// where they are missing; one whose name is a link to no file is made where the link leads. A sync
+/// syncs the files that changed since the last one, and then the folders in which names changed, one
+/// by one.
+///
+/// Before the first change in a folder of its own, `data/main`, the store takes a lock on the file
+/// `data/main.lock` beside it, and holds it for as long as it lives. Where another store holds it, the
+/// call failed. A folder is its own where the store listed it, or changes a file in it that has the
+/// name of a queue's file (`page.N`, `checkpoint.N`, `checkpoint.head`). What only reads takes no lock.
 ///
 /// Once a sync failed, each later one fails too: the machine may have dropped what it could not
 /// write, and a sync that came after would not say so.
@@ -105,7 +114,7 @@ impl<R: Files<File = File> + AllocGlobal + Clone + Drop> Store for FileStore<R> 
         // What every store promises.
         ensures cause { HasCause self.old.faults self.new.faults (result ≡ Err ListFault.Failed) }
     {
-        let outcome = names_in(&self.rt, alloc, folder);
+        let outcome = self.opened.list(&self.rt, alloc, folder);
         counted_list(&mut self.faults, outcome)
     }
 

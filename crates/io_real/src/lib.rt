@@ -1,8 +1,8 @@
 //! Objects of the outside on the real machine.
 //!
 //! They tell nothing of what they hold, so that of the clauses of their traits those on content hold
-//! of themselves, and a method repeats the others. Each keeps its counts, and raises one at every
-//! error or not-yet.
+//! of themselves, and a method repeats the others. Each keeps its counts, and raises one in each call
+//! that answers a fault or a not-yet: an error that a call gets over is counted nowhere.
 #![tactic(auto)]
 
 mod connections;
@@ -10,8 +10,10 @@ mod fault_counts;
 mod file_stores;
 mod folders;
 mod go_controls;
+mod known_folders;
 mod listeners;
 mod opened_files;
+mod paths;
 mod real_files;
 mod stdin_sources;
 mod system_clocks;

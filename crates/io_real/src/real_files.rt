@@ -15,7 +15,8 @@ use std::rt::Files as RuntimeFiles;
 
 /// The files of the machine, which other programs write. A contract sees its counts.
 ///
-/// Each call goes by the path, so that it sees the file that has this name at that time.
+/// Each call goes by the path, so that it sees the file that has this name at that time. A folder is no
+/// file.
 #[derive(Drop)]
 pub struct RealFiles<R> {
     rt: R,
@@ -77,7 +78,10 @@ fn read_path(
     ensures { IfOk result (λ n. n ≤ length into.old) }
 {
     match File::open(rt, path) {
-        Ok(file) => read_from(&file, at, into),
+        Ok(file) => match read_from(&file, at, into) {
+            Err(error) if error.kind() == ErrorKind::IsADirectory => Ok(0),
+            outcome => outcome,
+        },
         Err(error) if error.kind() == ErrorKind::NotFound => Ok(0),
         Err(error) => Err(error),
     }

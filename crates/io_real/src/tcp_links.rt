@@ -157,6 +157,8 @@ impl<R: Net> TcpLinks<R> {
 impl<R: Net> Links for TcpLinks<R> {
     ghost use Rattle.io_real.specs.Links.{faults_of, waits_of};
 
+    ghost looks = { λ _. None };
+
     ghost came = { λ s. s.came };
 
     ghost coming = { λ _. None };

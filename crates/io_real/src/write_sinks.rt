@@ -3,20 +3,30 @@ ghost use Rattle.std.specs.Io.KnownBytes.{Keeps, WriteAppends};
 ghost use Rattle.io_traits.specs.Counts.{HasCause};
 ghost use Rattle.io_real.specs.Adapters.{faults_after};
 
-use crate::fault_counts::{counted, fail};
+use crate::fault_counts::fail;
 use io_traits::{Failed, Sink};
 use std::io::{ErrorKind, Write};
 use std::marker::Model;
+use std::rt::Clock as RuntimeClock;
+use std::thread;
+use std::time::Duration;
+
+// How long a write that would block waits before the next try.
+const WAIT_MILLIS: u64 = 10;
 
 /// A sink over a writer, such as a `BufWriter` over stdout. A contract sees the
 /// writer and its count of faults.
+///
+/// A write or a flush that a signal cuts short is made again, and so is one that would block
+/// (`ErrorKind::WouldBlock`), as on a pipe that is full and doesn't block, after 10 milliseconds.
 #[derive(Drop)]
-pub struct WriteSink<W> {
+pub struct WriteSink<W, R> {
+    rt: R,
     output: W,
     faults: u64,
 }
 
-impl<W> Model for WriteSink<W> {
+impl<W, R> Model for WriteSink<W, R> {
     ghost use Rattle.io_real.specs.Adapters.{Writing};
 
     ghost Value = { Writing W };
@@ -24,12 +34,16 @@ impl<W> Model for WriteSink<W> {
     ghost view = { λ s. record { output = s.output; faults = s.faults } };
 }
 
-impl<W> WriteSink<W> {
-    /// A sink over a writer.
-    pub fn new(output: W) -> WriteSink<W>
+impl<W, R> WriteSink<W, R> {
+    /// A sink over a writer, and a runtime, or a reference to one, by whose clock it waits.
+    pub fn new(rt: R, output: W) -> WriteSink<W, R>
         ensures { result ≡ record { output = output; faults = 0 } }
     {
-        WriteSink { output, faults: 0 }
+        WriteSink {
+            rt,
+            output,
+            faults: 0,
+        }
     }
 
     /// How many writes and flushes failed.
@@ -40,7 +54,7 @@ impl<W> WriteSink<W> {
     }
 }
 
-impl<W: Write> Sink for WriteSink<W> {
+impl<W: Write, R: RuntimeClock> Sink for WriteSink<W, R> {
     ghost use Rattle.io_traits.proofs.Growth.{within_untold};
 
     ghost taken = { λ _. None };
@@ -49,8 +63,8 @@ impl<W: Write> Sink for WriteSink<W> {
 
     ghost faults = { λ s. s.faults };
 
-    /// Writes once, and again as often as a signal cuts a write short. A writer that takes no byte
-    /// of a piece that isn't empty failed, as one that gives any other error.
+    /// Writes once, and again as often as a signal cuts a write short or it would block. A writer
+    /// that takes no byte of a piece that isn't empty failed, as one that gives any other error.
     fn write(&mut self, bytes: &[u8]) -> Result<usize, Failed>
         ensures counts { self.new.faults ≡ faults_after self.old.faults result }
         ensures writer { WriteAppends (W.contents self.old.output) (W.contents self.new.output)
@@ -65,13 +79,15 @@ impl<W: Write> Sink for WriteSink<W> {
             match self.output.write(bytes) {
                 Ok(count) if count > 0 || bytes.is_empty() => return Ok(count),
                 Err(error) if error.kind() == ErrorKind::Interrupted => {}
+                Err(error) if error.kind() == ErrorKind::WouldBlock => wait(&self.rt),
                 _ => break,
             }
         }
         Err(fail(&mut self.faults))
     }
 
-    /// Flushes the writer. With any error it failed.
+    /// Flushes the writer, and again as often as a signal cuts that short or it would block. With any
+    /// other error it failed.
     fn flush(&mut self) -> Result<(), Failed>
         ensures counts { self.new.faults ≡ faults_after self.old.faults result }
         ensures writer { Keeps (W.contents self.old.output) (W.contents self.new.output) }
@@ -79,9 +95,20 @@ impl<W: Write> Sink for WriteSink<W> {
         // What every sink promises.
         ensures cause { HasCause self.old.faults self.new.faults (IsErr result) }
     {
-        let outcome = self.output.flush();
-        counted(&mut self.faults, outcome)
+        for _ in 0..u64::MAX {
+            match self.output.flush() {
+                Ok(()) => return Ok(()),
+                Err(error) if error.kind() == ErrorKind::Interrupted => {}
+                Err(error) if error.kind() == ErrorKind::WouldBlock => wait(&self.rt),
+                Err(_) => break,
+            }
+        }
+        Err(fail(&mut self.faults))
     }
 
     ghost flushed_within = { λ _. within_untold 0 };
+}
+
+fn wait(rt: &impl RuntimeClock) {
+    thread::sleep(rt, Duration::from_millis(WAIT_MILLIS));
 }

@@ -1,106 +1,114 @@
-ghost use Rattle.std.specs.Prelude.{◌≡◌};
-ghost use Rattle.io_traits.specs.Reads.{file_length};
-ghost use Rattle.store_memory.specs.Keeping.{reads_of};
+// Calls of stores on the disk, and of files that other programs write.
+use crate::answers::Answer;
+use crate::machine::greatest_length;
+use crate::words::{first_word, number};
+use std::alloc::Global;
+use std::io;
+use store_disk::{
+    FileStore, Files, RealFiles, Store, append_and_settle, append_to_tail, cut_and_settle,
+    settle_and_mark,
+};
 
-use std::alloc::{AllocError, Global};
-use store_disk::{MemoryStore, Script, Table};
-
-// The moment at which a store is never stopped.
-pub(crate) const NEVER: u64 = u64::MAX;
-
-// A store of these files.
-pub(crate) fn store_of(alloc: Global, files: Table) -> Result<MemoryStore, AllocError> {
-    MemoryStore::new(files, Script::empty(alloc), NEVER)
-}
-
-// A store without files of which the call of this number fails.
-pub(crate) fn failing_at(alloc: Global, number: u64) -> Result<MemoryStore, AllocError> {
-    let script = Script::new(alloc, &[number], &[])?;
-    MemoryStore::new(Table::new(alloc), script, NEVER)
-}
-
-// A store without files that is stopped after so many calls.
-pub(crate) fn stopped_after(alloc: Global, calls: u64) -> Result<MemoryStore, AllocError> {
-    MemoryStore::new(Table::new(alloc), Script::empty(alloc), calls)
-}
-
-// The calls of a store say here whether they did their work. A test sees nothing of their clauses, and
-// stays quick to prove.
-
-// Appends, and says whether that worked.
-pub(crate) fn append(store: &mut MemoryStore, name: &str, bytes: &[u8]) -> bool {
-    store.append(name, bytes).is_ok()
-}
-
-// The length of a file, 0 of a missing one.
-pub(crate) fn length_of(store: &MemoryStore, name: &str) -> u64
-    ensures { result ≡ file_length (reads_of store.now name.now) }
-{
-    match store.bytes(name) {
-        Some(bytes) => bytes.len() as u64,
-        None => 0,
-    }
-}
-
-// Writes at a place that the file has, and says whether that worked.
-pub(crate) fn write_at(store: &mut MemoryStore, name: &str, at: u64, bytes: &[u8]) -> bool {
-    at <= length_of(store, name) && store.write_at(name, at, bytes).is_ok()
-}
-
-// Cuts a file to a length that it has, and says whether that worked.
-pub(crate) fn cut(store: &mut MemoryStore, name: &str, length: u64) -> bool {
-    length <= length_of(store, name) && store.cut(name, length).is_ok()
-}
-
-// Removes a file, and says whether that worked.
-pub(crate) fn remove(store: &mut MemoryStore, name: &str) -> bool {
-    store.remove(name).is_ok()
-}
-
-// Syncs, and says whether that worked.
-pub(crate) fn sync(store: &mut MemoryStore) -> bool {
-    store.sync().is_ok()
-}
-
-// Whether the file has this length.
-pub(crate) fn has_length(store: &mut MemoryStore, name: &str, want: Option<u64>) -> bool {
-    store.length(name) == Ok(want)
-}
-
-// Whether a read of four bytes gives so many, and this stands in the room then.
-pub(crate) fn gives(
-    store: &mut MemoryStore,
-    name: &str,
-    at: u64,
-    count: usize,
-    want: &[u8; 4],
-) -> bool {
-    let mut room = [b'-'; 4];
-    store.read(name, at, &mut room) == Ok(count) && &room == want
-}
-
-// Whether the names in a folder are these.
-pub(crate) fn lists(
-    store: &mut MemoryStore,
-    alloc: Global,
-    folder: &str,
-    want: &[&'static str],
-) -> bool {
-    let Ok(names) = store.list(alloc, folder) else {
-        return false;
-    };
-    if names.len() != want.len() {
-        return false;
-    }
-    for (name, want) in names.as_slice().iter().zip(want) {
-        if name.as_str() != *want {
-            return false;
+/// What a call of a store answers.
+pub fn store_answer<'a>(
+    rt: &'a HostRuntime,
+    store: &mut FileStore<&'a HostRuntime>,
+    call: &str,
+) -> io::Result<Answer> {
+    let (call, rest) = first_word(call);
+    let (name, rest) = first_word(rest);
+    match call {
+        "new" => {
+            *store = FileStore::new(rt.alloc(), rt);
+            Ok(Answer::Done)
         }
+        "list" => Ok(Answer::names(store.list(rt.alloc(), name))),
+        "length" => Ok(Answer::length(store.length(name))),
+        "read" => read(rt.alloc(), store, name, rest),
+        "each" => each(rt.alloc(), store, name, rest),
+        "faults" => Ok(Answer::Number(store.faults())),
+        "end" => {
+            let most = greatest_length(rt, rest)?;
+            let outcome = store.write_at(name, most.saturating_sub(2), b"more");
+            Ok(Answer::done(outcome))
+        }
+        _ => Ok(changes(store, call, name, rest)),
     }
-    true
 }
 
-// How often the store failed, and its moment.
-pub(crate) fn counts(store: &MemoryStore) -> (u64, u64) {
-    (store.script().faults(), store.moment())
+// What a call answers that changes a file, or settles what was changed.
+fn changes(store: &mut FileStore<&HostRuntime>, call: &str, name: &str, rest: &str) -> Answer {
+    let (at, bytes) = first_word(rest);
+    Answer::done(match call {
+        "append" => store.append(name, rest.as_bytes()),
+        "write" => store.write_at(name, number(at), bytes.as_bytes()),
+        "cut" => store.cut(name, number(at)),
+        "remove" => store.remove(name),
+        "append-to-tail" => append_to_tail(store, name, rest.as_bytes()),
+        "append-and-settle" => append_and_settle(store, name, rest.as_bytes()),
+        "cut-and-settle" => cut_and_settle(store, name, number(at)),
+        "settle-and-mark" => settle_and_mark(store, name, number(at), bytes.as_bytes()),
+        _ => store.sync(),
+    })
+}
+
+fn read(
+    alloc: Global,
+    store: &mut FileStore<&HostRuntime>,
+    name: &str,
+    rest: &str,
+) -> io::Result<Answer> {
+    let (at, room) = first_word(rest);
+    let mut room = vec![in alloc; b'-'; number(room) as usize]?;
+    let outcome = store.read(name, number(at), &mut room);
+    Ok(Answer::read(room, outcome))
+}
+
+// Appends to each of so many files in a folder, or with no bytes asks for the length of each. The answer
+// is how many calls did their work.
+fn each(
+    alloc: Global,
+    store: &mut FileStore<&HostRuntime>,
+    folder: &str,
+    rest: &str,
+) -> io::Result<Answer> {
+    let (count, bytes) = first_word(rest);
+    let mut done = 0_u64;
+    for i in 0..number(count) {
+        let name = format!(in alloc; "{folder}/{i}")?;
+        let worked = if bytes.is_empty() {
+            matches!(store.length(name.as_str()), Ok(Some(_)))
+        } else {
+            store.append(name.as_str(), bytes.as_bytes()).is_ok()
+        };
+        done = done.saturating_add(u64::from(worked));
+    }
+    Ok(Answer::Number(done))
+}
+
+/// What a call of files that other programs write answers.
+pub fn files_answer(
+    alloc: Global,
+    files: &mut RealFiles<&HostRuntime>,
+    call: &str,
+) -> io::Result<Answer> {
+    let (call, rest) = first_word(call);
+    let (name, rest) = first_word(rest);
+    match call {
+        "list" => Ok(Answer::names(files.list(alloc, name))),
+        "length" => Ok(Answer::length(files.length(name))),
+        "read" => {
+            let (at, room) = first_word(rest);
+            let mut room = vec![in alloc; b'-'; number(room) as usize]?;
+            let outcome = files.read(name, number(at), &mut room);
+            Ok(Answer::read(room, outcome))
+        }
+        "count" => {
+            let mut room = vec![in alloc; b'-'; number(rest) as usize]?;
+            let outcome = files.read(name, 0, &mut room);
+            Ok(Answer::length(outcome.map(|count| Some(count as u64))))
+        }
+        "calls" => Ok(Answer::Number(files.calls())),
+        _ => Ok(Answer::Number(files.faults())),
+    }
 }

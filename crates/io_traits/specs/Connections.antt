@@ -53,8 +53,9 @@ pub record KeepsOthers {S : Type 0} (left_of : S → ℕ → Option (List ℕ)) 
   pub faults : SameBut conn (faults_of old) (faults_of new)
   pub waits : SameBut conn (waits_of old) (waits_of new)
 
--- and what looks brought, and their counts
-pub record KeepsLooks {S : Type 0} (came_to : S → ℕ) (coming_to : S → Option ℕ) (faults_of waits_of : S → ℕ) (old new : S) : Type 0 where
+-- and where looks were made, what they brought, and their counts
+pub record KeepsLooks {S : Type 0} (looks_of : S → Option (List (List ℕ × ℕ))) (came_to : S → ℕ) (coming_to : S → Option ℕ) (faults_of waits_of : S → ℕ) (old new : S) : Type 0 where
+  pub looks : looks_of new ≡ looks_of old
   pub came : came_to new ≡ came_to old
   pub coming : coming_to new ≡ coming_to old
   pub faults : faults_of new ≡ faults_of old

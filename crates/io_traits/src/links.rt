@@ -1,4 +1,4 @@
-ghost use Rattle.std.specs.Prelude.{◌≡◌, ◌≤◌, ◌<◌, ℕ, List, [], Option, Ok, IsErr, length};
+ghost use Rattle.std.specs.Prelude.{◌≡◌, ◌≤◌, ◌<◌, ℕ, List, [], ◌∷◌, Option, Ok, IsErr, length};
 ghost use Rattle.io_traits.specs.Connections.{IsNumbered, brought, Lessens, IsOver, pieces_from, KeepsReads, KeepsOthers, KeepsLooks};
 ghost use Rattle.io_traits.specs.Counts.{HasCause};
 ghost use Rattle.io_traits.specs.Pieces.{Piece, bytes_in, gave, IfBytes};
@@ -21,6 +21,9 @@ pub enum Come {
 /// Connections that other programs make to this one. They are numbered from 0 in the order in which
 /// they came.
 pub trait Links {
+    /// The host and the port of each look for a connection, where it tells them.
+    ghost looks: { Self → Option (List (List ℕ × ℕ)) };
+
     /// How many connections came.
     ghost came: { Self → ℕ };
 
@@ -46,6 +49,7 @@ pub trait Links {
 
     /// Looks for a connection to this host and port. It begins to listen there if it doesn't yet.
     fn accept(&mut self, host: &str, port: u16) -> Result<Come, Failed>
+        ensures place { Grows (looks self.old) (looks self.new) ((host.now, port) ∷ []) }
         ensures came { IsNumbered result (came self.old) (came self.new) }
         ensures coming { Lessens (coming self.old) (coming self.new) (brought result) }
         ensures end { result ≡ Ok Come.Ended → IsOver (coming self.new) }
@@ -72,7 +76,7 @@ pub trait Links {
         ensures waits { HasCause (waits self.old conn) (waits self.new conn)
             (result ≡ Ok Step.NotYet) }
         ensures others { KeepsOthers left faults waits conn self.old self.new }
-        ensures looks { KeepsLooks came coming accept_faults accept_waits self.old self.new };
+        ensures looks { KeepsLooks looks came coming accept_faults accept_waits self.old self.new };
 
     /// Closes a connection. Nothing more comes over it, and its counts may stand at any number from
     /// then on that isn't lower, so that nobody needs to keep them.
@@ -82,5 +86,5 @@ pub trait Links {
         ensures others { KeepsOthers left faults waits conn self.old self.new }
         ensures faults { faults self.old conn ≤ faults self.new conn }
         ensures waits { waits self.old conn ≤ waits self.new conn }
-        ensures looks { KeepsLooks came coming accept_faults accept_waits self.old self.new };
+        ensures looks { KeepsLooks looks came coming accept_faults accept_waits self.old self.new };
 }

@@ -18,6 +18,6 @@ pub use io_traits::{
 };
 pub use plain_data::Names;
 pub use store_memory::{Call, Logged, MemoryStore, Table};
-pub use store_trait::Store;
+pub use store_trait::{Store, append_and_settle, append_to_tail, cut_and_settle, settle_and_mark};
 pub use time_instant::Instant;
 pub use worlds::World;

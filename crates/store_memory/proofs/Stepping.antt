@@ -1,6 +1,6 @@
 -- What an answered call of a store in memory is in terms of steps, of content and of images.
 use Rattle.std.proofs.Common.{◌≡◌, ◌≢◌, ◌⊎◌, inl, inr, ℕ, Bool, true, false, List, [], ◌∷◌, ◌++◌, length, map, reverse, Option, if◌then◌else◌, refl, sym, ◌∙◌, ap, subst, arith, Result, Ok, Err, OnOk, is_ok}
-use Rattle.std.proofs.lemmas.List.{reverse-append, map-append, take_all}
+use Rattle.std.proofs.lemmas.List.{reverse-append, map-append}
 use Rattle.plain_data.specs.Keys.{same_key}
 use Rattle.plain_data.proofs.KeyLemmas.{same_key-other}
 use Rattle.plain_data.proofs.ChangeLemmas.{same_key-decides}
@@ -119,9 +119,6 @@ follows_of old new call false name step none one is i left = (i, failed_images o
 
 pub torn_none : (at : ℕ) (bytes : List ℕ) (f : FileImage) → TornFile at bytes f f
 torn_none at bytes f = record { torn = Torn-none at (length bytes) (bytes_of f.file); stays = λ is. is; settled = refl; writes = λ w among. inl among }
-
-pub cut_none : (n : ℕ) (f : FileImage) → CutFile n f f
-cut_none n f = record { no_shorter = omega arith; front = take_all (file_length f.file) (bytes_of f.file) (omega arith); stays = refl; settled = refl; writes = refl }
 
 pub removed_none : (f : FileImage) → RemovedFile f f
 removed_none f = record { gone = inr refl; settled = refl; writes = refl }

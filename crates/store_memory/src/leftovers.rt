@@ -1,8 +1,8 @@
 // What a stop may leave of the files of a store in memory.
-ghost use Rattle.std.specs.Prelude.{◌≡◌, ◌<◌, ◌+◌, ◌-◌, IsTrue, OnOk, IfOk};
+ghost use Rattle.std.specs.Prelude.{◌≡◌, ◌<◌, IsTrue, OnOk, IfOk, Some};
 ghost use Rattle.io_traits.specs.Reads.{file_length};
 ghost use Rattle.store_trait.specs.Steps.{synced};
-ghost use Rattle.store_trait.specs.Leftovers.{torn, stale, write_left, cut_left, removal_left};
+ghost use Rattle.store_trait.specs.Leftovers.{torn, stale, with_foreign, foreign_length, write_left, cut_left, removal_left};
 ghost use Rattle.store_memory.specs.Calls.{step_of, step_in};
 ghost use Rattle.io_memory.specs.Tables.{content_of, Changed};
 ghost use Rattle.store_memory.specs.Calls.{Applied};
@@ -10,7 +10,7 @@ ghost use Rattle.store_memory.specs.Leaving.{fate_of, left_at, IsHeld, IsLeftAft
 
 use crate::calls::{Call, Logged};
 use crate::steps::apply;
-use io_memory::{Table, append_in, copy, cut_in, length_in, remove_in, write_in};
+use io_memory::{Table, copy, cut_in, length_in, remove_in, write_in};
 use std::alloc::{AllocError, Global};
 
 /// What becomes of a change that no sync settled.
@@ -22,7 +22,8 @@ pub enum Left {
     Lost,
     /// The first half of it is there.
     Torn,
-    /// A write reached the file's length alone, and other bytes stand in place of its own.
+    /// A write reached the file's length alone, and other bytes stand in place of its own. A cut is
+    /// undone in its length alone, and other bytes stand behind it.
     Stale,
 }
 
@@ -54,40 +55,45 @@ fn leave_write(
         Left::Kept => write_in(files, name, at, bytes),
         Left::Lost => Ok(()),
         Left::Torn => write_in(files, name, at, &bytes[..bytes.len() / 2]),
-        Left::Stale => write_stale(files, name, at, bytes),
+        Left::Stale => match at.checked_add(bytes.len() as u64) {
+            Some(end) => write_foreign(files, name, at, end),
+            None => Err(AllocError),
+        },
     }
 }
 
-// Brings a file to the length that a write gives it, by other bytes.
-fn write_stale(files: &mut Table, name: &str, at: u64, bytes: &[u8]) -> Result<(), AllocError>
-    ensures { OnOk result (Changed name.now (write_left stale at bytes.now) files.old files.new) }
+// Writes other bytes in the place of those from a place on, or from the end on where that comes first,
+// up to the place `end`.
+fn write_foreign(files: &mut Table, name: &str, at: u64, end: u64) -> Result<(), AllocError>
+    ensures { OnOk result
+        (Changed name.now (λ f. Some (with_foreign at end f)) files.old files.new) }
 {
-    let more = stale_length(end_of(files, name), at, bytes.len())?;
-    let stale = vec![in files.allocator(); STALE; more]?;
-    append_in(files, name, stale.as_slice())
-}
-
-// How far a write of `count` bytes at a place reaches past the end of a file.
-fn stale_length(end: u64, at: u64, count: usize) -> Result<usize, AllocError>
-    ensures { IfOk result (λ n. n ≡ at + count - end) }
-{
-    if at <= end {
-        return Ok(count.saturating_sub((end - at) as usize));
-    }
-    match ((at - end) as usize).checked_add(count) {
-        Some(more) => Ok(more),
-        None => Err(AllocError),
-    }
+    let from = at.min(end_of(files, name));
+    let foreign = vec![in files.allocator(); STALE; end.saturating_sub(from) as usize]?;
+    write_in(files, name, from, foreign.as_slice())
 }
 
 // What is left of a cut.
-fn leave_cut(files: &mut Table, name: &str, length: u64, left: Left)
-    ensures { Changed name.now (cut_left (fate_of left) length) files.old files.new }
+fn leave_cut(files: &mut Table, name: &str, length: u64, left: Left) -> Result<(), AllocError>
+    ensures { OnOk result
+        (Changed name.now (cut_left (fate_of left) length) files.old files.new) }
 {
     match left {
         Left::Kept => cut_in(files, name, length),
         Left::Torn => cut_halfway(files, name, length),
-        Left::Lost | Left::Stale => {}
+        Left::Lost => {}
+        Left::Stale => return cut_stale(files, name, length),
+    }
+    Ok(())
+}
+
+// Leaves other bytes behind a cut, up to the end.
+fn cut_stale(files: &mut Table, name: &str, length: u64) -> Result<(), AllocError>
+    ensures { OnOk result (Changed name.now (cut_left stale length) files.old files.new) }
+{
+    match length_in(files, name) {
+        Some(end) => write_foreign(files, name, length, end),
+        None => Ok(()),
     }
 }
 
@@ -120,10 +126,7 @@ fn leave(files: &mut Table, held: &Table, call: &Call, left: Left) -> Result<(),
         Call::WriteAt(name, at, bytes) => {
             leave_write(files, name.as_str(), *at, bytes.as_slice(), left)
         }
-        Call::Cut(name, length) => {
-            leave_cut(files, name.as_str(), *length, left);
-            Ok(())
-        }
+        Call::Cut(name, length) => { leave_cut(files, name.as_str(), *length, left) }
         Call::Remove(name) => {
             leave_removal(files, name.as_str(), left);
             Ok(())

@@ -46,10 +46,11 @@ pub record TornFile (at : ℕ) (bytes : List ℕ) (old new : FileImage) : Type 0
   pub settled : new.settled ≡ old.settled
   pub writes : (w : ℕ × List ℕ) → Among new.writes w → Among old.writes w ⊎ (w ≡ (at, bytes))
 
--- a file after a cut: its front, of some length between the old one and the new one
+-- a file after a cut: its front, and behind it any bytes, no further than the old end
 pub record CutFile (n : ℕ) (old new : FileImage) : Type 0 where
   pub no_shorter : min n (file_length old.file) ≤ file_length new.file
-  pub front : take (file_length new.file) (bytes_of old.file) ≡ bytes_of new.file
+  pub no_longer : file_length new.file ≤ file_length old.file
+  pub front : take n (bytes_of new.file) ≡ take n (bytes_of old.file)
   pub stays : is_some new.file ≡ is_some old.file
   pub settled : new.settled ≡ old.settled
   pub writes : new.writes ≡ old.writes

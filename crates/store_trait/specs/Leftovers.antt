@@ -1,5 +1,5 @@
 -- Some images of a store: what becomes of its files where a stop keeps each change, loses it, tears it, or leaves stale bytes.
-use Rattle.std.specs.Prelude.{ℕ, ◌+◌, ◌-◌, ◌/◌, List, [], ◌∷◌, ◌++◌, length, take, replicate, Option, Some, None, option_map, if◌then◌else◌}
+use Rattle.std.specs.Prelude.{ℕ, ◌+◌, ◌-◌, ◌/◌, min, List, [], ◌∷◌, ◌++◌, length, take, replicate, Option, Some, None, option_map, if◌then◌else◌}
 use Rattle.plain_data.specs.Keys.{same_key}
 use Rattle.io_traits.specs.Folders.{Content}
 use Rattle.io_traits.specs.Reads.{bytes_of, file_length}
@@ -13,19 +13,27 @@ pub data Fate : Type 0 where
   torn : Fate
   stale : Fate
 
--- a write: as a whole; not at all; its first half; only as far as its length goes, where no byte of it reached the file
+-- how many bytes stand from the place n on, or from the end on where that comes first, up to the end of a range
+abbrev pub foreign_length : ℕ → ℕ → Option (List ℕ) → ℕ
+foreign_length n end f = end - min n (file_length f)
+
+-- other bytes in the place of those from n on, up to the end of a range
+abbrev pub with_foreign : ℕ → ℕ → Option (List ℕ) → List ℕ
+with_foreign n end f = overlaid (min n (file_length f)) (replicate (foreign_length n end f) 165) (bytes_of f)
+
+-- a write: as a whole; not at all; its first half; only as far as its length goes, where other bytes stand in the place of its own
 abbrev pub write_left : Fate → ℕ → List ℕ → Option (List ℕ) → Option (List ℕ)
 write_left kept at bytes f = Some (overlaid at bytes (bytes_of f))
 write_left lost at bytes f = f
 write_left torn at bytes f = Some (overlaid at (take (length bytes / 2) bytes) (bytes_of f))
-write_left stale at bytes f = Some (bytes_of f ++ replicate (at + length bytes - file_length f) 165)
+write_left stale at bytes f = Some (with_foreign at (at + length bytes) f)
 
--- a cut: as a whole, halfway, or not at all
+-- a cut: as a whole; not at all; halfway; only its length is undone, and other bytes stand behind the cut
 abbrev pub cut_left : Fate → ℕ → Option (List ℕ) → Option (List ℕ)
 cut_left kept n f = option_map (take n) f
 cut_left lost n f = f
 cut_left torn n f = option_map (take (n + (file_length f - n) / 2)) f
-cut_left stale n f = f
+cut_left stale n f = option_map (λ bytes. with_foreign n (length bytes) (Some bytes)) f
 
 -- a removal: as a whole, or not at all
 abbrev pub removal_left : Fate → Option (List ℕ) → Option (List ℕ)

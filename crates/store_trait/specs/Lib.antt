@@ -5,3 +5,4 @@ pub mod Chance
 pub mod Moments
 pub mod Steps
 pub mod Leftovers
+pub mod Tails

@@ -9,9 +9,11 @@
 
 mod laws;
 mod stores;
+mod tails;
 
 pub use laws::{
     a_file_at_rest_has_no_frame_by_chance, moments_of_two_runs_join,
     two_runs_leave_the_files_beside_both, what_was_written_stands_there,
 };
 pub use stores::Store;
+pub use tails::{append_and_settle, append_to_tail, cut_and_settle, settle_and_mark};

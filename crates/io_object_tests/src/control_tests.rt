@@ -10,6 +10,8 @@ fn says(control: &mut GoControl<&HostRuntime>, want: Said) -> bool {
 fn a_go_control_looks_after_three_seconds(rt: HostRuntime) {
     let mut control = GoControl::new(&rt);
     let first = says(&mut control, Said::Go);
-    thread::sleep(&rt, Duration::from_millis(3_100));
-    assert!(rt; first && says(&mut control, Said::Look) && says(&mut control, Said::Go));
+    thread::sleep(&rt, Duration::from_millis(2_000));
+    let second = says(&mut control, Said::Go);
+    thread::sleep(&rt, Duration::from_millis(1_100));
+    assert!(rt; first && second && says(&mut control, Said::Look) && says(&mut control, Said::Go));
 }

@@ -68,24 +68,59 @@ impl Write for Counting<'_> {
     }
 }
 
-fn hands_on<W: Write>(sink: &mut WriteSink<W>, want: Result<usize, Failed>) -> bool {
+// A writer of which the first two calls of each kind would block.
+#[derive(Drop)]
+struct Full {
+    writes: u64,
+    flushes: u64,
+}
+
+impl Write for Full {
+    fn write(&mut self, bytes: &[u8]) -> io::Result<usize> {
+        self.writes = self.writes.saturating_add(1);
+        if self.writes > 2 {
+            Ok(bytes.len())
+        } else {
+            Err(ErrorKind::WouldBlock.into())
+        }
+    }
+
+    fn flush(&mut self) -> io::Result<()> {
+        self.flushes = self.flushes.saturating_add(1);
+        if self.flushes > 2 {
+            Ok(())
+        } else {
+            Err(ErrorKind::WouldBlock.into())
+        }
+    }
+}
+
+fn hands_on<W: Write>(sink: &mut WriteSink<W, &HostRuntime>, want: Result<usize, Failed>) -> bool {
     sink.write(b"abc") == want
 }
 
-fn empties<W: Write>(sink: &mut WriteSink<W>, want: Result<(), Failed>) -> bool {
+fn empties<W: Write>(sink: &mut WriteSink<W, &HostRuntime>, want: Result<(), Failed>) -> bool {
     sink.flush() == want
 }
 
 #[test]
 fn a_write_sink_writes_and_flushes_its_writer(rt: HostRuntime) -> Result<(), Fail> {
     let reached = Cell::new(0);
-    let mut sink = WriteSink::new(BufWriter::new(rt.alloc(), Counting(&reached))?);
+    let mut sink = WriteSink::new(&rt, BufWriter::new(rt.alloc(), Counting(&reached))?);
     assert!(rt; hands_on(&mut sink, Ok(3)) && reached.get() == 0);
     assert!(rt; empties(&mut sink, Ok(())) && reached.get() == 3);
     assert_eq!(rt; sink.faults(), 0);
-    let mut sink = WriteSink::new(Broken(ErrorKind::StorageFull));
+    let mut sink = WriteSink::new(&rt, Broken(ErrorKind::StorageFull));
     assert!(rt; hands_on(&mut sink, Err(Failed)) && empties(&mut sink, Err(Failed)));
     assert_eq!(rt; sink.faults(), 2);
+    let mut sink = WriteSink::new(
+        &rt,
+        Full {
+            writes: 0,
+            flushes: 0,
+        },
+    );
+    assert!(rt; hands_on(&mut sink, Ok(3)) && empties(&mut sink, Ok(())));
     Ok(())
 }
 

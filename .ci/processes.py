@@ -1,0 +1,129 @@
+#!/usr/bin/env python3
+"""Runs two processes on one folder of a store, of which the first is killed, and looks which system calls they make.
+
+The calls are made by the program io_tests, which rt ci builds. Prints what isn't as it should be. Where strace is missing,
+only the answers are looked at."""
+
+import os
+import re
+import shutil
+import subprocess
+import sys
+import tempfile
+
+PROGRAM = os.path.abspath("crates/io_tests/out/io_tests")
+STRACE = shutil.which("strace")
+CALL = re.compile(r"^(?:\d+ +)?(fsync|openat|open|unlink)\((.*)\) += (-?\d+)")
+
+failed = []
+
+
+def expect(what, found, wanted):
+    if found != wanted:
+        failed.append(what)
+        print(f"processes: {what}: {found}, and not {wanted}")
+
+
+class Process:
+    """A run of io_tests that is asked line by line."""
+
+    def __init__(self, folder, trace=None):
+        words = [PROGRAM, folder]
+        if trace and STRACE:
+            words = [STRACE, "-f", "-y", "-s", "4096", "-e", "trace=fsync,fdatasync,openat,open", "-o", trace, *words]
+        self.run = subprocess.Popen(words, stdin=subprocess.PIPE, stdout=subprocess.PIPE, text=True, cwd=os.path.dirname(folder))
+
+    def ask(self, line):
+        self.run.stdin.write(line + "\n")
+        self.run.stdin.flush()
+        return self.run.stdout.readline().rstrip("\n").rpartition(": ")[2]
+
+    def kill(self):
+        self.run.kill()
+        self.run.wait()
+
+    def end(self):
+        self.run.stdin.close()
+        self.run.wait()
+
+
+def calls(trace, name):
+    """The arguments of the system calls of this name that worked."""
+    with open(trace, encoding="utf-8") as it:
+        found = [CALL.match(line) for line in it]
+    return [call[2] for call in found if call and call[1] == name and int(call[3]) >= 0]
+
+
+def synced(trace):
+    """The paths that were synced, in their order."""
+    return [re.search(r"<(.*?)(?:\(deleted\))?>", call)[1] for call in calls(trace, "fsync")]
+
+
+def killed(top):
+    """A process appends and is killed; the next one syncs what it relies on, and opens nothing for writing."""
+    data, trace = f"{top}/data", f"{top}/second"
+    first = Process(data)
+    expect("an append", first.ask("a append ~/main/page.0 abc"), "done")
+    other = Process(data)
+    expect("a read beside it", other.ask("a read ~/main/page.0 0 8"), "abc")
+    expect("a change beside it", other.ask("a append ~/main/page.0 d"), "failed")
+    other.kill()
+    first.kill()
+    second = Process(data, trace)
+    expect("a first sync", second.ask("a sync"), "done")
+    expect("the names", second.ask("a list ~/main"), "page.0 in all")
+    expect("what was appended", second.ask("a read ~/main/page.0 0 8"), "abc")
+    expect("a later sync", second.ask("a sync"), "done")
+    second.kill()
+    if STRACE:
+        expect("what is synced before it is relied on", synced(trace), [f"{data}/main", f"{data}/main/page.0"])
+        for_writing = [call for call in calls(trace, "openat") if data in call and re.search("O_WRONLY|O_RDWR|O_CREAT", call)]
+        expect("what is opened for writing", for_writing, [])
+    third = Process(data)
+    expect("an append once the lock is free", third.ask("a append ~/main/page.0 d"), "done")
+    expect("all that was appended", third.ask("machine show ~/main/page.0"), "abcd")
+    third.kill()
+
+
+def made(top):
+    """A sync of a file whose folders were made syncs the file and then each folder in which a name is new."""
+    data, trace = f"{top}/made", f"{top}/folders"
+    os.mkdir(data)
+    process = Process(data, trace)
+    expect("an append", process.ask("a append ~/one/two/x abc"), "done")
+    before = synced(trace) if STRACE else []
+    expect("a sync", process.ask("a sync"), "done")
+    expect("an overwrite", process.ask("a write ~/one/two/x 1 B"), "done")
+    expect("a sync", process.ask("a sync"), "done")
+    process.kill()
+    if STRACE:
+        after = synced(trace)[len(before):]
+        expect("what is synced", after, [f"{data}/one/two/x", data, f"{data}/one", f"{data}/one/two", f"{data}/one/two/x"])
+
+
+def bare(top):
+    """The folder of a name without a slash is the one where the program runs."""
+    data, trace = f"{top}/bare/data", f"{top}/bare_calls"
+    os.makedirs(data)
+    process = Process(data, trace)
+    expect("an append", process.ask("a append page.0 abc"), "done")
+    expect("a sync", process.ask("a sync"), "done")
+    process.kill()
+    if STRACE:
+        here = f"{top}/bare"
+        expect("what is synced", synced(trace), [here, f"{here}/page.0", here])
+
+
+def main():
+    if not os.path.isfile(PROGRAM):
+        print(f"processes: {PROGRAM} isn't built")
+        return 1
+    if not STRACE:
+        print("processes: strace is missing, so system calls are not looked at")
+    with tempfile.TemporaryDirectory() as top:
+        for case in (killed, made, bare):
+            case(os.path.realpath(top))
+    return 1 if failed else 0
+
+
+sys.exit(main())

@@ -1,0 +1,9 @@
+use Rattle.std.proofs.Common.{◌≡◌}
+use Rattle.std.specs.Io.KnownBytes.{Keeps}
+use Rattle.io_real.proofs.write_sinks.WriteSinkSink.flush.Given as goal
+
+abbrev pub invariant-loop : goal.invariant-loop
+invariant-loop g l = record {
+  faults : l.self-inside.faults ≡ l.fn.self.faults;
+  kept : Keeps (g.W.Write.contents l.fn.self.output) (g.W.Write.contents l.self-inside.output);
+}
