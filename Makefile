@@ -30,7 +30,9 @@ bench: all
 	bash bench/patterns.sh
 	bash bench/parse.sh
 	bash bench/conditions.sh
+	bash bench/growth.sh
 	bash bench/store.sh
+	bash bench/folder.sh
 
 clean:
 	rm -rf bin crates/*/out

@@ -3,8 +3,8 @@
 ghost use Rattle.condition_eval.specs.Made.{AreMadeOf};
 
 use condition_eval::{Truth, eval, patterns_of};
-use config_grammar::{Condition, Config, Statement};
 use config_parse::parse;
+use config_tree::{Condition, Config, Statement};
 use event_tree::{Event, Number, Path, Text, Value};
 use pattern_box::Patterns;
 use std::alloc::Global;

@@ -10,6 +10,7 @@ mod json;
 mod parse;
 mod patterns;
 mod store;
+mod templates;
 
 use std::process::ExitCode;
 use std::{env, io};
@@ -24,6 +25,7 @@ parse parse|lex|print TIMES FILE
 patterns search FILE LINES
 patterns make FILE COUNT
 store FILE APPENDS EVERY
+templates TIMES FILE
 ";
 
 fn main(rt: HostRuntime) -> io::Result<ExitCode> {
@@ -52,6 +54,7 @@ fn run(rt: &HostRuntime, part: &str, given: &[String]) -> Option<u64> {
         "parse" => parse::run(rt, given),
         "patterns" => patterns::run(rt, given),
         "store" => store::run(rt, given),
+        "templates" => templates::run(rt, given),
         _ => None,
     }
 }

@@ -1,6 +1,6 @@
 //! Parses, lexes or prints a configuration several times over (bench/parse.sh).
 
-use config_grammar::lexemes;
+use config_lex::lexemes;
 use config_parse::parse;
 use config_print::print;
 use std::alloc::Global;

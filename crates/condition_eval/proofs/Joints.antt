@@ -1,6 +1,16 @@
 -- When joined conditions hold.
 use Rattle.std.proofs.Common.{◌≡◌, ◌↔◌, ◌⊎◌, inl, inr, refl, rules}
-use Rattle.condition_eval.specs.Truths.{negated, conjoined, disjoined, different}
+use Rattle.event_tree.specs.Events.{Ev}
+use Rattle.config_tree.specs.declared.operators.Conjunction.{Conjunction}
+use Rattle.config_tree.specs.declared.operators.Conjunction.TheVariants as and
+use Rattle.config_tree.specs.declared.operators.Disjunction.{Disjunction}
+use Rattle.config_tree.specs.declared.operators.Disjunction.TheVariants as or
+use Rattle.config_tree.specs.declared.tree.Condition.{Condition}
+use Rattle.config_tree.specs.declared.tree.Condition.TheVariants as c
+use Rattle.config_tree.proofs.Folds as folds
+use Rattle.condition_eval.specs.Laws.{IsRight}
+use Rattle.condition_eval.specs.Truths.{negated, conjoined, disjoined, different, by_conjunction, by_disjunction, truth, truth_step}
+use Rattle.condition_eval.specs.declared.truth.Reason.{Reason}
 use Rattle.condition_eval.specs.declared.truth.Truth.{Truth}
 use Rattle.condition_eval.specs.declared.truth.Truth.TheVariants as t
 
@@ -41,3 +51,25 @@ pub de_morgan : (x y : Truth) → negated (conjoined x y) ≡ disjoined (negated
 de_morgan t.Yes y = refl
 de_morgan t.No y = refl
 de_morgan (t.Wrong reason) y = refl
+
+pub says_not : (x : Condition) (e : Ev) → truth (c.Not x) e ≡ negated (truth x e)
+unfolding truth
+says_not x e = folds.fold-Not (truth_step e) x
+
+pub not_not : (x : Truth) → negated (negated x) ≡ x
+not_not t.Yes = refl
+not_not t.No = refl
+not_not (t.Wrong reason) = refl
+
+pub conjunction_meets : (j : Conjunction) (r : Reason) (y : Truth) → by_conjunction j (t.Wrong r) y ≡ t.Wrong r
+conjunction_meets and.And r y = refl
+conjunction_meets and.Nand r y = refl
+
+pub disjunction_meets : (j : Disjunction) (r : Reason) (y : Truth) → by_disjunction j (t.Wrong r) y ≡ t.Wrong r
+disjunction_meets or.Or r y = refl
+disjunction_meets or.Xor r y = refl
+
+pub xor_meets : (x : Truth) (r : Reason) → IsRight x → different x (t.Wrong r) ≡ t.Wrong r
+xor_meets t.Yes r h = refl
+xor_meets t.No r h = refl
+xor_meets (t.Wrong reason) r h = absurd h

@@ -5,7 +5,9 @@ pub mod Holding
 pub mod Joints
 pub mod Lists
 pub mod Making
+pub mod Orders
 pub mod Outs
 pub mod Raising
+pub mod Rows
 pub mod TextsOf
-pub mod Walking
+pub mod Weights

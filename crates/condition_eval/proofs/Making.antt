@@ -62,6 +62,13 @@ pub refused_then : (r : Result (Unit {0}) PatternFault) (a b x : List (List ℕ)
 refused_then (Ok u) a b x ps qs e k h = tt
 refused_then (Err f) a b x ps qs e k h = subst (FirstIsRefused f) (sym e) (refused_right f a b k.more k.read h)
 
+pub added_as : (a b x : List (List ℕ)) (ps qs rs : List box.Pattern) → x ≡ a ++ b → Added a ps qs → Added b qs rs → Added x ps rs
+added_as a b x ps qs rs e h k = subst (λ s. Added s ps rs) (sym e) (added_both a b ps qs rs h k)
+
+-- what is refused in the middle, behind texts from which patterns were made
+pub refused_within : (fault : PatternFault) (a b d x : List (List ℕ)) (ps qs : List box.Pattern) → x ≡ a ++ (b ++ d) → Added a ps qs → FirstIsRefused fault b → FirstIsRefused fault x
+refused_within fault a b d x ps qs e k h = subst (FirstIsRefused fault) (sym e) (refused_right fault a (b ++ d) k.more k.read (refused_left fault b d h))
+
 pub joint_refused : (fault : PatternFault) (a b x : List (List ℕ)) → x ≡ a ++ b → FirstIsRefused fault a → FirstIsRefused fault x
 joint_refused fault a b x e h = subst (FirstIsRefused fault) (sym e) (refused_left fault a b h)
 
@@ -73,6 +80,9 @@ none_left (s ∷ a) b e = absurd (cc)
 pub none_right : (a b : List (List ℕ)) → a ++ b ≡ [] → b ≡ []
 none_right [] b e = e
 none_right (s ∷ a) b e = absurd (cc)
+
+pub begins_of : (a b : List (List ℕ)) (ps : List box.Pattern) → a ≡ b → BeginWith a ps → BeginWith b ps
+begins_of a b ps e h = subst (λ s. BeginWith s ps) e h
 
 pub begins_left : (a b : List (List ℕ)) (ps : List box.Pattern) → BeginWith (a ++ b) ps → BeginWith a ps
 begins_left [] b ps h = tt

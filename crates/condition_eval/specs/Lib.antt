@@ -4,3 +4,4 @@ pub mod Sides
 pub mod Texts
 pub mod Truths
 pub mod Values
+pub mod Laws

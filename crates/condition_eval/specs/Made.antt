@@ -1,41 +1,41 @@
 -- The patterns that are made of a condition.
-use Rattle.std.specs.Prelude.{◌≡◌, ℕ, List, [], ◌∷◌, ◌++◌, map, ⊤}
+use Rattle.std.specs.Prelude.{◌≡◌, ℕ, List, [], ◌∷◌, ◌++◌, map, flat_map, ⊤}
 use Rattle.regex_hir.specs.Re.{Re}
 use Rattle.pattern_box.specs.Patterns.{pattern_re, pattern_groups, IsReadFrom, IsRefusal}
 use Rattle.pattern_box.specs.declared.pattern.Pattern as box
 use Rattle.pattern_box.specs.declared.fault.PatternFault.{PatternFault}
-use Rattle.config_grammar.specs.declared.tree.MatchPattern.{MatchPattern}
-use Rattle.config_grammar.specs.declared.tree.MatchPattern.TheVariants as p
-use Rattle.config_grammar.specs.declared.tree.Condition.{Condition}
-use Rattle.config_grammar.specs.declared.tree.Condition.TheOpen.{Condition-F}
-use Rattle.config_grammar.specs.declared.tree.Condition.TheFolds.{fold-Condition}
+use Rattle.config_tree.specs.declared.tree.MatchPattern.{MatchPattern}
+use Rattle.config_tree.specs.declared.tree.MatchPattern.TheVariants as p
+use Rattle.config_tree.specs.declared.tree.Condition.{Condition}
+use Rattle.config_tree.specs.declared.tree.Condition.TheOpen.{Condition-F}
+use Rattle.config_tree.specs.declared.tree.Condition.TheFolds.{fold-Condition}
 
 -- the text of a pattern: a regexp and a string are the same pattern
 abbrev pub pattern_text : MatchPattern → List ℕ
 pattern_text (p.Regexp s) = s
 pattern_text (p.Text s) = s
 
+-- the texts of the conditions of a row, one after the other
+abbrev pub joined_texts : {J : Type 0} → List (J × List (List ℕ)) → List (List ℕ)
+joined_texts rest = flat_map (λ p. p.1) rest
+
 abbrev pub texts_step : Condition-F (List (List ℕ)) → List (List ℕ)
 texts_step (Condition-F.Operand x) = []
 texts_step (Condition-F.Not part) = part
-texts_step (Condition-F.And left right) = left ++ right
-texts_step (Condition-F.Nand left right) = left ++ right
-texts_step (Condition-F.Or left right) = left ++ right
-texts_step (Condition-F.Xor left right) = left ++ right
-texts_step (Condition-F.Equal x y) = []
-texts_step (Condition-F.Unequal x y) = []
-texts_step (Condition-F.Less x y) = []
-texts_step (Condition-F.Greater x y) = []
-texts_step (Condition-F.AtMost x y) = []
-texts_step (Condition-F.AtLeast x y) = []
-texts_step (Condition-F.Matches x p) = pattern_text p ∷ []
-texts_step (Condition-F.MatchesNot x p) = pattern_text p ∷ []
+texts_step (Condition-F.Conjoined first rest) = first ++ joined_texts rest
+texts_step (Condition-F.Disjoined first rest) = first ++ joined_texts rest
+texts_step (Condition-F.Compared j x y) = []
+texts_step (Condition-F.Matched j x p) = pattern_text p ∷ []
 texts_step (Condition-F.In x y) = []
 texts_step (Condition-F.NotIn x y) = []
 
 -- the texts of the patterns of a condition, in its order
 unfoldable pub texts : Condition → List (List ℕ)
 texts = fold-Condition (List (List ℕ)) texts_step
+
+-- those of what follows the first condition of a row
+abbrev pub texts_behind : {J : Type 0} → List (J × Condition) → List (List ℕ)
+texts_behind rest = joined_texts (map (λ p. (p.0, texts p.1)) rest)
 
 -- each pattern is read from its text
 abbrev pub AreReadFrom : List (List ℕ) → List box.Pattern → Type 0

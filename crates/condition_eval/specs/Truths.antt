@@ -1,6 +1,6 @@
 -- What a condition says of an event.
-use Rattle.std.specs.Prelude.{◌≡◌, ◌⊎◌, ℕ, Bool, if◌then◌else◌, List, is_some, option_and_then, chars}
-use Rattle.std.specs.Ordering.{is_lt, is_gt, is_le, is_ge}
+use Rattle.std.specs.Prelude.{ℕ, Bool, if◌then◌else◌, List, [], ◌∷◌, map, is_some, option_and_then, chars}
+use Rattle.std.specs.Ordering.{is_eq, is_ne, is_lt, is_gt, is_le, is_ge}
 use Rattle.std.specs.declared.cmp.Ordering.{Ordering}
 use Rattle.regex_hir.specs.Find.{find_str}
 use Rattle.regex_syntax.specs.Grammar.{read}
@@ -8,12 +8,18 @@ use Rattle.regex_syntax.specs.Verdict.{default_config}
 use Rattle.event_tree.specs.Events.{Ev}
 use Rattle.event_tree.specs.declared.value.Value.{Value, out-Value}
 use Rattle.event_tree.specs.declared.value.Value.TheOpen.{Value-F}
-use Rattle.config_grammar.specs.declared.tree.MatchPattern.{MatchPattern}
-use Rattle.config_grammar.specs.declared.tree.Condition.{Condition}
-use Rattle.config_grammar.specs.declared.tree.Operand.{Operand}
-use Rattle.config_grammar.specs.declared.tree.Condition.TheVariants as c
-use Rattle.config_grammar.specs.declared.tree.Condition.TheOpen.{Condition-F}
-use Rattle.config_grammar.specs.declared.tree.Condition.TheFolds.{fold-Condition}
+use Rattle.config_tree.specs.declared.operators.Conjunction.{Conjunction}
+use Rattle.config_tree.specs.declared.operators.Conjunction.TheVariants as and
+use Rattle.config_tree.specs.declared.operators.Disjunction.{Disjunction}
+use Rattle.config_tree.specs.declared.operators.Disjunction.TheVariants as or
+use Rattle.config_tree.specs.declared.operators.Comparison.{Comparison}
+use Rattle.config_tree.specs.declared.operators.Comparison.TheVariants as is
+use Rattle.config_tree.specs.declared.operators.Matching.{Matching}
+use Rattle.config_tree.specs.declared.operators.Matching.TheVariants as m
+use Rattle.config_tree.specs.declared.tree.MatchPattern.{MatchPattern}
+use Rattle.config_tree.specs.declared.tree.Condition.{Condition}
+use Rattle.config_tree.specs.declared.tree.Condition.TheOpen.{Condition-F}
+use Rattle.config_tree.specs.declared.tree.Condition.TheFolds.{fold-Condition}
 use Rattle.condition_eval.specs.Equality.{are_equal}
 use Rattle.condition_eval.specs.Made.{pattern_text}
 use Rattle.condition_eval.specs.Values.{operand_value, order_of, is_in}
@@ -23,10 +29,6 @@ use Rattle.condition_eval.specs.declared.truth.Truth.{Truth}
 use Rattle.condition_eval.specs.declared.truth.Truth.TheVariants as t
 use Rattle.condition_eval.specs.declared.compare.Order.{Order}
 use Rattle.condition_eval.specs.declared.compare.Order.TheVariants as o
-use Rattle.condition_eval.specs.declared.operators.Relation.{Relation}
-use Rattle.condition_eval.specs.declared.operators.Relation.TheVariants as relation
-use Rattle.condition_eval.specs.declared.walk.Joint.{Joint}
-use Rattle.condition_eval.specs.declared.walk.Joint.TheVariants as joint
 
 abbrev pub truth_of : Bool → Truth
 truth_of holds = if holds then t.Yes else t.No
@@ -54,11 +56,20 @@ different t.Yes right = negated right
 different t.No right = right
 different (t.Wrong reason) right = t.Wrong reason
 
--- what two conditions say that are joined so
-abbrev pub joined : Joint → Truth → Truth → Truth
-joined joint.And left right = conjoined left right
-joined joint.Or left right = disjoined left right
-joined joint.Xor left right = different left right
+-- what two conditions say with `and` or `nand` between them
+abbrev pub by_conjunction : Conjunction → Truth → Truth → Truth
+by_conjunction and.And left right = conjoined left right
+by_conjunction and.Nand left right = negated (conjoined left right)
+
+-- what two conditions say with `or` or `xor` between them
+abbrev pub by_disjunction : Disjunction → Truth → Truth → Truth
+by_disjunction or.Or left right = disjoined left right
+by_disjunction or.Xor left right = different left right
+
+-- what a row of conditions says: from the left, each joint joins what stands in front of it and what stands behind it
+abbrev pub in_row : {J : Type 0} → (J → Truth → Truth → Truth) → Truth → List (J × Truth) → Truth
+in_row joined left [] = left
+in_row joined left (p ∷ rest) = in_row joined (joined p.0 left p.1) rest
 
 abbrev pub alone_in : Value-F Value → Truth
 alone_in Value-F.Null = t.No
@@ -77,22 +88,29 @@ alone x = alone_in (out-Value x)
 abbrev pub equal : Value → Value → Truth
 equal x y = truth_of (are_equal x y)
 
--- the orders that `<`, `>`, `<=` and `>=` accept
-abbrev pub accepts : Relation → Ordering → Bool
-accepts relation.Less = is_lt
-accepts relation.Greater = is_gt
-accepts relation.AtMost = is_le
-accepts relation.AtLeast = is_ge
+-- the orders that a comparison accepts
+abbrev pub accepts : Comparison → Ordering → Bool
+accepts is.Equal = is_eq
+accepts is.Unequal = is_ne
+accepts is.Less = is_lt
+accepts is.Greater = is_gt
+accepts is.AtMost = is_le
+accepts is.AtLeast = is_ge
 
--- `<`, `>`, `<=` and `>=`, by which orders they accept
+-- what a comparison by order says, where values have one
 abbrev pub ordered : (Ordering → Bool) → Order → Truth
 ordered accepts o.Null = t.No
 ordered accepts (o.Is order) = truth_of (accepts order)
 ordered accepts (o.Wrong left right) = t.Wrong (r.Order left right)
 
--- what a relation says of two values
-abbrev pub related : Relation → Value → Value → Truth
-related relation x y = ordered (accepts relation) (order_of x y)
+abbrev pub by_order : Comparison → Value → Value → Truth
+by_order j x y = ordered (accepts j) (order_of x y)
+
+-- `==` and `!=` are of values of any kinds, and the others go by their order
+abbrev pub compared : Comparison → Value → Value → Truth
+compared is.Equal x y = equal x y
+compared is.Unequal x y = negated (equal x y)
+compared j x y = by_order j x y
 
 -- `in`
 abbrev pub within : Value → Value → Truth
@@ -119,21 +137,21 @@ matching_in found (Value-F.Object ms) = t.Wrong (r.Match k.Object)
 abbrev pub matching : (List ℕ → Bool) → Value → Truth
 matching found x = matching_in found (out-Value x)
 
+-- `=~`, and its negation `!~`
+abbrev pub by_matching : Matching → Truth → Truth
+by_matching m.Matches found = found
+by_matching m.MatchesNot found = negated found
+
+abbrev pub matched : Matching → (List ℕ → Bool) → Value → Truth
+matched j found x = by_matching j (matching found x)
+
 abbrev pub truth_step : Ev → Condition-F Truth → Truth
 truth_step e (Condition-F.Operand x) = alone (operand_value e x)
 truth_step e (Condition-F.Not part) = negated part
-truth_step e (Condition-F.And left right) = conjoined left right
-truth_step e (Condition-F.Nand left right) = negated (conjoined left right)
-truth_step e (Condition-F.Or left right) = disjoined left right
-truth_step e (Condition-F.Xor left right) = different left right
-truth_step e (Condition-F.Equal x y) = equal (operand_value e x) (operand_value e y)
-truth_step e (Condition-F.Unequal x y) = negated (equal (operand_value e x) (operand_value e y))
-truth_step e (Condition-F.Less x y) = ordered is_lt (order_of (operand_value e x) (operand_value e y))
-truth_step e (Condition-F.Greater x y) = ordered is_gt (order_of (operand_value e x) (operand_value e y))
-truth_step e (Condition-F.AtMost x y) = ordered is_le (order_of (operand_value e x) (operand_value e y))
-truth_step e (Condition-F.AtLeast x y) = ordered is_ge (order_of (operand_value e x) (operand_value e y))
-truth_step e (Condition-F.Matches x p) = matching (found_in (pattern_text p)) (operand_value e x)
-truth_step e (Condition-F.MatchesNot x p) = negated (matching (found_in (pattern_text p)) (operand_value e x))
+truth_step e (Condition-F.Conjoined first rest) = in_row by_conjunction first rest
+truth_step e (Condition-F.Disjoined first rest) = in_row by_disjunction first rest
+truth_step e (Condition-F.Compared j x y) = compared j (operand_value e x) (operand_value e y)
+truth_step e (Condition-F.Matched j x p) = matched j (found_in (pattern_text p)) (operand_value e x)
 truth_step e (Condition-F.In x y) = within (operand_value e x) (operand_value e y)
 truth_step e (Condition-F.NotIn x y) = negated (within (operand_value e x) (operand_value e y))
 
@@ -141,17 +159,13 @@ truth_step e (Condition-F.NotIn x y) = negated (within (operand_value e x) (oper
 unfoldable pub truth : Condition → Ev → Truth
 truth condition e = fold-Condition Truth (truth_step e) condition
 
--- the one condition says the negation of the other
-abbrev pub Denies : Condition → Condition → Type 0
-Denies denial affirmed = (e : Ev) → truth denial e ≡ negated (truth affirmed e)
+-- what the conditions of a row say, each behind its joint
+abbrev pub truths : {J : Type 0} → Ev → List (J × Condition) → List (J × Truth)
+truths e rest = map (λ p. (p.0, truth p.1 e)) rest
 
--- `!~` says the negation of `=~`
-abbrev pub DeniesMatch : Operand → MatchPattern → Type 0
-DeniesMatch x p = Denies (c.MatchesNot x p) (c.Matches x p)
+-- what a row says of an event whose first condition says this
+abbrev pub conjoined_row : Truth → Ev → List (Conjunction × Condition) → Truth
+conjoined_row first e rest = in_row by_conjunction first (truths e rest)
 
--- the one is Yes and the other No
-abbrev pub AreYesAndNo : Truth → Truth → Type 0
-AreYesAndNo x y = ((x ≡ t.Yes) × (y ≡ t.No)) ⊎ ((x ≡ t.No) × (y ≡ t.Yes))
-
-abbrev pub IsDeMorgan : Truth → Truth → Type 0
-IsDeMorgan x y = negated (conjoined x y) ≡ disjoined (negated x) (negated y)
+abbrev pub disjoined_row : Truth → Ev → List (Disjunction × Condition) → Truth
+disjoined_row first e rest = in_row by_disjunction first (truths e rest)

@@ -9,10 +9,10 @@ use Rattle.event_tree.specs.Events.{Ev, event_at}
 use Rattle.event_tree.specs.declared.value.Value.{Value, out-Value}
 use Rattle.event_tree.specs.declared.value.Value.TheOpen.{Value-F}
 use Rattle.event_tree.specs.declared.value.Value.TheVariants as v
-use Rattle.config_grammar.specs.declared.tree.Literal.{Literal}
-use Rattle.config_grammar.specs.declared.tree.Literal.TheVariants as l
-use Rattle.config_grammar.specs.declared.tree.Operand.{Operand}
-use Rattle.config_grammar.specs.declared.tree.Operand.TheVariants as operand
+use Rattle.config_tree.specs.declared.tree.Literal.{Literal}
+use Rattle.config_tree.specs.declared.tree.Literal.TheVariants as l
+use Rattle.config_tree.specs.declared.tree.Operand.{Operand}
+use Rattle.config_tree.specs.declared.tree.Operand.TheVariants as operand
 use Rattle.condition_eval.specs.Equality.{are_equal}
 use Rattle.condition_eval.specs.declared.truth.Kind.{Kind}
 use Rattle.condition_eval.specs.declared.truth.Kind.TheVariants as k

@@ -6,7 +6,7 @@ ghost use Rattle.condition_eval.specs.Sides as sides;
 use crate::number::number_order;
 use crate::side::{Element, Elements, Side, kind, side_of_element};
 use crate::truth::{Kind, Reason, Truth};
-use config_grammar::Literal;
+use config_tree::Literal;
 use event_tree::{Instant, Number, Text, Value};
 use std::cmp::Ordering;
 
@@ -22,7 +22,7 @@ pub(crate) enum Order {
 
 /// The order of two numbers, of two texts by their bytes, or of two times.
 #[tactic(auto, using(crate::proofs::Outs::outs))]
-pub(crate) fn compared(left: Side<'_>, right: Side<'_>) -> Order
+pub(crate) fn order_of(left: Side<'_>, right: Side<'_>) -> Order
     ensures { result ≡ spec.order_of (sides.value_of left.entry) (sides.value_of right.entry) }
 {
     match left {

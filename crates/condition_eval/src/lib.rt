@@ -3,7 +3,8 @@
 //! An evaluation walks the condition once, and takes memory only where it searches for a pattern. What
 //! the event holds is compared where it stands. A field costs what [`event_tree::Event::get`] costs,
 //! an order or an equality of scalars some nanoseconds, and `in` one comparison for each item, or a
-//! search of the text. The walk recurses once for each level of the condition.
+//! search of the text. Calls nest with the parentheses and `!` of the condition; along a row of joints
+//! goes a loop.
 #![tactic(auto)]
 
 mod compare;

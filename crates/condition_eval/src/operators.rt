@@ -4,10 +4,10 @@ ghost use Rattle.std.specs.Prelude.{◌≡◌};
 ghost use Rattle.condition_eval.specs.Truths as spec;
 ghost use Rattle.condition_eval.specs.Values.{between, operand_value};
 
-use crate::compare::{Order, are_equal, compared, is_in};
+use crate::compare::{Order, are_equal, is_in, order_of};
 use crate::side::{Side, side_of};
 use crate::truth::{Reason, Truth};
-use config_grammar::Operand;
+use config_tree::{Comparison, Operand};
 use event_tree::Event;
 use std::cmp::Ordering;
 
@@ -23,41 +23,48 @@ pub(crate) fn alone(operand: &Operand, event: &Event) -> Truth
 }
 
 #[tactic(auto, using(crate::proofs::EqualityLemmas::is_the_test))]
-pub(crate) fn equal(left: &Operand, right: &Operand, event: &Event) -> Truth
+fn equal(left: &Operand, right: &Operand, event: &Event) -> Truth
     ensures { result ≡ between spec.equal event.now left.now right.now }
 {
     Truth::of(are_equal(side_of(left, event), side_of(right, event)))
 }
 
-/// The operators that compare by order.
-#[derive(Clone, Copy)]
-pub(crate) enum Relation {
-    Less,
-    Greater,
-    AtMost,
-    AtLeast,
-}
-
-impl Relation {
-    fn accepts(self, order: Ordering) -> bool
-        ensures { result ≡ spec.accepts self order }
-    {
-        match self {
-            Relation::Less => order.is_lt(),
-            Relation::Greater => order.is_gt(),
-            Relation::AtMost => order.is_le(),
-            Relation::AtLeast => order.is_ge(),
-        }
+/// Whether a comparison accepts an order.
+fn accepts(comparison: Comparison, order: Ordering) -> bool
+    ensures { result ≡ spec.accepts comparison order }
+{
+    match comparison {
+        Comparison::Equal => order.is_eq(),
+        Comparison::Unequal => order.is_ne(),
+        Comparison::Less => order.is_lt(),
+        Comparison::Greater => order.is_gt(),
+        Comparison::AtMost => order.is_le(),
+        Comparison::AtLeast => order.is_ge(),
     }
 }
 
-pub(crate) fn ordered(relation: Relation, left: &Operand, right: &Operand, event: &Event) -> Truth
-    ensures { result ≡ between (spec.related relation) event.now left.now right.now }
+fn ordered(comparison: Comparison, left: &Operand, right: &Operand, event: &Event) -> Truth
+    ensures { result ≡ between (spec.by_order comparison) event.now left.now right.now }
 {
-    match compared(side_of(left, event), side_of(right, event)) {
+    match order_of(side_of(left, event), side_of(right, event)) {
         Order::Null => Truth::No,
-        Order::Is(order) => Truth::of(relation.accepts(order)),
+        Order::Is(order) => Truth::of(accepts(comparison, order)),
         Order::Wrong(left, right) => Truth::Wrong(Reason::Order(left, right)),
+    }
+}
+
+pub(crate) fn compared(
+    comparison: Comparison,
+    left: &Operand,
+    right: &Operand,
+    event: &Event,
+) -> Truth
+    ensures { result ≡ between (spec.compared comparison) event.now left.now right.now }
+{
+    match comparison {
+        Comparison::Equal => equal(left, right, event),
+        Comparison::Unequal => equal(left, right, event).negated(),
+        by_order => ordered(by_order, left, right, event),
     }
 }
 

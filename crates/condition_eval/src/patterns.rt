@@ -1,8 +1,8 @@
 ghost use Rattle.std.specs.Prelude.{◌≡◌, [], ◌∷◌, IfOk, IfErr, OnOk};
 ghost use Rattle.pattern_box.specs.Patterns.{IsRefusal};
-ghost use Rattle.condition_eval.specs.Made.{AreMadeOf, Added, FirstIsRefused, texts, pattern_text};
+ghost use Rattle.condition_eval.specs.Made.{AreMadeOf, Added, FirstIsRefused, texts, texts_behind, pattern_text};
 
-use config_grammar::{Condition, MatchPattern};
+use config_tree::{Condition, Conjunction, Disjunction, MatchPattern};
 use pattern_box::{Pattern, PatternFault, Patterns};
 use plain_data::Text;
 use std::alloc::Global;
@@ -21,33 +21,60 @@ pub fn patterns_of(alloc: Global, condition: &Condition) -> Result<Patterns, Pat
 }
 
 // Adds the patterns of the condition.
-#[tactic(auto, unfolding(crate::specs::Made::texts), using(config_grammar::proofs::Folds::condition_folds, crate::proofs::TextsOf::weights))]
+#[tactic(auto, unfolding(crate::specs::Made::texts), using(config_tree::proofs::Folds::condition_folds))]
+#[cycle(add)]
 fn add(alloc: Global, condition: &Condition, patterns: &mut Patterns) -> Result<(), PatternFault>
     ensures made { OnOk result (Added (texts condition.now) patterns.old patterns.new) }
     ensures refused { IfErr result (λ fault. FirstIsRefused fault (texts condition.now)) }
 {
     match condition {
         Condition::Not(part) => add(alloc, part.get(), patterns),
-        Condition::And(left, right)
-        | Condition::Nand(left, right)
-        | Condition::Or(left, right)
-        | Condition::Xor(left, right) => match add(alloc, left.get(), patterns) {
-            Ok(()) => add(alloc, right.get(), patterns),
-            Err(fault) => Err(fault),
-        },
-        Condition::Matches(_, written) | Condition::MatchesNot(_, written) => {
-            add_one(alloc, written, patterns)
+        Condition::Conjoined(first, rest) => {
+            add(alloc, first.get(), patterns)?;
+            add_conjoined(alloc, rest.as_slice(), patterns)
         }
+        Condition::Disjoined(first, rest) => {
+            add(alloc, first.get(), patterns)?;
+            add_disjoined(alloc, rest.as_slice(), patterns)
+        }
+        Condition::Matched(_, _, written) => add_one(alloc, written, patterns),
         Condition::Operand(_)
-        | Condition::Equal(_, _)
-        | Condition::Unequal(_, _)
-        | Condition::Less(_, _)
-        | Condition::Greater(_, _)
-        | Condition::AtMost(_, _)
-        | Condition::AtLeast(_, _)
+        | Condition::Compared(_, _, _)
         | Condition::In(_, _)
         | Condition::NotIn(_, _) => Ok(()),
     }
+}
+
+// Adds those of what follows the first condition of a row of `and` and `nand`.
+#[cycle(add)]
+fn add_conjoined(
+    alloc: Global,
+    rest: &[(Conjunction, Condition)],
+    patterns: &mut Patterns,
+) -> Result<(), PatternFault>
+    ensures made { OnOk result (Added (texts_behind rest.now) patterns.old patterns.new) }
+    ensures refused { IfErr result (λ fault. FirstIsRefused fault (texts_behind rest.now)) }
+{
+    for part in rest {
+        add(alloc, &part.1, patterns)?;
+    }
+    Ok(())
+}
+
+// Adds those of what follows the first condition of a row of `or` and `xor`.
+#[cycle(add)]
+fn add_disjoined(
+    alloc: Global,
+    rest: &[(Disjunction, Condition)],
+    patterns: &mut Patterns,
+) -> Result<(), PatternFault>
+    ensures made { OnOk result (Added (texts_behind rest.now) patterns.old patterns.new) }
+    ensures refused { IfErr result (λ fault. FirstIsRefused fault (texts_behind rest.now)) }
+{
+    for part in rest {
+        add(alloc, &part.1, patterns)?;
+    }
+    Ok(())
 }
 
 fn add_one(

@@ -3,7 +3,7 @@ ghost use Rattle.condition_eval.specs.Values as spec;
 ghost use Rattle.condition_eval.specs.Sides as sides;
 
 use crate::truth::Kind;
-use config_grammar::{Literal, Operand};
+use config_tree::{Literal, Operand};
 use event_tree::{Event, Fields, Instant, Number, Value};
 use plain_data::Text;
 

@@ -1,14 +1,14 @@
 ghost use Rattle.std.specs.Prelude.{◌≡◌, ◌+◌, ◌<◌, ◌^◌, ◌++◌, ◌∷◌, [], length, drop, IfOk, IsOk};
 ghost use Rattle.pattern_box.specs.Patterns.{IsReadFrom, IsSamePattern};
 ghost use Rattle.condition_eval.specs.Truths as spec;
-ghost use Rattle.condition_eval.specs.Made.{AreMadeOf, BeginWith, texts, pattern_text, meanings};
+ghost use Rattle.condition_eval.specs.Made.{AreMadeOf, BeginWith, texts, texts_behind, pattern_text, meanings};
 ghost use Rattle.condition_eval.specs.Sides.{value_of};
 ghost use Rattle.condition_eval.specs.Values.{operand_value};
 
-use crate::operators::{Relation, alone, equal, ordered, within};
+use crate::operators::{alone, compared, within};
 use crate::side::{Side, kind, side_of};
 use crate::truth::{Reason, Truth};
-use config_grammar::{Condition, MatchPattern, Operand};
+use config_tree::{Condition, Conjunction, Disjunction, MatchPattern, Matching, Operand};
 use event_tree::Event;
 use pattern_box::{Pattern, Patterns};
 use std::alloc::AllocError;
@@ -53,7 +53,7 @@ impl Passed {
 }
 
 // The patterns of the condition begin at the place `at`.
-#[tactic(auto, unfolding(crate::specs::Truths::truth, crate::specs::Made::texts), using(config_grammar::proofs::Folds::condition_folds))]
+#[tactic(auto, unfolding(crate::specs::Truths::truth, crate::specs::Made::texts), using(config_tree::proofs::Folds::condition_folds))]
 #[cycle(walk)]
 fn walk(
     condition: &Condition,
@@ -68,82 +68,121 @@ fn walk(
     ensures same { meanings patterns.new ≡ meanings patterns.old }
 {
     match condition {
-        Condition::Not(part) => Ok(walk(part.get(), patterns, at, event)?.negated()),
-        Condition::And(left, right) => {
-            joined(Joint::And, left.get(), right.get(), patterns, at, event)
-        }
-        Condition::Nand(left, right) => {
-            Ok(joined(Joint::And, left.get(), right.get(), patterns, at, event)?.negated())
-        }
-        Condition::Or(left, right) => {
-            joined(Joint::Or, left.get(), right.get(), patterns, at, event)
-        }
-        Condition::Xor(left, right) => {
-            joined(Joint::Xor, left.get(), right.get(), patterns, at, event)
-        }
-        Condition::Matches(operand, written) => search(operand, written, patterns, at, event),
-        Condition::MatchesNot(operand, written) => {
-            Ok(search(operand, written, patterns, at, event)?.negated())
-        }
         Condition::Operand(operand) => Ok(here(alone(operand, event), at)),
-        Condition::Equal(left, right) => Ok(here(equal(left, right, event), at)),
-        Condition::Unequal(left, right) => Ok(here(equal(left, right, event), at).negated()),
-        Condition::Less(left, right) => Ok(here(ordered(Relation::Less, left, right, event), at)),
-        Condition::Greater(left, right) => Ok(here(
-            ordered(Relation::Greater, left, right, event),
-            at,
-        )),
-        Condition::AtMost(left, right) => Ok(here(
-            ordered(Relation::AtMost, left, right, event),
-            at,
-        )),
-        Condition::AtLeast(left, right) => Ok(here(
-            ordered(Relation::AtLeast, left, right, event),
-            at,
-        )),
+        Condition::Not(part) => Ok(walk(part.get(), patterns, at, event)?.negated()),
+        Condition::Conjoined(first, rest) => {
+            let first = walk(first.get(), patterns, at, event)?;
+            conjoined(first, rest.as_slice(), patterns, event)
+        }
+        Condition::Disjoined(first, rest) => {
+            let first = walk(first.get(), patterns, at, event)?;
+            disjoined(first, rest.as_slice(), patterns, event)
+        }
+        Condition::Compared(by, left, right) => Ok(here(compared(*by, left, right, event), at)),
+        Condition::Matched(by, left, written) => search(*by, left, written, patterns, at, event),
         Condition::In(left, right) => Ok(here(within(left, right, event), at)),
         Condition::NotIn(left, right) => Ok(here(within(left, right, event), at).negated()),
     }
 }
 
-/// The operators that join two conditions.
-#[derive(Clone, Copy)]
-pub(crate) enum Joint {
-    And,
-    Or,
-    Xor,
-}
-
-/// The right side is evaluated after Yes by `and`, after No by `or`, and after both by `xor`.
+// What follows the first condition of a row of `and` and `nand`.
 #[cycle(walk)]
-fn joined(
-    joint: Joint,
-    left: &Condition,
-    right: &Condition,
+fn conjoined(
+    first: Passed,
+    rest: &[(Conjunction, Condition)],
     patterns: &mut [Pattern],
-    at: usize,
     event: &Event,
 ) -> Result<Passed, AllocError>
-    requires { BeginWith (texts left.now ++ texts right.now) (drop at patterns.old) }
+    requires { BeginWith (texts_behind rest.now) (drop first.next patterns.old) }
     ensures truth { IfOk result (λ passed. passed.truth
-        ≡ spec.joined joint (spec.truth left.now event.now) (spec.truth right.now event.now)) }
+        ≡ spec.conjoined_row first.truth event.now rest.now) }
     ensures next { IfOk result (λ passed. passed.next
-        ≡ at + length (texts left.now ++ texts right.now)) }
-    ensures without_patterns { texts left.now ++ texts right.now ≡ [] → IsOk result }
+        ≡ first.next + length (texts_behind rest.now)) }
+    ensures without_patterns { texts_behind rest.now ≡ [] → IsOk result }
     ensures same { meanings patterns.new ≡ meanings patterns.old }
 {
-    let Passed { truth, next } = walk(left, patterns, at, event)?;
-    match (joint, truth) {
-        (Joint::And, Truth::Yes) | (Joint::Or, Truth::No) | (Joint::Xor, Truth::No) => {
-            walk(right, patterns, next, event)
-        }
-        (Joint::Xor, Truth::Yes) => Ok(walk(right, patterns, next, event)?.negated()),
-        (_, truth) => Ok(here(truth, past(right, next))),
+    let mut left = first;
+    for part in rest {
+        left = conjoin(part.0, left, &part.1, patterns, event)?;
+    }
+    Ok(left)
+}
+
+// What follows the first condition of a row of `or` and `xor`.
+#[cycle(walk)]
+fn disjoined(
+    first: Passed,
+    rest: &[(Disjunction, Condition)],
+    patterns: &mut [Pattern],
+    event: &Event,
+) -> Result<Passed, AllocError>
+    requires { BeginWith (texts_behind rest.now) (drop first.next patterns.old) }
+    ensures truth { IfOk result (λ passed. passed.truth
+        ≡ spec.disjoined_row first.truth event.now rest.now) }
+    ensures next { IfOk result (λ passed. passed.next
+        ≡ first.next + length (texts_behind rest.now)) }
+    ensures without_patterns { texts_behind rest.now ≡ [] → IsOk result }
+    ensures same { meanings patterns.new ≡ meanings patterns.old }
+{
+    let mut left = first;
+    for part in rest {
+        left = disjoin(part.0, left, &part.1, patterns, event)?;
+    }
+    Ok(left)
+}
+
+// `and` and `nand` evaluate their right side after Yes.
+#[cycle(walk)]
+fn conjoin(
+    joint: Conjunction,
+    left: Passed,
+    right: &Condition,
+    patterns: &mut [Pattern],
+    event: &Event,
+) -> Result<Passed, AllocError>
+    requires { BeginWith (texts right.now) (drop left.next patterns.old) }
+    ensures truth { IfOk result (λ passed. passed.truth
+        ≡ spec.by_conjunction joint left.truth (spec.truth right.now event.now)) }
+    ensures next { IfOk result (λ passed. passed.next ≡ left.next + length (texts right.now)) }
+    ensures without_patterns { texts right.now ≡ [] → IsOk result }
+    ensures same { meanings patterns.new ≡ meanings patterns.old }
+{
+    let joined = match left.truth {
+        Truth::Yes => walk(right, patterns, left.next, event)?,
+        truth => here(truth, past(right, left.next)),
+    };
+    match joint {
+        Conjunction::And => Ok(joined),
+        Conjunction::Nand => Ok(joined.negated()),
     }
 }
 
-/// `=~` with the pattern at the place `at`.
+// `or` evaluates its right side after No, and `xor` after both.
+#[cycle(walk)]
+fn disjoin(
+    joint: Disjunction,
+    left: Passed,
+    right: &Condition,
+    patterns: &mut [Pattern],
+    event: &Event,
+) -> Result<Passed, AllocError>
+    requires { BeginWith (texts right.now) (drop left.next patterns.old) }
+    ensures truth { IfOk result (λ passed. passed.truth
+        ≡ spec.by_disjunction joint left.truth (spec.truth right.now event.now)) }
+    ensures next { IfOk result (λ passed. passed.next ≡ left.next + length (texts right.now)) }
+    ensures without_patterns { texts right.now ≡ [] → IsOk result }
+    ensures same { meanings patterns.new ≡ meanings patterns.old }
+{
+    match (joint, left.truth) {
+        (_, Truth::No) => walk(right, patterns, left.next, event),
+        (Disjunction::Xor, Truth::Yes) => Ok(walk(right, patterns, left.next, event)?.negated()),
+        (_, truth) => Ok(here(truth, past(right, left.next))),
+    }
+}
+
+/// `=~` or `!~` with the pattern at the place `at`.
 fn search(
+    by: Matching,
     operand: &Operand,
     written: &MatchPattern,
     patterns: &mut [Pattern],
@@ -152,12 +191,21 @@ fn search(
 ) -> Result<Passed, AllocError>
     requires { BeginWith (pattern_text written.now ∷ []) (drop at patterns.old) }
     ensures truth { IfOk result (λ passed. passed.truth
-        ≡ spec.matching (spec.found_in (pattern_text written.now)) (operand_value event.now operand.now)) }
+        ≡ spec.matched by (spec.found_in (pattern_text written.now)) (operand_value event.now operand.now)) }
     ensures next { IfOk result (λ passed. passed.next ≡ at + 1) }
     ensures same { meanings patterns.new ≡ meanings patterns.old }
 {
     let truth = matching(side_of(operand, event), written, &mut patterns[at])?;
-    Ok(here(truth, at + 1))
+    Ok(here(by_matching(by, truth), at + 1))
+}
+
+fn by_matching(by: Matching, truth: Truth) -> Truth
+    ensures { result ≡ spec.by_matching by truth }
+{
+    match by {
+        Matching::Matches => truth,
+        Matching::MatchesNot => truth.negated(),
+    }
 }
 
 /// Whether the pattern is found in a text. Null holds none, and other kinds are wrong.
@@ -188,28 +236,48 @@ fn is_found(written: &MatchPattern, pattern: &mut Pattern, text: &str) -> Result
 }
 
 // The place behind the patterns of the condition, which begin at the place `at`.
-#[tactic(auto, using(crate::proofs::TextsOf::counts, crate::proofs::TextsOf::weights))]
+#[tactic(auto, using(crate::proofs::TextsOf::counts))]
+#[cycle(past)]
 fn past(condition: &Condition, at: usize) -> usize
     requires { at + length (texts condition.now) < 2 ^ 64 }
     ensures { result ≡ at + length (texts condition.now) }
 {
     match condition {
         Condition::Not(part) => past(part.get(), at),
-        Condition::And(left, right)
-        | Condition::Nand(left, right)
-        | Condition::Or(left, right)
-        | Condition::Xor(left, right) => past(right.get(), past(left.get(), at)),
-        Condition::Matches(_, _) | Condition::MatchesNot(_, _) => at + 1,
+        Condition::Conjoined(first, rest) => past_conjoined(rest.as_slice(), past(first.get(), at)),
+        Condition::Disjoined(first, rest) => past_disjoined(rest.as_slice(), past(first.get(), at)),
+        Condition::Matched(_, _, _) => at + 1,
         Condition::Operand(_)
-        | Condition::Equal(_, _)
-        | Condition::Unequal(_, _)
-        | Condition::Less(_, _)
-        | Condition::Greater(_, _)
-        | Condition::AtMost(_, _)
-        | Condition::AtLeast(_, _)
+        | Condition::Compared(_, _, _)
         | Condition::In(_, _)
         | Condition::NotIn(_, _) => at,
     }
+}
+
+// The same for what follows the first condition of a row of `and` and `nand`.
+#[cycle(past)]
+fn past_conjoined(rest: &[(Conjunction, Condition)], at: usize) -> usize
+    requires { at + length (texts_behind rest.now) < 2 ^ 64 }
+    ensures { result ≡ at + length (texts_behind rest.now) }
+{
+    let mut next = at;
+    for part in rest {
+        next = past(&part.1, next);
+    }
+    next
+}
+
+// The same for what follows the first condition of a row of `or` and `xor`.
+#[cycle(past)]
+fn past_disjoined(rest: &[(Disjunction, Condition)], at: usize) -> usize
+    requires { at + length (texts_behind rest.now) < 2 ^ 64 }
+    ensures { result ≡ at + length (texts_behind rest.now) }
+{
+    let mut next = at;
+    for part in rest {
+        next = past(&part.1, next);
+    }
+    next
 }
 
 fn here(truth: Truth, next: usize) -> Passed

@@ -1,4 +1,8 @@
-pub mod Scans
-pub mod Lexing
-mod Reading
-pub mod Folds
+pub mod Trees
+pub mod Takes
+pub mod Taken
+pub mod Exact
+pub mod Levels
+pub mod Deep
+pub mod One
+mod Branches

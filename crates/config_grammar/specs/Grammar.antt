@@ -1,29 +1,30 @@
 -- The grammar, one case for each rule. The number is that of the levels that may be opened. Where a rule repeats, what was read
 -- in front is an index: so operators of one rank associate to the left, and settings and sections are joined as they come.
 use Rattle.std.specs.Prelude.{◌≡◌, ℕ, suc, List, [], ◌∷◌, ◌++◌, Some, None, false}
-use Rattle.config_grammar.specs.declared.token.Token.{Token}
-use Rattle.config_grammar.specs.declared.token.Token.TheVariants as t
-use Rattle.config_grammar.specs.declared.token.Word.TheVariants as w
-use Rattle.config_grammar.specs.declared.token.Conjunction.{Conjunction}
-use Rattle.config_grammar.specs.declared.token.Disjunction.{Disjunction}
-use Rattle.config_grammar.specs.declared.token.Comparison.{Comparison}
-use Rattle.config_grammar.specs.declared.token.Matching.{Matching}
-use Rattle.config_grammar.specs.declared.token.Section.TheVariants as kind
-use Rattle.config_grammar.specs.declared.tree.SettingValue.{SettingValue}
-use Rattle.config_grammar.specs.declared.tree.SettingValue.TheVariants as v
-use Rattle.config_grammar.specs.declared.tree.Condition.{Condition}
-use Rattle.config_grammar.specs.declared.tree.Condition.TheVariants as c
-use Rattle.config_grammar.specs.declared.tree.Operand.{Operand}
-use Rattle.config_grammar.specs.declared.tree.Operand.TheVariants as o
-use Rattle.config_grammar.specs.declared.tree.Literal.{Literal}
-use Rattle.config_grammar.specs.declared.tree.MatchPattern.{MatchPattern}
-use Rattle.config_grammar.specs.declared.tree.Plugin.{Plugin}
-use Rattle.config_grammar.specs.declared.tree.Arm.{Arm}
-use Rattle.config_grammar.specs.declared.tree.Statement.{Statement}
-use Rattle.config_grammar.specs.declared.tree.Statement.TheVariants as s
-use Rattle.config_grammar.specs.declared.tree.Config.{Config}
-use Rattle.config_grammar.specs.Words.{bareword, setting_name, plugin_name, key, scalar, literal, operand_token, pattern, conjoined, disjoined, compared, matched}
-use Rattle.config_grammar.specs.Joining.{Entries, has, with_setting, plugin_of, empty, with_inputs, with_filters, with_outputs}
+use Rattle.config_lex.specs.declared.token.Token.{Token}
+use Rattle.config_lex.specs.declared.token.Token.TheVariants as t
+use Rattle.config_lex.specs.declared.token.Word.TheVariants as w
+use Rattle.config_tree.specs.declared.operators.Conjunction.{Conjunction}
+use Rattle.config_tree.specs.declared.operators.Disjunction.{Disjunction}
+use Rattle.config_tree.specs.declared.operators.Comparison.{Comparison}
+use Rattle.config_tree.specs.declared.operators.Matching.{Matching}
+use Rattle.config_lex.specs.declared.token.Section.TheVariants as kind
+use Rattle.config_tree.specs.declared.tree.SettingValue.{SettingValue}
+use Rattle.config_tree.specs.declared.tree.SettingValue.TheVariants as v
+use Rattle.config_tree.specs.declared.tree.Condition.{Condition}
+use Rattle.config_tree.specs.declared.tree.Condition.TheVariants as c
+use Rattle.config_tree.specs.declared.tree.Operand.{Operand}
+use Rattle.config_tree.specs.declared.tree.Operand.TheVariants as o
+use Rattle.config_tree.specs.declared.tree.Literal.{Literal}
+use Rattle.config_tree.specs.declared.tree.MatchPattern.{MatchPattern}
+use Rattle.config_tree.specs.declared.tree.Plugin.{Plugin}
+use Rattle.config_tree.specs.declared.tree.Arm.{Arm}
+use Rattle.config_tree.specs.declared.tree.Statement.{Statement}
+use Rattle.config_tree.specs.declared.tree.Statement.TheVariants as s
+use Rattle.config_tree.specs.declared.tree.Config.{Config}
+use Rattle.config_grammar.specs.Words.{bareword, setting_name, plugin_name, key, scalar, literal, operand_token, pattern}
+use Rattle.config_tree.specs.Joints.{conjoined, disjoined}
+use Rattle.config_tree.specs.Joining.{Entries, has, with_setting, plugin_of, empty, with_inputs, with_filters, with_outputs}
 
 mutual
   -- value = string | number | bareword | nested | array | hash
@@ -80,8 +81,8 @@ pub data ReadsOperand : ℕ → List Token → Operand → Type 0 where
 -- compare, behind its first operand
 pub data ReadsTail : ℕ → Operand → List Token → Condition → Type 0 where
   alone : {d : ℕ} {x : Operand} → ReadsTail d x [] (c.Operand x)
-  comparison : {d : ℕ} {x y : Operand} {j : Comparison} {a : List Token} → ReadsOperand d a y → ReadsTail d x (t.Comparison j ∷ a) (compared j x y)
-  matching : {d : ℕ} {x : Operand} {j : Matching} {y : Token} {q : MatchPattern} → pattern y ≡ Some q → ReadsTail d x (t.Matching j ∷ y ∷ []) (matched j x q)
+  comparison : {d : ℕ} {x y : Operand} {j : Comparison} {a : List Token} → ReadsOperand d a y → ReadsTail d x (t.Comparison j ∷ a) (c.Compared j x y)
+  matching : {d : ℕ} {x : Operand} {j : Matching} {y : Token} {q : MatchPattern} → pattern y ≡ Some q → ReadsTail d x (t.Matching j ∷ y ∷ []) (c.Matched j x q)
   within : {d : ℕ} {x y : Operand} {a : List Token} → ReadsOperand d a y → ReadsTail d x (t.Word w.In ∷ a) (c.In x y)
   not_within : {d : ℕ} {x y : Operand} {a : List Token} → ReadsOperand d a y → ReadsTail d x (t.Word w.Not ∷ t.Word w.In ∷ a) (c.NotIn x y)
 

@@ -1,8 +1,8 @@
 -- How many levels are open behind some tokens, and the two faults of a list of tokens.
 use Rattle.std.specs.Prelude.{◌≡◌, ℕ, suc, ◌≤◌, List, [], ◌∷◌, ◌++◌, length}
-use Rattle.config_grammar.specs.declared.token.Token.{Token}
-use Rattle.config_grammar.specs.declared.token.Token.TheVariants as t
-use Rattle.config_grammar.specs.declared.token.Word.TheVariants as w
+use Rattle.config_lex.specs.declared.token.Token.{Token}
+use Rattle.config_lex.specs.declared.token.Token.TheVariants as t
+use Rattle.config_lex.specs.declared.token.Word.TheVariants as w
 use Rattle.config_grammar.specs.Viable.{Viable, IsFault}
 
 -- what has opened a level: a `{`, `[` or `(`, or a `!`
@@ -43,7 +43,7 @@ abbrev pub after_all : Open → List Token → Open
 after_all l [] = l
 after_all l (y ∷ ts) = after_all (after l y) ts
 
--- the number of levels that are open behind these tokens
+-- how many levels count as open behind these tokens: that of a `!` does until the token behind its operand
 abbrev pub level : List Token → ℕ
 level ts = length (after_all [] ts)
 

@@ -1,9 +1,12 @@
 pub mod Words
-pub mod Joining
 pub mod Grammar
 pub mod Viable
 pub mod Levels
-pub mod Bytes
-pub mod Lexemes
 pub mod Texts
-pub mod Readers
+pub mod Symbols
+pub mod Verdicts
+pub mod Machine
+pub mod Trees
+pub mod Answers
+pub mod Branches
+pub mod Laws

@@ -1,9 +1,9 @@
 -- What a text is: a configuration, or a text with a fault at a place.
 use Rattle.std.specs.Prelude.{◌≡◌, ℕ, List}
-use Rattle.config_grammar.specs.declared.tree.Config.{Config}
+use Rattle.config_tree.specs.declared.tree.Config.{Config}
 use Rattle.config_grammar.specs.Grammar.{ReadsConfig}
 use Rattle.config_grammar.specs.Levels.{IsSyntax, IsDeep}
-use Rattle.config_grammar.specs.Lexemes.{tokens, place_of}
+use Rattle.config_lex.specs.Lexemes.{tokens, place_of}
 
 -- the text reads as the configuration, with at most so many levels open
 abbrev pub Reads : ℕ → List ℕ → Config → Type 0

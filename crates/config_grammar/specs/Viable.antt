@@ -1,7 +1,7 @@
 -- Where a list of tokens stops being the beginning of a configuration.
 use Rattle.std.specs.Prelude.{◌≡◌, ℕ, List, [], ◌∷◌, ◌++◌, length}
-use Rattle.config_grammar.specs.declared.token.Token.{Token}
-use Rattle.config_grammar.specs.declared.tree.Config.{Config}
+use Rattle.config_lex.specs.declared.token.Token.{Token}
+use Rattle.config_tree.specs.declared.tree.Config.{Config}
 use Rattle.config_grammar.specs.Grammar.{ReadsConfig}
 
 -- some list that it begins is a configuration

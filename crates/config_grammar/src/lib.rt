@@ -1,22 +1,7 @@
-//! The configuration language of Logstash: its tree, its tokens and its grammar.
+//! The grammar of configurations, and its laws: that a text reads as one configuration at most, and that it
+//! reads, or has one fault at one place.
 #![tactic(auto)]
 
-mod bytes;
-mod context;
-mod copies;
-mod equality;
-mod fault;
-mod lexer;
-mod operators;
-mod readers;
-mod token;
-mod tree;
+mod laws;
 
-pub use bytes::{is_in_word, is_letter};
-pub use fault::{FromFault, SettingFault};
-pub use lexer::lexemes;
-pub use token::{Comparison, Conjunction, Disjunction, Lexeme, Matching, Section, Token, Word};
-pub use tree::{
-    Arm, Condition, Config, Literal, MatchPattern, Operand, Plugin, SettingValue, Settings,
-    Statement,
-};
+pub use laws::{branches_have_arms, has_an_answer, machine_is_right, one_answer, reads_once};

@@ -1,71 +1,83 @@
--- Where a key stands, and what becomes of entries there.
-use Rattle.std.proofs.Common.{◌≡◌, ℕ, zero, suc, ◌≤◌, ◌<◌, List, [], ◌∷◌, ◌++◌, length, Bool, true, false, ◌||◌, Option, Some, None, refl, ap, cond, arith, bytes_eq, slice_set, insert, remove, slice_get, if◌then◌else◌}
+-- What insertion into a table does to its entries, and to what they stand for.
+use Rattle.std.proofs.Common.{◌≡◌, ℕ, map, List, [], ◌∷◌, ◌++◌, Bool, true, false, ◌||◌, Option, Some, None, refl, ap, sym, subst, ◌∙◌, cond, bytes_eq, is_some, if◌then◌else◌}
 use Rattle.std.specs.List.{list_any}
-use Rattle.config_grammar.specs.declared.tree.SettingValue.{SettingValue}
-use Rattle.config_grammar.specs.Joining.{Entries, with_entry, with_setting, joined_value}
-use Rattle.config_laws.specs.Machine.{fresh}
+use Rattle.std.specs.Map.{lookup}
+use Rattle.std.proofs.lemmas.Slice.Eq.{bytes_eq-Decides}
+use Rattle.indexmap.specs.IndexMap.{insert_entry}
+use Rattle.config_tree.specs.declared.tree.SettingValue.{SettingValue}
+use Rattle.config_tree.specs.Joining.{Entries, with_entry, with_setting, joined_value}
+use Rattle.config_grammar.specs.Machine.{fresh}
+use Rattle.config_grammar.proofs.Taken.{fresh_ok}
+use Rattle.config_parse.specs.declared.joining.ReadValue.{ReadValue}
+use Rattle.config_parse.specs.Tables.{value_of, values_of, held_at, JoinsTo, IsSameElsewhere, HasSetting}
 use Rattle.config_parse.specs.Read.{keys_of}
-use Rattle.config_parse.specs.Places.{key_place}
 
-abbrev Entry : Type 0
-Entry = List ℕ × SettingValue
+same : (a b : List ℕ) → bytes_eq a b ≡ bytes_eq b a
+same a b = at (bytes_eq a b) (bytes_eq b a) refl refl
+  where
+    at : (p q : Bool) → bytes_eq a b ≡ p → bytes_eq b a ≡ q → p ≡ q
+    at true q h g = sym ((bytes_eq-Decides b a).1 (sym ((bytes_eq-Decides a b).0 h))) ∙ g
+    at false true h g = sym h ∙ (bytes_eq-Decides a b).1 (sym ((bytes_eq-Decides b a).0 g))
+    at false false h g = refl
 
-set_if : (b : Bool) (e p : Entry) (es r : Entries) (n : ℕ) → (n < length es → r ≡ slice_set es n p) → (if b then zero else suc n) < suc (length es)
-    → (if b then p ∷ es else e ∷ r) ≡ slice_set (e ∷ es) (if b then zero else suc n) p
-set_if true e p es r n f h = refl
-set_if false e p es r n f h = ap (λ y. e ∷ y) (f (omega (arith, h)))
+pub entry_is : (k : List ℕ) (x : SettingValue) (es : Entries) → insert_entry bytes_eq es k x ≡ with_entry k x es
+entry_is k x [] = refl
+entry_is k x (e ∷ es) = ap (λ b. if b then (e.0, x) ∷ es else e ∷ insert_entry bytes_eq es k x) (same k e.0) ∙ at (bytes_eq e.0 k) refl (entry_is k x es)
+  where
+    at : (b : Bool) → bytes_eq e.0 k ≡ b → insert_entry bytes_eq es k x ≡ with_entry k x es → (if b then (e.0, x) ∷ es else e ∷ insert_entry bytes_eq es k x) ≡ (if b then (k, x) ∷ es else e ∷ with_entry k x es)
+    at true h g = ap (λ n. (n, x) ∷ es) ((bytes_eq-Decides e.0 k).0 h)
+    at false h g = ap (λ l. e ∷ l) g
 
-pub entry_at : (k : List ℕ) (x : SettingValue) (es : Entries) → key_place k es < length es → with_entry k x es ≡ slice_set es (key_place k es) (k, x)
-entry_at k x [] h = absurd (omega (arith, h))
-entry_at k x (e ∷ es) h = set_if (bytes_eq e.0 k) e (k, x) es (with_entry k x es) (key_place k es) (entry_at k x es) h
+-- a key that is found
+pub found_is : {V : Type 0} (k : List ℕ) (es : List (List ℕ × V)) → is_some (lookup (bytes_eq k) es) ≡ list_any (λ n. bytes_eq n k) (map (λ e. e.0) es)
+found_is k [] = refl
+found_is k (e ∷ es) = ap (λ b. is_some (cond b (Some e.1) (lookup (bytes_eq k) es))) (same k e.0) ∙ at (bytes_eq e.0 k) (found_is k es)
+  where
+    at : (b : Bool) → is_some (lookup (bytes_eq k) es) ≡ list_any (λ n. bytes_eq n k) (map (λ e. e.0) es) → is_some (cond b (Some e.1) (lookup (bytes_eq k) es)) ≡ (b || list_any (λ n. bytes_eq n k) (map (λ e. e.0) es))
+    at true g = refl
+    at false g = g
 
-new_if : (b : Bool) (e p : Entry) (es r q : Entries) (n : ℕ) → (length es ≤ n → r ≡ es ++ p ∷ []) → suc (length es) ≤ (if b then zero else suc n) → (if b then q else e ∷ r) ≡ e ∷ (es ++ p ∷ [])
-new_if true e p es r q n f h = absurd (omega (arith, h))
-new_if false e p es r q n f h = ap (λ y. e ∷ y) (f (omega (arith, h)))
+-- a new key goes last
+new_entry : (k : List ℕ) (x : SettingValue) (es : Entries) → list_any (λ n. bytes_eq n k) (keys_of es) ≡ false → with_entry k x es ≡ es ++ (k, x) ∷ []
+new_entry k x [] h = refl
+new_entry k x (e ∷ es) h = at (bytes_eq e.0 k) (new_entry k x es) h
+  where
+    at : (b : Bool) → (list_any (λ n. bytes_eq n k) (keys_of es) ≡ false → with_entry k x es ≡ es ++ (k, x) ∷ []) → (b || list_any (λ n. bytes_eq n k) (keys_of es)) ≡ false → (if b then (k, x) ∷ es else e ∷ with_entry k x es) ≡ e ∷ (es ++ (k, x) ∷ [])
+    at true again g = absurd (cc)
+    at false again g = ap (λ l. e ∷ l) (again g)
 
-pub entry_new : (k : List ℕ) (x : SettingValue) (es : Entries) → length es ≤ key_place k es → with_entry k x es ≡ es ++ (k, x) ∷ []
-entry_new k x [] h = refl
-entry_new k x (e ∷ es) h = new_if (bytes_eq e.0 k) e (k, x) es (with_entry k x es) ((k, x) ∷ es) (key_place k es) (entry_new k x es) h
+pub fresh_entry : (k : List ℕ) (x : SettingValue) (es : Entries) (o : Option (List ℕ)) → fresh (keys_of es) o ≡ Some k → with_entry k x es ≡ es ++ (k, x) ∷ []
+fresh_entry k x es o h = new_entry k x es (fresh_ok (keys_of es) k o h).1
 
-pub setting_new : (k : List ℕ) (x : SettingValue) (es : Entries) → length es ≤ key_place k es → with_setting k x es ≡ es ++ (k, x) ∷ []
-setting_new k x [] h = refl
-setting_new k x (e ∷ es) h = new_if (bytes_eq e.0 k) e (k, x) es (with_setting k x es) ((k, joined_value e.1 x) ∷ es) (key_place k es) (setting_new k x es) h
+-- a value in the place of another
+twice : (k : List ℕ) (x z : ReadValue) (es : List (List ℕ × ReadValue)) → insert_entry bytes_eq (insert_entry bytes_eq es k x) k z ≡ insert_entry bytes_eq es k z
+twice k x z [] = ap (λ b. if b then (k, z) ∷ [] else (k, x) ∷ (k, z) ∷ []) ((bytes_eq-Decides k k).1 refl)
+twice k x z (e ∷ es) = at (bytes_eq k e.0) refl (twice k x z es)
+  where
+    at : (b : Bool) → bytes_eq k e.0 ≡ b → insert_entry bytes_eq (insert_entry bytes_eq es k x) k z ≡ insert_entry bytes_eq es k z → insert_entry bytes_eq (if b then (e.0, x) ∷ es else e ∷ insert_entry bytes_eq es k x) k z ≡ (if b then (e.0, z) ∷ es else e ∷ insert_entry bytes_eq es k z)
+    at true h g = ap (λ b. if b then (e.0, z) ∷ es else (e.0, x) ∷ insert_entry bytes_eq es k z) h
+    at false h g = ap (λ b. if b then (e.0, z) ∷ insert_entry bytes_eq es k x else e ∷ insert_entry bytes_eq (insert_entry bytes_eq es k x) k z) h ∙ ap (λ l. e ∷ l) g
 
--- an entry taken away, and another put in its place
-abbrev pub exchanged : Entries → ℕ → Entry → Entries
-exchanged es n p = insert (remove es n) n p
+setting_is : (k : List ℕ) (x made : ReadValue) (es : List (List ℕ × ReadValue)) → JoinsTo (lookup (bytes_eq k) es) x made → values_of (insert_entry bytes_eq es k made) ≡ with_setting k (value_of x) (values_of es)
+setting_is k x made [] h = ap (λ m. (k, value_of m) ∷ []) h
+setting_is k x made (e ∷ es) h = at (bytes_eq k e.0) refl h (setting_is k x made es) ∙ ap (λ b. if b then (k, joined_value (value_of e.1) (value_of x)) ∷ values_of es else (e.0, value_of e.1) ∷ with_setting k (value_of x) (values_of es)) (same k e.0)
+  where
+    at : (b : Bool) → bytes_eq k e.0 ≡ b → JoinsTo (cond b (Some e.1) (lookup (bytes_eq k) es)) x made → (JoinsTo (lookup (bytes_eq k) es) x made → values_of (insert_entry bytes_eq es k made) ≡ with_setting k (value_of x) (values_of es)) → values_of (if b then (e.0, made) ∷ es else e ∷ insert_entry bytes_eq es k made)
+        ≡ (if b then (k, joined_value (value_of e.1) (value_of x)) ∷ values_of es else (e.0, value_of e.1) ∷ with_setting k (value_of x) (values_of es))
+    at true g j again = ap (λ y. (e.0, y) ∷ values_of es) j ∙ ap (λ n. (n, joined_value (value_of e.1) (value_of x)) ∷ values_of es) (sym ((bytes_eq-Decides k e.0).0 g))
+    at false g j again = ap (λ l. (e.0, value_of e.1) ∷ l) (again j)
 
-some_is : {A : Type 0} {a b : A} → ◌≡◌ {A = Option A} (Some a) (Some b) → a ≡ b
-some_is h = cc
+pub replaced : (es : List (List ℕ × ReadValue)) {made : List (List ℕ × ReadValue)} {k n : List ℕ} (p : ReadValue) → made ≡ insert_entry bytes_eq es n p → n ≡ k → (x : ReadValue) → insert_entry bytes_eq made k x ≡ insert_entry bytes_eq es k x
+replaced es {k = k} p h e x = ap (λ l. insert_entry bytes_eq l k x) (h ∙ ap (λ n. insert_entry bytes_eq es n p) e) ∙ twice k p x es
 
-setting_if : (b : Bool) (k : List ℕ) (x : SettingValue) (e p : Entry) (es r : Entries) (n : ℕ) → (n < length es → slice_get es n ≡ Some p → r ≡ exchanged es n (k, joined_value p.1 x))
-    → (if b then zero else suc n) < suc (length es) → slice_get (e ∷ es) (if b then zero else suc n) ≡ Some p
-    → (if b then (k, joined_value e.1 x) ∷ es else e ∷ r) ≡ exchanged (e ∷ es) (if b then zero else suc n) (k, joined_value p.1 x)
-setting_if true k x e p es r n f h g = ap (λ q. (k, joined_value q.1 x) ∷ es) (some_is g)
-setting_if false k x e p es r n f h g = ap (λ y. e ∷ y) (f (omega (arith, h)) g)
+pub set_is : (old mid : List (List ℕ × ReadValue)) {new : List (List ℕ × ReadValue)} {k n : List ℕ} (x made : ReadValue) {earlier : Option ReadValue} → new ≡ insert_entry bytes_eq mid n made → n ≡ k → IsSameElsewhere k old mid
+    → earlier ≡ held_at k old → JoinsTo earlier x made → HasSetting k x old new
+set_is old mid {k = k} x made h e rest is j =
+    ap values_of (h ∙ ap (λ n. insert_entry bytes_eq mid n made) e ∙ rest made) ∙ setting_is k x made old (subst (λ e. JoinsTo e x made) is j)
 
-pub setting_at : (k : List ℕ) (x : SettingValue) (p : Entry) (es : Entries) → key_place k es < length es → slice_get es (key_place k es) ≡ Some p → with_setting k x es ≡ exchanged es (key_place k es) (k, joined_value p.1 x)
-setting_at k x p [] h g = absurd (omega (arith, h))
-setting_at k x p (e ∷ es) h g = setting_if (bytes_eq e.0 k) k x e p es (with_setting k x es) (key_place k es) (setting_at k x p es) h g
+-- a key that a hash has, and one that it hasn't
+pub fresh_old : (k : List ℕ) (es : Entries) {o : Option (List ℕ)} → o ≡ Some k → is_some (lookup (bytes_eq k) es) ≡ true → None ≡ fresh (keys_of es) o
+fresh_old k es h g = sym (ap (fresh (keys_of es)) h ∙ ap (λ b. cond b None (Some k)) (sym (found_is k es) ∙ g))
 
-any_if : (b r : Bool) (n len : ℕ) → (n < len → r ≡ true) → (if b then zero else suc n) < suc len → (b || r) ≡ true
-any_if true r n len f h = refl
-any_if false r n len f h = f (omega (arith, h))
-
-has_any : (k : List ℕ) (es : Entries) → key_place k es < length es → list_any (λ x. bytes_eq x k) (keys_of es) ≡ true
-has_any k [] h = absurd (omega (arith, h))
-has_any k (e ∷ es) h = any_if (bytes_eq e.0 k) (list_any (λ x. bytes_eq x k) (keys_of es)) (key_place k es) (length es) (has_any k es) h
-
-none_if : (b r : Bool) (n len : ℕ) → (len ≤ n → r ≡ false) → suc len ≤ (if b then zero else suc n) → (b || r) ≡ false
-none_if true r n len f h = absurd (omega (arith, h))
-none_if false r n len f h = f (omega (arith, h))
-
-no_any : (k : List ℕ) (es : Entries) → length es ≤ key_place k es → list_any (λ x. bytes_eq x k) (keys_of es) ≡ false
-no_any k [] h = refl
-no_any k (e ∷ es) h = none_if (bytes_eq e.0 k) (list_any (λ x. bytes_eq x k) (keys_of es)) (key_place k es) (length es) (no_any k es) h
-
-pub fresh_old : (k : List ℕ) (es : Entries) → key_place k es < length es → fresh (keys_of es) (Some k) ≡ None
-fresh_old k es h = ap (λ b. cond b None (Some k)) (has_any k es h)
-
-pub fresh_new : (k : List ℕ) (es : Entries) → length es ≤ key_place k es → fresh (keys_of es) (Some k) ≡ Some k
-fresh_new k es h = ap (λ b. cond b None (Some k)) (no_any k es h)
+pub fresh_new : (k : List ℕ) (es : Entries) {o : Option (List ℕ)} → o ≡ Some k → is_some (lookup (bytes_eq k) es) ≡ false → Some k ≡ fresh (keys_of es) o
+fresh_new k es h g = sym (ap (fresh (keys_of es)) h ∙ ap (λ b. cond b None (Some k)) (sym (found_is k es) ∙ g))

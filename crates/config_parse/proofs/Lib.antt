@@ -1,6 +1,5 @@
-pub mod Short
-pub mod Runs
-mod Turns
+pub mod Reading
+pub mod Turns
 mod Joined
 mod Placing
 mod Telling

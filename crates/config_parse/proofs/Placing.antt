@@ -1,8 +1,8 @@
 -- The place of a token by the number of those from it on.
 use Rattle.std.proofs.Common.{◌≡◌, ℕ, suc, ◌-◌, ◌≤◌, ◌<◌, ◌==◌, List, [], ◌∷◌, length, Bool, true, false, refl, ap, ◌∙◌, arith, if◌then◌else◌, get_or}
 use Rattle.std.proofs.lemmas.Bool.Decides.{nat_tests}
-use Rattle.config_grammar.specs.declared.token.Lexeme.{Lexeme}
-use Rattle.config_grammar.specs.Lexemes.{place_in}
+use Rattle.config_lex.specs.declared.token.Lexeme.{Lexeme}
+use Rattle.config_lex.specs.Lexemes.{place_in}
 
 equal_of : (a b : ℕ) → (a == b) ≡ true → a ≡ b
 equal_of a b h = grind (arith, nat_tests)

@@ -1,233 +1,314 @@
--- One turn of a loop of the code.
-use Rattle.std.proofs.Common.{◌≡◌, ℕ, zero, suc, ◌≤◌, List, [], ◌∷◌, ◌++◌, length, Option, Some, refl, ap, sym, ◌∙◌, Ok, Err, arith}
-use Rattle.config_grammar.specs.declared.token.Token.{Token}
-use Rattle.config_grammar.specs.declared.token.Token.TheVariants as t
-use Rattle.config_grammar.specs.declared.tree.SettingValue.{SettingValue}
-use Rattle.config_grammar.specs.declared.token.Word.TheVariants as w
-use Rattle.config_grammar.specs.declared.token.Conjunction.{Conjunction}
-use Rattle.config_grammar.specs.declared.token.Disjunction.{Disjunction}
-use Rattle.config_grammar.specs.declared.token.Word.{Word}
-use Rattle.config_grammar.specs.declared.token.Section.{Section}
-use Rattle.config_grammar.specs.declared.token.Section.TheVariants as kind
-use Rattle.config_grammar.specs.declared.tree.Condition.{Condition}
-use Rattle.config_grammar.specs.declared.tree.Plugin.{Plugin}
-use Rattle.config_grammar.specs.declared.tree.Arm.{Arm}
-use Rattle.config_grammar.specs.declared.tree.Statement.{Statement}
-use Rattle.config_grammar.specs.declared.tree.Statement.TheVariants as s
-use Rattle.config_grammar.specs.declared.tree.Config.{Config}
-use Rattle.config_grammar.specs.Words.{setting_name, key, conjoined, disjoined}
-use Rattle.config_grammar.specs.Joining.{Entries, with_setting, with_inputs, with_filters, with_outputs}
-use Rattle.config_laws.specs.Machine.{fresh, last_arm}
+-- What the code's loops and cases read, by the parts that they read.
+use Rattle.std.proofs.Common.{◌≡◌, Bool, true, false, if◌then◌else◌, Result, IsErrAnd, ℕ, zero, suc, ◌≤◌, List, [], ◌∷◌, ◌++◌, length, Option, Some, None, Ok, Err, refl, ap, sym, subst, ◌∙◌, arith}
+use Rattle.config_lex.specs.declared.token.Token.{Token}
+use Rattle.config_lex.specs.declared.token.Token.TheVariants as t
+use Rattle.config_lex.specs.declared.token.Word.{Word}
+use Rattle.config_lex.specs.declared.token.Word.TheVariants as w
+use Rattle.config_tree.specs.declared.operators.Disjunction.{Disjunction}
+use Rattle.config_tree.specs.declared.tree.SettingValue.{SettingValue}
+use Rattle.config_tree.specs.declared.tree.SettingValue.TheVariants as v
+use Rattle.config_tree.specs.declared.tree.Operand.{Operand}
+use Rattle.config_tree.specs.declared.tree.Operand.TheVariants as o
+use Rattle.config_tree.specs.declared.tree.Condition.{Condition}
+use Rattle.config_tree.specs.declared.tree.Condition.TheVariants as c
+use Rattle.config_tree.specs.declared.tree.Plugin.{Plugin}
+use Rattle.config_tree.specs.declared.tree.Arm.{Arm}
+use Rattle.config_tree.specs.declared.tree.Statement.{Statement}
+use Rattle.config_tree.specs.declared.tree.Statement.TheVariants as s
+use Rattle.config_tree.specs.Joints.{disjoined}
+use Rattle.config_tree.specs.Joining.{Entries, with_setting, plugin_of}
+use Rattle.config_grammar.specs.Words.{spelling, setting_name, plugin_name, key}
+use Rattle.config_grammar.specs.Symbols.{Symbol}
+use Rattle.config_grammar.specs.Symbols as y
+use Rattle.config_grammar.specs.Machine.{Sems, on_some, fresh, next, arm_of}
+use Rattle.config_grammar.specs.Verdicts as is
+use Rattle.config_parse.specs.declared.error.ReadError.{ReadError}
+use Rattle.config_parse.specs.declared.error.ReadError.TheVariants as errors
+use Rattle.config_lex.specs.declared.token.Lexeme.{Lexeme}
+use Rattle.std.specs.Borrow.{Bor}
+use Rattle.std.proofs.lemmas.Result.{err_from_is_err_and}
+use Rattle.config_parse.specs.Gives.{Fails, GivesRead}
 use Rattle.config_parse.specs.Read as r
-use Rattle.config_parse.specs.Read.{Read, Reader, ◌>>=◌, told, refuse, keys_of}
-use Rattle.config_parse.proofs.Short as short
-use Rattle.config_parse.specs.Arms.{arms_of}
-use Rattle.config_parse.proofs.Short.{Shrinks}
+use Rattle.config_parse.specs.Read.{Read, Reader, ◌>>=◌, moved, behind, told, one}
+use Rattle.config_parse.proofs.Reading.{Short, Shrinks, bound, ok, none, read_short, read_front, read_end, assoc}
+
+pub ruleset turns = (read_front, read_end, assoc)
 
 pub bind_is : {A B : Type 0} {q : Read A} {x : A × List Token} {y : Read B} (f : A × List Token → Read B) → q ≡ Ok x → f x ≡ y → (q >>= f) ≡ y
 bind_is f e h = ap (λ p. p >>= f) e ∙ h
 
-pub told_is : {A B : Type 0} {o : Option A} {a : A} (here behind : List Token) {y : Read B} (f : A × List Token → Read B) → o ≡ Some a → f (a, behind) ≡ y → (told o here behind >>= f) ≡ y
-told_is here behind f e h = ap (λ p. told p here behind >>= f) e ∙ h
-
 -- what is read behind the first token leaves fewer tokens
-pub less : {A : Type 0} (read : Reader A) (ts behind after : List Token) (y : Token) (x : A) → Shrinks read → ts ≡ y ∷ behind → read behind ≡ Ok (x, after) → suc (length after) ≤ length ts
-less read ts behind after y x sv is v = let k : length ts ≡ suc (length behind) = ap length is in let s = sv behind (x, after) v in omega (arith, k, s)
+pub fewer : {A : Type 0} {q : Read A} {ts behind after : List Token} {z : Token} {x : A} → Short q (length behind) → ts ≡ z ∷ behind → q ≡ Ok (x, after) → suc (length after) ≤ length ts
+fewer {behind = behind} {after = after} {x = x} s is v = let l = s (x, after) v in let k = ap length is in omega (arith, l, k)
 
-pub more_turn : {A : Type 0} (value : Reader A) (sv : Shrinks value) (n : ℕ) (front : List A) (ts behind after : List Token) (x : A) {z : Read (List A)} → length ts ≤ n → r.more value n front ts ≡ z
-    → ts ≡ t.Comma ∷ behind → value behind ≡ Ok (x, after) → (m : ℕ) × (length after ≤ m) × (r.more value m (front ++ x ∷ []) after ≡ z)
-unfolding r.more
-more_turn value sv zero front ts behind after x h e is v = let k : length ts ≡ suc (length behind) = ap length is in absurd (omega (arith, h, k))
-more_turn value sv (suc n) front ts behind after x h e is v =
-    let k = less value ts behind after t.Comma x sv is v in
-    (n, omega (arith, h, k), sym (bind_is (λ y. r.more value n (front ++ y.0 ∷ []) y.1) v refl) ∙ ap (r.more value (suc n) front) (sym is) ∙ e)
+pub fewer_two : {A : Type 0} {q : Read A} {ts behind next after : List Token} {y z : Token} {x : A} → Short q (length next) → ts ≡ y ∷ behind → behind ≡ z ∷ next → q ≡ Ok (x, after) → suc (length after) ≤ length ts
+fewer_two s is nis v = let k = ap length is in let l = fewer s nis v in omega (arith, l, k)
 
-not_close_pair : (value : Reader SettingValue) (n : ℕ) (front : Entries) (y : Token) (k : List ℕ) (ts : List Token) → fresh (keys_of front) (key y) ≡ Some k
-    → r.pairs value (suc n) front (y ∷ ts) ≡ (told (fresh (keys_of front) (key y)) (y ∷ ts) ts >>= λ a. r.entry value a.1 >>= λ x. r.pairs value n (front ++ (a.0, x.0) ∷ []) x.1)
-unfolding r.pairs
-not_close_pair value n front t.CloseBrace k ts h = absurd (cc)
-not_close_pair value n front y k ts h = refl
+fails_bind : {A B : Type 0} (e : ReadError) (q : Read A) (f : A × List Token → Read B) → Fails e q → Fails e (q >>= f)
+fails_bind errors.Memory q f h = tt
+fails_bind (errors.Syntax left) q f h = ap (λ p. p >>= f) h
+fails_bind (errors.Deep left) q f h = ap (λ p. p >>= f) h
 
-pub pairs_turn : (value : Reader SettingValue) (sv : Shrinks value) (n : ℕ) (front : Entries) (y : Token) (k : List ℕ) (ts behind after : List Token) (x : SettingValue) {z : Read Entries} → length ts ≤ n
-    → r.pairs value n front ts ≡ z → ts ≡ y ∷ behind → fresh (keys_of front) (key y) ≡ Some k → r.entry value behind ≡ Ok (x, after)
-    → (m : ℕ) × (length after ≤ m) × (r.pairs value m (front ++ (k, x) ∷ []) after ≡ z)
-pairs_turn value sv zero front y k ts behind after x h e is w v = let l : length ts ≡ suc (length behind) = ap length is in absurd (omega (arith, h, l))
-pairs_turn value sv (suc n) front y k ts behind after x h e is w v =
-    let l = less (r.entry value) ts behind after y x (short.entry_short value sv) is v in (
-      n,
-      omega (arith, h, l),
-      sym (not_close_pair value n front y k behind w
-          ∙ told_is (y ∷ behind) behind (λ a. r.entry value a.1 >>= λ x_. r.pairs value n (front ++ (a.0, x_.0) ∷ []) x_.1) w
-          (bind_is (λ x_. r.pairs value n (front ++ (k, x_.0) ∷ []) x_.1) v refl))
-          ∙ ap (r.pairs value (suc n) front) (sym is) ∙ e,
-    )
+-- an item, and what goes on behind it
+abbrev pub turn : {A B C : Type 0} → Read A → Reader (B → C) → (B → A → B) → Read (B → C)
+turn q on add = q >>= λ x. on x.1 >>= λ f. Ok ((λ front. f.0 (add front x.0)), f.1)
 
-not_close_setting : (value : Reader SettingValue) (n : ℕ) (front : Entries) (y : Token) (k : List ℕ) (ts : List Token) → setting_name y ≡ Some k
-    → r.settings value (suc n) front (y ∷ ts) ≡ (told (setting_name y) (y ∷ ts) ts >>= λ a. r.entry value a.1 >>= λ x. r.settings value n (with_setting a.0 x.0 front) x.1)
-unfolding r.settings
-not_close_setting value n front t.CloseBrace k ts h = absurd (cc)
-not_close_setting value n front y k ts h = refl
+-- one turn of a loop, and the fault of its item
+pub turned : {A B C : Type 0} (here on : Reader (B → C)) (add : B → A → B) (front : B) (ts : List Token) {q : Read A} {x : A} {after : List Token} {all : Read C} → here ts ≡ turn q on add → behind front here ts ≡ all
+    → q ≡ Ok (x, after) → behind (add front x) on after ≡ all
+turned here on add front ts {q} {x} {after} {all} is all_is v =
+    sym (ap (λ p. p >>= λ f. Ok (f.0 front, f.1)) (is ∙ bind_is (λ x. on x.1 >>= λ f. Ok ((λ front. f.0 (add front x.0)), f.1)) v refl) ∙ assoc (on after) (λ f. Ok ((λ front. f.0 (add front x)), f.1)) (λ f. Ok (f.0 front, f.1))) ∙ all_is
 
-pub settings_turn : (value : Reader SettingValue) (sv : Shrinks value) (n : ℕ) (front : Entries) (y : Token) (k : List ℕ) (ts behind after : List Token) (x : SettingValue) {z : Read Entries} → length ts ≤ n
-    → r.settings value n front ts ≡ z → ts ≡ y ∷ behind → setting_name y ≡ Some k → r.entry value behind ≡ Ok (x, after)
-    → (m : ℕ) × (length after ≤ m) × (r.settings value m (with_setting k x front) after ≡ z)
-settings_turn value sv zero front y k ts behind after x h e is w v = let l : length ts ≡ suc (length behind) = ap length is in absurd (omega (arith, h, l))
-settings_turn value sv (suc n) front y k ts behind after x h e is w v =
-    let l = less (r.entry value) ts behind after y x (short.entry_short value sv) is v in (
-      n,
-      omega (arith, h, l),
-      sym (not_close_setting value n front y k behind w
-          ∙ told_is (y ∷ behind) behind (λ a. r.entry value a.1 >>= λ x_. r.settings value n (with_setting a.0 x_.0 front) x_.1) w
-          (bind_is (λ x_. r.settings value n (with_setting k x_.0 front) x_.1) v refl))
-          ∙ ap (r.settings value (suc n) front) (sym is) ∙ e,
-    )
+-- what a `?` behind the item's fault returns
+pub failed : {A B C D : Type 0} (stands : D → C) (here on : Reader (B → C)) (add : B → A → B) (front : B) (ts : List Token) (q : Read A) {all : Read C} (e : ReadError) (result : Result (D × Bor (List Lexeme)) ReadError)
+    → IsErrAnd result (λ y. y ≡ e) → here ts ≡ turn q on add → behind front here ts ≡ all → Fails e q → GivesRead stands result all
+failed stands here on add front ts q {all} e result err is all_is h =
+    let p = err_from_is_err_and result err in
+    subst (λ r. GivesRead stands r all) (sym (p.1 ∙ ap (λ y. Err y) p.2))
+    (subst (Fails e) (ap (λ p. p >>= λ f. Ok (f.0 front, f.1)) (sym is) ∙ all_is) (fails_bind e (turn q on add) (λ f. Ok (f.0 front, f.1)) (fails_bind e q (λ x. on x.1 >>= λ f. Ok ((λ front. f.0 (add front x.0)), f.1)) h)))
 
-pub ands_turn : (unary : Reader Condition) (su : Shrinks unary) (n : ℕ) (l : Condition) (j : Conjunction) (ts behind after : List Token) (x : Condition) {z : Read Condition} → length ts ≤ n
-    → r.ands unary n l ts ≡ z → ts ≡ t.Word (w.Conjunction j) ∷ behind → unary behind ≡ Ok (x, after) → (m : ℕ) × (length after ≤ m) × (r.ands unary m (conjoined j l x) after ≡ z)
-unfolding r.ands
-ands_turn unary su zero l j ts behind after x h e is v = let k : length ts ≡ suc (length behind) = ap length is in absurd (omega (arith, h, k))
-ands_turn unary su (suc n) l j ts behind after x h e is v =
-    let k = less unary ts behind after (t.Word (w.Conjunction j)) x su is v in
-    (n, omega (arith, h, k), sym (bind_is (λ y. r.ands unary n (conjoined j l y.0) y.1) v refl) ∙ ap (r.ands unary (suc n) l) (sym is) ∙ e)
+-- what is made of two parts, and goes on
+joins : {A B C D : Type 0} (q : Read A) (f : A × List Token → Read B) (made : A → B → C) (k : C × List Token → Read D) → ((q >>= λ x. f x >>= λ g. Ok (made x.0 g.0, g.1)) >>= k) ≡ (q >>= λ x. f x >>= λ g. k (made x.0 g.0, g.1))
+joins (Ok x) f made k = assoc (f x) (λ g. Ok (made x.0 g.0, g.1)) k
+joins (Err e) f made k = refl
 
-pub ors_turn : (unary : Reader Condition) (su : Shrinks unary) (n : ℕ) (l : Condition) (j : Disjunction) (ts behind after : List Token) (x : Condition) {z : Read Condition} → length ts ≤ n
-    → r.ors unary n l ts ≡ z → ts ≡ t.Word (w.Disjunction j) ∷ behind → r.joined unary behind ≡ Ok (x, after) → (m : ℕ) × (length after ≤ m) × (r.ors unary m (disjoined j l x) after ≡ z)
-unfolding r.ors
-ors_turn unary su zero l j ts behind after x h e is v = let k : length ts ≡ suc (length behind) = ap length is in absurd (omega (arith, h, k))
-ors_turn unary su (suc n) l j ts behind after x h e is v =
-    let k = less (r.joined unary) ts behind after (t.Word (w.Disjunction j)) x (short.joined_short unary su) is v in
-    (n, omega (arith, h, k), sym (bind_is (λ y. r.ors unary n (disjoined j l y.0) y.1) v refl) ∙ ap (r.ors unary (suc n) l) (sym is) ∙ e)
+under : {A B : Type 0} (q : Read A) (f g : A × List Token → Read B) → ((x : A × List Token) → f x ≡ g x) → (q >>= f) ≡ (q >>= g)
+under (Ok x) f g h = h x
+under (Err e) f g h = refl
 
-pub section_is : {a b : Section} → a ≡ b → w.Section a ≡ w.Section b
-section_is h = ap w.Section h
+joined_is : {B : Type 0} (d : ℕ) (ts : List Token) (k : Condition × List Token → Read B) → (r.joined d ts >>= k) ≡ (r.read d y.Unary ts >>= λ a. r.read d y.Ands a.1 >>= λ b. k (b.0 a.0, b.1))
+unfolding r.joined
+joined_is d ts k = joins (r.read d y.Unary ts) (λ x. r.read d y.Ands x.1) (λ x f. f x) k
+
+condition_is : {B : Type 0} (d : ℕ) (ts : List Token) (k : Condition × List Token → Read B)
+    → (r.condition d ts >>= k) ≡ (r.read d y.Unary ts >>= λ a. r.read d y.Ands a.1 >>= λ b. r.read d y.Ors b.1 >>= λ o. k (o.0 (b.0 a.0), o.1))
+unfolding r.condition
+condition_is d ts k = joins (r.joined d ts) (λ x. r.read d y.Ors x.1) (λ x f. f x) k ∙ joined_is d ts (λ x. r.read d y.Ors x.1 >>= λ o. k (o.0 x.0, o.1))
+
+arm_is : {B : Type 0} (d : ℕ) (ts : List Token) (k : Arm × List Token → Read B)
+    → (r.arm d ts >>= k) ≡ (r.read d y.Unary ts >>= λ a. r.read d y.Ands a.1 >>= λ b. r.read d y.Ors b.1 >>= λ o. r.read d y.Block o.1 >>= λ e. k (arm_of (o.0 (b.0 a.0)) e.0, e.1))
+unfolding r.arm
+arm_is d ts k = joins (r.condition d ts) (λ x. r.read d y.Block x.1) arm_of k ∙ condition_is d ts (λ x. r.read d y.Block x.1 >>= λ e. k (arm_of x.0 e.0, e.1))
+
+behind_short : {A B : Type 0} (front : A) (read : Reader (A → B)) → Shrinks read → Shrinks (behind front read)
+behind_short front read sr ts = bound (read ts) (λ f. Ok (f.0 front, f.1)) (length ts) (sr ts) (λ f. ok (f.0 front) f.1 (length f.1) (omega arith))
+
+pub joined_short : (d : ℕ) → Shrinks (r.joined d)
+unfolding r.joined
+joined_short d ts = bound (r.read d y.Unary ts) (λ x. behind x.0 (r.read d y.Ands) x.1) (length ts) (read_short d y.Unary ts) (λ x. behind_short x.0 (r.read d y.Ands) (read_short d y.Ands) x.1)
+
+pub arm_short : (d : ℕ) → Shrinks (r.arm d)
+unfolding r.arm r.condition
+arm_short d ts =
+    bound (r.condition d ts) (λ x. r.read d y.Block x.1 >>= λ b. Ok (arm_of x.0 b.0, b.1)) (length ts)
+    (bound (r.joined d ts) (λ x. behind x.0 (r.read d y.Ors) x.1) (length ts) (joined_short d ts) (λ x. behind_short x.0 (r.read d y.Ors) (read_short d y.Ors) x.1))
+    (λ x. bound (r.read d y.Block x.1) (λ b. Ok (arm_of x.0 b.0, b.1)) (length x.1) (read_short d y.Block x.1) (λ b. ok (arm_of x.0 b.0) b.1 (length b.1) (omega arith)))
+
+pub arms_short : (d : ℕ) → Shrinks (r.arms d)
+unfolding r.arms
+arms_short d ts = bound (r.arm d ts) (λ x. behind (x.0 ∷ []) (r.read d y.Otherwise) x.1) (length ts) (arm_short d ts) (λ x. behind_short (x.0 ∷ []) (r.read d y.Otherwise) (read_short d y.Otherwise) x.1)
+
+one_short : {A : Type 0} (test : Token → Option A) (z : Token) (ts : List Token) → Short (one test (z ∷ ts)) (length ts)
+one_short test z ts = at (test z)
+  where
+    at : {A : Type 0} (o : Option A) → Short (told o (z ∷ ts) ts) (length ts)
+    at None = none (is.Syntax (suc (length ts))) (length ts)
+    at (Some a) = ok a ts (length ts) (omega arith)
+
+pub entry_short : (d : ℕ) → Shrinks (r.entry d)
+unfolding r.entry
+entry_short d [] x h = none (is.Syntax 0) 0 x h
+entry_short d (z ∷ ts) x h =
+    let l = bound (one r.is_arrow (z ∷ ts)) (λ a. r.read d y.Value a.1) (length ts) (one_short r.is_arrow z ts) (λ a. read_short d y.Value a.1) x h in omega (arith, l)
+
+-- a plugin has tokens
+pub plugin_short : (d : ℕ) {ts behind after : List Token} {z : Token} {x : Plugin} → ts ≡ z ∷ behind → r.plugin d ts ≡ Ok (x, after) → suc (length after) ≤ length ts
+unfolding r.plugin
+plugin_short d {behind = behind} {after = after} {z = z} {x = x} is v =
+    let l = bound (one plugin_name (z ∷ behind)) (λ k. r.read d y.SettingsBlock k.1 >>= λ x. Ok (plugin_of k.0 x.0, x.1)) (length behind) (one_short plugin_name z behind)
+    (λ k. bound (r.read d y.SettingsBlock k.1) (λ x. Ok (plugin_of k.0 x.0, x.1)) (length k.1) (read_short d y.SettingsBlock k.1) (λ x. ok (plugin_of k.0 x.0) x.1 (length x.1) (omega arith))) (x, after) (ap (r.plugin d) (sym is) ∙ v) in
+    let k = ap length is in omega (arith, l, k)
+
+-- a statement has tokens
+pub statement_short : (d : ℕ) {ts behind after : List Token} {z : Token} {x : Statement} → ts ≡ z ∷ behind → r.statement d ts ≡ Ok (x, after) → suc (length after) ≤ length ts
+unfolding r.statement
+statement_short d {ts} {behind} {after} {z} {x} is v = at (r.is_if z) (ap (r.statement d) (sym is) ∙ v)
+  where
+    at : (b : Bool) → (if b then (r.arms d behind >>= λ x. Ok (s.Branch x.0, x.1)) else (r.plugin d (z ∷ behind) >>= λ x. Ok (s.Plugin x.0, x.1))) ≡ Ok (x, after) → suc (length after) ≤ length ts
+    at true h = let l = bound (r.arms d behind) (λ x. Ok (s.Branch x.0, x.1)) (length behind) (arms_short d behind) (λ x. ok (s.Branch x.0) x.1 (length x.1) (omega arith)) (x, after) h in let k = ap length is in omega (arith, l, k)
+    at false h =
+        let l = bound (r.plugin d (z ∷ behind)) (λ x. Ok (s.Plugin x.0, x.1)) (length behind) (λ a e. let m = plugin_short d {z = z} refl e in omega (arith, m)) (λ x. ok (s.Plugin x.0) x.1 (length x.1) (omega arith)) (x, after) h in let k = ap length is in omega (arith, l, k)
 
 pub word_is : {a b : Word} → a ≡ b → t.Word a ≡ t.Word b
 word_is h = ap t.Word h
 
-plugin_starts : (plugin : Reader Plugin) (n : ℕ) (front : List Plugin) (y : Token) (ts : List Token) → (y ≡ t.CloseBrace → ⊥) → r.plugins plugin (suc n) front (y ∷ ts) ≡ (plugin (y ∷ ts) >>= λ x. r.plugins plugin n (front ++ x.0 ∷ []) x.1)
-unfolding r.plugins
-plugin_starts plugin n front t.CloseBrace ts w = absurd (w refl)
-plugin_starts plugin n front y ts w = refl
+-- tokens of which nothing is made
+arrow_is : (d : ℕ) (ts : List Token) → r.read d y.Arrow ts ≡ one r.is_arrow ts
+arrow_is d [] = read_end d y.Arrow
+arrow_is d (t.Arrow ∷ ts) = read_front d y.Arrow t.Arrow ts
+arrow_is d (z ∷ ts) = read_front d y.Arrow z ts
 
-statement_starts : (plugin : Reader Plugin) (test : Reader Condition) (block : Reader (List Statement)) (n : ℕ) (front : List Statement) (y : Token) (ts : List Token) → (y ≡ t.CloseBrace → ⊥) → (y ≡ t.Word w.If → ⊥)
-    → r.statements plugin test block (suc n) front (y ∷ ts) ≡ (plugin (y ∷ ts) >>= λ x. r.statements plugin test block n (front ++ s.Plugin x.0 ∷ []) x.1)
-unfolding r.statements
-statement_starts plugin test block n front t.CloseBrace ts h u = absurd (h refl)
-statement_starts plugin test block n front (t.Word w.If) ts h u = absurd (u refl)
-statement_starts plugin test block n front (t.Word a) ts h u = refl
-statement_starts plugin test block n front y ts h u = refl
+close_paren_is : (d : ℕ) (ts : List Token) → r.read d y.CloseParen ts ≡ one r.is_close_paren ts
+close_paren_is d [] = read_end d y.CloseParen
+close_paren_is d (t.CloseParen ∷ ts) = read_front d y.CloseParen t.CloseParen ts
+close_paren_is d (z ∷ ts) = read_front d y.CloseParen z ts
 
-chained : {A B C : Type 0} (q : Read A) (f : A × List Token → Read B) (g : B × List Token → Read C) → (q >>= λ x. f x >>= g) ≡ ((q >>= f) >>= g)
-chained (Ok x) f g = refl
-chained (Err e) f g = refl
+not_end_is : (d : ℕ) (ts : List Token) → r.read d y.NotEnd ts ≡ Ok (tt, ts)
+not_end_is d [] = read_end d y.NotEnd
+not_end_is d (z ∷ ts) = read_front d y.NotEnd z ts
 
-pub arms_short : (test : Reader Condition) (block : Reader (List Statement)) → Shrinks test → Shrinks block → Shrinks (arms_of test block)
-arms_short test block st sb ts = short.bound (r.arm test block ts) (λ x. r.otherwise test block (length x.1) (x.0 ∷ []) x.1) (length ts) (short.arm_short test block st sb ts) (λ x. short.otherwise_short test block st sb (length x.1) (x.0 ∷ []) x.1)
+-- values
+pub members_item : (d : ℕ) (z : Token) (ts : List Token) → (z ≡ t.CloseBracket → ⊥) → r.read d y.Members (z ∷ ts) ≡ (r.read d y.Value (z ∷ ts) >>= λ x. behind (x.0 ∷ []) (r.read d y.More) x.1)
+members_item d t.CloseBracket ts n = absurd (n refl)
+members_item zero t.OpenBracket ts n = read_front zero y.Members t.OpenBracket ts ∙ sym (ap (λ q. q >>= λ x. behind (x.0 ∷ []) (r.read zero y.More) x.1) (read_front zero y.Value t.OpenBracket ts))
+members_item (suc d) t.OpenBracket ts n =
+    let on = λ (x : SettingValue × List Token). behind (x.0 ∷ []) (r.read (suc d) y.More) x.1 in
+    read_front (suc d) y.Members t.OpenBracket ts ∙ sym (ap (λ q. q >>= on) (read_front (suc d) y.Value t.OpenBracket ts) ∙ assoc (r.read d y.Members ts) (λ a. Ok (v.Array a.0, a.1)) on)
+members_item zero t.OpenBrace ts n = read_front zero y.Members t.OpenBrace ts ∙ sym (ap (λ q. q >>= λ x. behind (x.0 ∷ []) (r.read zero y.More) x.1) (read_front zero y.Value t.OpenBrace ts))
+members_item (suc d) t.OpenBrace ts n =
+    let on = λ (x : SettingValue × List Token). behind (x.0 ∷ []) (r.read (suc d) y.More) x.1 in
+    read_front (suc d) y.Members t.OpenBrace ts ∙ sym (ap (λ q. q >>= on) (read_front (suc d) y.Value t.OpenBrace ts) ∙ assoc (r.read d (y.Pairs []) ts) (λ a. Ok (v.Hash (a.0 []), a.1)) on)
+members_item d (t.Word a) ts n =
+    let on = λ (x : SettingValue × List Token). behind (x.0 ∷ []) (r.read d y.More) x.1 in
+    read_front d y.Members (t.Word a) ts ∙ sym (ap (λ q. q >>= on) (read_front d y.Value (t.Word a) ts) ∙ assoc (r.read d y.Nest ts) (λ b. Ok (b.0 (spelling a), b.1)) on)
+members_item d z ts n = read_front d y.Members z ts ∙ sym (ap (λ q. q >>= λ x. behind (x.0 ∷ []) (r.read d y.More) x.1) (read_front d y.Value z ts))
 
-no_close : (d : ℕ) (ts : List Token) (x : Plugin × List Token) → r.plugin d (t.CloseBrace ∷ ts) ≡ Ok x → ⊥
+entry_is : {B : Type 0} (d : ℕ) (ts : List Token) (k : SettingValue × List Token → Read B) → (r.entry d ts >>= k) ≡ (r.read d y.Arrow ts >>= λ a. r.read d y.Value a.1 >>= k)
+unfolding r.entry
+entry_is d ts k = assoc (one r.is_arrow ts) (λ a. r.read d y.Value a.1) k ∙ sym (ap (λ q. q >>= λ a. r.read d y.Value a.1 >>= k) (arrow_is d ts))
+
+pub pairs_item : (d : ℕ) (keys : List (List ℕ)) (k : List ℕ) (z : Token) (ts : List Token) → fresh keys (key z) ≡ Some k
+    → r.read d (y.Pairs keys) (z ∷ ts) ≡ turn {B = Entries} (r.entry d ts) (r.read d (y.Pairs (keys ++ k ∷ []))) (λ front x. front ++ (k, x) ∷ [])
+pairs_item d keys k t.CloseBrace ts h = absurd (cc)
+pairs_item d keys k z ts h =
+    read_front d (y.Pairs keys) z ts
+    ∙ ap (λ o. moved {X = Entries → Entries} r.read (on_some o (λ k. y.Arrow ∷ y.Value ∷ y.Pairs (keys ++ k ∷ []) ∷ []) (λ k p front. p.1.1.0 (front ++ (k, p.1.0) ∷ []))) None d (z ∷ ts) ts) h
+    ∙ sym (entry_is d ts (λ x. r.read d (y.Pairs (keys ++ k ∷ [])) x.1 >>= λ f. Ok ((λ front. f.0 (front ++ (k, x.0) ∷ [])), f.1)))
+
+pub settings_item : (d : ℕ) (k : List ℕ) (z : Token) (ts : List Token) → setting_name z ≡ Some k → r.read d y.Settings (z ∷ ts) ≡ turn {B = Entries} (r.entry d ts) (r.read d y.Settings) (λ front x. with_setting k x front)
+settings_item d k t.CloseBrace ts h = absurd (cc)
+settings_item d k z ts h =
+    read_front d y.Settings z ts
+    ∙ ap (λ o. moved {X = Entries → Entries} r.read (on_some o (λ _. y.Arrow ∷ y.Value ∷ y.Settings ∷ []) (λ k p front. p.1.1.0 (with_setting k p.1.0 front))) None d (z ∷ ts) ts) h
+    ∙ sym (entry_is d ts (λ x. r.read d y.Settings x.1 >>= λ f. Ok ((λ front. f.0 (with_setting k x.0 front)), f.1)))
+
+-- conditions
+pub ors_item : (d : ℕ) (j : Disjunction) (ts : List Token) → r.read d y.Ors (t.Word (w.Disjunction j) ∷ ts) ≡ turn {B = Condition} (r.joined d ts) (r.read d y.Ors) (λ l x. disjoined j l x)
+ors_item d j ts = read_front d y.Ors (t.Word (w.Disjunction j)) ts ∙ sym (joined_is d ts (λ x. r.read d y.Ors x.1 >>= λ f. Ok ((λ l. f.0 (disjoined j l x.0)), f.1)))
+
+pub unary_not : (d : ℕ) (ts : List Token) → r.read (suc d) y.Unary (t.Exclamation ∷ ts) ≡ (r.read d y.Unary ts >>= λ x. Ok (c.Not x.0, x.1))
+unary_not d ts = read_front (suc d) y.Unary t.Exclamation ts ∙ under (r.read d y.Unary ts) _ _ (λ x. ap (λ q. q >>= λ a. Ok (c.Not x.0, a.1)) (not_end_is d x.1))
+
+pub unary_group : (d : ℕ) (ts : List Token) → r.read (suc d) y.Unary (t.OpenParen ∷ ts) ≡ (r.condition d ts >>= λ x. one r.is_close_paren x.1 >>= λ q. Ok (x.0, q.1))
+unary_group d ts =
+    read_front (suc d) y.Unary t.OpenParen ts
+    ∙ ap (λ (close : Reader (Unit {0})). r.read d y.Unary ts >>= λ a. r.read d y.Ands a.1 >>= λ b. r.read d y.Ors b.1 >>= λ o. close o.1 >>= λ e. Ok (o.0 (b.0 a.0), e.1)) (λ i us. close_paren_is d us i)
+    ∙ sym (condition_is d ts (λ x. one r.is_close_paren x.1 >>= λ q. Ok (x.0, q.1)))
+
+pub unary_end : (d : ℕ) → r.read d y.Unary [] ≡ Err (is.Syntax 0)
+unary_end d = read_end d y.Unary
+
+pub unary_deep_not : (ts : List Token) → r.read 0 y.Unary (t.Exclamation ∷ ts) ≡ Err (is.Deep (suc (length ts)))
+unary_deep_not ts = read_front 0 y.Unary t.Exclamation ts
+
+pub unary_deep_group : (ts : List Token) → r.read 0 y.Unary (t.OpenParen ∷ ts) ≡ Err (is.Deep (suc (length ts)))
+unary_deep_group ts = read_front 0 y.Unary t.OpenParen ts
+
+pub ruleset unaries = (unary_not, unary_group, unary_end, unary_deep_not, unary_deep_group)
+
+pub unary_compare : (d : ℕ) (z : Token) (ts : List Token) → (z ≡ t.Exclamation → ⊥) → (z ≡ t.OpenParen → ⊥) → r.read d y.Unary (z ∷ ts) ≡ r.compare d (z ∷ ts)
+unfolding r.compare
+unary_compare d t.Exclamation ts n m = absurd (n refl)
+unary_compare d t.OpenParen ts n m = absurd (m refl)
+unary_compare zero t.OpenBracket ts n m = read_front zero y.Unary t.OpenBracket ts ∙ sym (ap (λ q. q >>= λ x. behind x.0 (r.read zero y.Tail) x.1) (read_front zero y.Operand t.OpenBracket ts))
+unary_compare (suc d) t.OpenBracket ts n m =
+    let on = λ (x : Operand × List Token). behind x.0 (r.read (suc d) y.Tail) x.1 in
+    read_front (suc d) y.Unary t.OpenBracket ts ∙ sym (ap (λ q. q >>= on) (read_front (suc d) y.Operand t.OpenBracket ts) ∙ assoc (r.read d y.Literals ts) (λ a. Ok (o.List a.0, a.1)) on)
+unary_compare d (t.Selector []) ts n m = read_front d y.Unary (t.Selector []) ts ∙ sym (ap (λ q. q >>= λ x. behind x.0 (r.read d y.Tail) x.1) (read_front d y.Operand (t.Selector []) ts))
+unary_compare d (t.Selector (a ∷ parts)) ts n m = read_front d y.Unary (t.Selector (a ∷ parts)) ts ∙ sym (ap (λ q. q >>= λ x. behind x.0 (r.read d y.Tail) x.1) (read_front d y.Operand (t.Selector (a ∷ parts)) ts))
+unary_compare d z ts n m = read_front d y.Unary z ts ∙ sym (ap (λ q. q >>= λ x. behind x.0 (r.read d y.Tail) x.1) (read_front d y.Operand z ts))
+
+-- statements
+named : {X : Type 0} (d : ℕ) (on : Symbol) (mk : List ℕ → Sems (y.SettingsBlock ∷ on ∷ []) → X) (k : Plugin × List Token → Read X) (z : Token) (ts : List Token)
+    → ((name : List ℕ) (a : Entries × List Token) → k (plugin_of name a.0, a.1) ≡ (r.read d on a.1 >>= λ f. Ok (mk name (a.0, (f.0, tt)), f.1)))
+    → moved r.read (on_some (plugin_name z) (λ _. y.SettingsBlock ∷ on ∷ []) mk) None d (z ∷ ts) ts ≡ (r.plugin d (z ∷ ts) >>= k)
 unfolding r.plugin
-no_close d ts x h = absurd (cc)
+named d on mk k z ts same = at (plugin_name z)
+  where
+    at : (o : Option (List ℕ)) → moved r.read (on_some o (λ _. y.SettingsBlock ∷ on ∷ []) mk) None d (z ∷ ts) ts ≡ ((told o (z ∷ ts) ts >>= λ n. r.read d y.SettingsBlock n.1 >>= λ x. Ok (plugin_of n.0 x.0, x.1)) >>= k)
+    at None = refl
+    at (Some name) = sym (assoc (r.read d y.SettingsBlock ts) (λ x. Ok (plugin_of name x.0, x.1)) k ∙ under (r.read d y.SettingsBlock ts) _ _ (same name))
 
-no_if : (d : ℕ) (ts : List Token) (x : Plugin × List Token) → r.plugin d (t.Word w.If ∷ ts) ≡ Ok x → ⊥
-unfolding r.plugin
-no_if d ts x h = absurd (cc)
+pub plugins_item : (d : ℕ) (z : Token) (ts : List Token) → (z ≡ t.CloseBrace → ⊥) → r.read d y.Plugins (z ∷ ts) ≡ turn {B = List Plugin} (r.plugin d (z ∷ ts)) (r.read d y.Plugins) (λ front x. front ++ x ∷ [])
+plugins_item d t.CloseBrace ts n = absurd (n refl)
+plugins_item d z ts n =
+    read_front d y.Plugins z ts
+    ∙ named {X = List Plugin → List Plugin} d y.Plugins (λ name p front. p.1.0 (front ++ plugin_of name p.0 ∷ [])) (λ x. r.read d y.Plugins x.1 >>= λ f. Ok ((λ front. f.0 (front ++ x.0 ∷ [])), f.1)) z ts (λ name a. refl)
 
-pub less_plugin : (d : ℕ) (ts behind after : List Token) (y : Token) (x : Plugin) → ts ≡ y ∷ behind → r.plugin d ts ≡ Ok (x, after) → suc (length after) ≤ length ts
-less_plugin d ts behind after y x is v =
-    let l : length ts ≡ suc (length behind) = ap length is in
-    let k = short.strict d y behind (x, after) (ap (r.plugin d) (sym is) ∙ v) in omega (arith, l, k)
+statements_plugin : (d : ℕ) (z : Token) (ts : List Token)
+    → moved {X = List Statement → List Statement} r.read (on_some (plugin_name z) (λ _. y.SettingsBlock ∷ y.Statements ∷ []) (λ name p front. p.1.0 (front ++ s.Plugin (plugin_of name p.0) ∷ []))) None d (z ∷ ts) ts
+    ≡ turn {B = List Statement} (r.plugin d (z ∷ ts) >>= λ x. Ok (s.Plugin x.0, x.1)) (r.read d y.Statements) (λ front x. front ++ x ∷ [])
+statements_plugin d z ts =
+    let on = λ (x : Statement × List Token). (r.read d y.Statements x.1 >>= λ (f : (List Statement → List Statement) × List Token). Ok ((λ (front : List Statement). f.0 (front ++ x.0 ∷ [])), f.1)) in
+    named {X = List Statement → List Statement} d y.Statements (λ name p front. p.1.0 (front ++ s.Plugin (plugin_of name p.0) ∷ [])) (λ x. on (s.Plugin x.0, x.1)) z ts (λ name a. refl)
+    ∙ sym (assoc (r.plugin d (z ∷ ts)) (λ x. Ok (s.Plugin x.0, x.1)) on)
 
-pub plugins_turn : (d n : ℕ) (front : List Plugin) (y : Token) (ts behind after : List Token) (x : Plugin) {z : Read (List Plugin)} → length ts ≤ n → r.plugins (r.plugin d) n front ts ≡ z
-    → ts ≡ y ∷ behind → r.plugin d ts ≡ Ok (x, after) → (m : ℕ) × (length after ≤ m) × (r.plugins (r.plugin d) m (front ++ x ∷ []) after ≡ z)
-plugins_turn d zero front y ts behind after x h e is v = let l : length ts ≡ suc (length behind) = ap length is in absurd (omega (arith, h, l))
-plugins_turn d (suc n) front y ts behind after x h e is v =
-    let k = less_plugin d ts behind after y x is v in
-    let u : r.plugin d (y ∷ behind) ≡ Ok (x, after) = ap (r.plugin d) (sym is) ∙ v in (
-      n,
-      omega (arith, h, k),
-      sym (plugin_starts (r.plugin d) n front y behind (λ q. no_close d behind (x, after) (ap (λ y_. r.plugin d (y_ ∷ behind)) (sym q) ∙ u)) ∙ bind_is (λ x_. r.plugins (r.plugin d) n (front ++ x_.0 ∷ []) x_.1) u refl)
-          ∙ ap (r.plugins (r.plugin d) (suc n) front) (sym is) ∙ e,
-    )
+pub statements_item : (d : ℕ) (z : Token) (ts : List Token) → (z ≡ t.CloseBrace → ⊥) → r.read d y.Statements (z ∷ ts) ≡ turn {B = List Statement} (r.statement d (z ∷ ts)) (r.read d y.Statements) (λ front x. front ++ x ∷ [])
+unfolding r.statement r.arms
+statements_item d t.CloseBrace ts n = absurd (n refl)
+statements_item d (t.Word w.If) ts n =
+    let on = λ (x : Statement × List Token). (r.read d y.Statements x.1 >>= λ (f : (List Statement → List Statement) × List Token). Ok ((λ (front : List Statement). f.0 (front ++ x.0 ∷ [])), f.1)) in
+    read_front d y.Statements (t.Word w.If) ts
+    ∙ sym (assoc (r.arms d ts) (λ x. Ok (s.Branch x.0, x.1)) on ∙ joins (r.arm d ts) (λ x. r.read d y.Otherwise x.1) (λ x f. f (x ∷ [])) (λ x. on (s.Branch x.0, x.1))
+    ∙ arm_is d ts (λ x. r.read d y.Otherwise x.1 >>= λ g. on (s.Branch (g.0 (x.0 ∷ [])), g.1)))
+statements_item d (t.Word a) ts n = read_front d y.Statements (t.Word a) ts ∙ statements_plugin d (t.Word a) ts
+statements_item d z ts n = read_front d y.Statements z ts ∙ statements_plugin d z ts
 
-pub statement_turn : (test : Reader Condition) (block : Reader (List Statement)) (d n : ℕ) (front : List Statement) (y : Token) (ts behind after : List Token) (x : Plugin) {z : Read (List Statement)} → length ts ≤ n
-    → r.statements (r.plugin d) test block n front ts ≡ z → ts ≡ y ∷ behind → r.plugin d ts ≡ Ok (x, after)
-    → (m : ℕ) × (length after ≤ m) × (r.statements (r.plugin d) test block m (front ++ s.Plugin x ∷ []) after ≡ z)
-statement_turn test block d zero front y ts behind after x h e is v = let l : length ts ≡ suc (length behind) = ap length is in absurd (omega (arith, h, l))
-statement_turn test block d (suc n) front y ts behind after x h e is v =
-    let k = less_plugin d ts behind after y x is v in
-    let u : r.plugin d (y ∷ behind) ≡ Ok (x, after) = ap (r.plugin d) (sym is) ∙ v in
-    let starts = λ (y_ : Token) (q : y ≡ y_). ap (λ a. r.plugin d (a ∷ behind)) (sym q) ∙ u in (
-      n,
-      omega (arith, h, k),
-      sym (statement_starts (r.plugin d) test block n front y behind (λ q. no_close d behind (x, after) (starts t.CloseBrace q)) (λ q. no_if d behind (x, after) (starts (t.Word w.If) q))
-          ∙ bind_is (λ x_. r.statements (r.plugin d) test block n (front ++ s.Plugin x_.0 ∷ []) x_.1) u refl)
-          ∙ ap (r.statements (r.plugin d) test block (suc n) front) (sym is) ∙ e,
-    )
+itself : {A : Type 0} (q : Read A) → (q >>= λ a. Ok (a.0, a.1)) ≡ q
+itself (Ok x) = refl
+itself (Err e) = refl
 
-pub branch_turn : (plugin : Reader Plugin) (test : Reader Condition) (block : Reader (List Statement)) → Shrinks test → Shrinks block → (n : ℕ) (front : List Statement) (ts behind after : List Token) (x : List Arm) {z : Read (List Statement)} → length ts ≤ n
-    → r.statements plugin test block n front ts ≡ z → ts ≡ t.Word w.If ∷ behind → arms_of test block behind ≡ Ok (x, after)
-    → (m : ℕ) × (length after ≤ m) × (r.statements plugin test block m (front ++ s.Branch x ∷ []) after ≡ z)
-unfolding r.statements
-branch_turn plugin test block st sb zero front ts behind after x h e is v = let l : length ts ≡ suc (length behind) = ap length is in absurd (omega (arith, h, l))
-branch_turn plugin test block st sb (suc n) front ts behind after x h e is v =
-    let k = less (arms_of test block) ts behind after (t.Word w.If) x (arms_short test block st sb) is v in (
-      n,
-      omega (arith, h, k),
-      sym (chained (r.arm test block behind) (λ x_. r.otherwise test block (length x_.1) (x_.0 ∷ []) x_.1) (λ q. r.statements plugin test block n (front ++ s.Branch q.0 ∷ []) q.1) ∙ bind_is (λ q. r.statements plugin test block n (front ++ s.Branch q.0 ∷ []) q.1) v refl)
-          ∙ ap (r.statements plugin test block (suc n) front) (sym is) ∙ e,
-    )
+pub otherwise_if : (d : ℕ) (ts : List Token) → r.read d y.Otherwise (t.Word w.Else ∷ t.Word w.If ∷ ts) ≡ turn {B = List Arm} (r.arm d ts) (r.read d y.Otherwise) (λ front x. front ++ x ∷ [])
+otherwise_if d ts =
+    read_front d y.Otherwise (t.Word w.Else) (t.Word w.If ∷ ts)
+    ∙ ap (λ q. q >>= λ a. Ok (a.0, a.1)) (read_front d y.ElseBody (t.Word w.If) ts ∙ sym (arm_is d ts (λ x. r.read d y.Otherwise x.1 >>= λ f. Ok ((λ front. f.0 (front ++ x.0 ∷ [])), f.1))))
+    ∙ itself (turn {B = List Arm} (r.arm d ts) (r.read d y.Otherwise) (λ front x. front ++ x ∷ []))
 
--- behind a token and another
-pub less_two : {A : Type 0} (read : Reader A) (ts behind next after : List Token) (y z : Token) (x : A) → Shrinks read → ts ≡ y ∷ behind → behind ≡ z ∷ next → read next ≡ Ok (x, after) → suc (length after) ≤ length ts
-less_two read ts behind next after y z x sr is nis v = let l : length ts ≡ suc (length behind) = ap length is in let k = less read behind next after z x sr nis v in omega (arith, l, k)
+-- a plugin at the front of the tokens
+pub plugins_turn : (d : ℕ) {ts behind : List Token} {z : Token} → ts ≡ z ∷ behind → (z ≡ t.CloseBrace → ⊥) → r.read d y.Plugins ts ≡ turn {B = List Plugin} (r.plugin d ts) (r.read d y.Plugins) (λ front x. front ++ x ∷ [])
+plugins_turn d {behind = behind} {z = z} is n = ap (r.read d y.Plugins) is ∙ plugins_item d z behind n ∙ ap (λ us. turn {B = List Plugin} (r.plugin d us) (r.read d y.Plugins) (λ front x. front ++ x ∷ [])) (sym is)
 
-else_last : (test : Reader Condition) (block : Reader (List Statement)) (n : ℕ) (front : List Arm) → r.otherwise test block n front (t.Word w.Else ∷ []) ≡ (block [] >>= λ x. Ok (front ++ last_arm x.0 ∷ [], x.1))
-unfolding r.otherwise
-else_last test block zero front = refl
-else_last test block (suc n) front = refl
+pub statements_turn : (d : ℕ) {ts behind : List Token} {z : Token} → ts ≡ z ∷ behind → (z ≡ t.CloseBrace → ⊥) → r.read d y.Statements ts ≡ turn {B = List Statement} (r.statement d ts) (r.read d y.Statements) (λ front x. front ++ x ∷ [])
+statements_turn d {behind = behind} {z = z} is n = ap (r.read d y.Statements) is ∙ statements_item d z behind n ∙ ap (λ us. turn {B = List Statement} (r.statement d us) (r.read d y.Statements) (λ front x. front ++ x ∷ [])) (sym is)
 
-no_block : (d : ℕ) → r.block d [] ≡ refuse []
-unfolding r.block
-no_block zero = refl
-no_block (suc d) = refl
+if_is : (z : Token) → r.is_if z ≡ true → z ≡ t.Word w.If
+if_is (t.Word w.If) h = refl
+if_is (t.Word a) h = absurd (cc)
+if_is z h = absurd (cc)
 
-pub else_end : (test : Reader Condition) (d n : ℕ) (front : List Arm) (ts behind : List Token) → ts ≡ t.Word w.Else ∷ behind → behind ≡ [] → r.otherwise test (r.block d) n front ts ≡ refuse behind
-else_end test d n front ts behind is nis =
-    ap (r.otherwise test (r.block d) n front) (is ∙ ap (λ b. t.Word w.Else ∷ b) nis) ∙ else_last test (r.block d) n front ∙ ap (λ q. q >>= λ x. Ok (front ++ last_arm x.0 ∷ [], x.1)) (no_block d) ∙ ap (λ b. refuse b) (sym nis)
+-- behind an `else`
+pub otherwise_turn : (d : ℕ) {ts behind next : List Token} {z : Token} → ts ≡ t.Word w.Else ∷ behind → behind ≡ z ∷ next → r.is_if z ≡ true
+    → r.read d y.Otherwise ts ≡ turn {B = List Arm} (r.arm d next) (r.read d y.Otherwise) (λ front x. front ++ x ∷ [])
+otherwise_turn d {next = next} {z = z} is nis h = ap (r.read d y.Otherwise) (is ∙ ap (λ us. t.Word w.Else ∷ us) (nis ∙ ap (λ a. a ∷ next) (if_is z h))) ∙ otherwise_if d next
 
-pub else_turn : (test : Reader Condition) (block : Reader (List Statement)) → Shrinks test → Shrinks block → (n : ℕ) (front : List Arm) (ts behind next after : List Token) (x : Arm) {z : Read (List Arm)} → length ts ≤ n
-    → r.otherwise test block n front ts ≡ z → ts ≡ t.Word w.Else ∷ behind → behind ≡ t.Word w.If ∷ next → r.arm test block next ≡ Ok (x, after)
-    → (m : ℕ) × (length after ≤ m) × (r.otherwise test block m (front ++ x ∷ []) after ≡ z)
-unfolding r.otherwise
-else_turn test block st sb zero front ts behind next after x h e is nis v = let l : length ts ≡ suc (length behind) = ap length is in absurd (omega (arith, h, l))
-else_turn test block st sb (suc n) front ts behind next after x h e is nis v =
-    let l : length ts ≡ suc (length behind) = ap length is in
-    let k = less (r.arm test block) behind next after (t.Word w.If) x (short.arm_short test block st sb) nis v in (
-      n,
-      omega (arith, h, k, l),
-      sym (bind_is (λ x_. r.otherwise test block n (front ++ x_.0 ∷ []) x_.1) v refl) ∙ ap (r.otherwise test block (suc n) front) (sym (is ∙ ap (λ ys. t.Word w.Else ∷ ys) nis)) ∙ e,
-    )
+-- an entry of a hash, and a setting
+pub pairs_turn : (d : ℕ) (front : Entries) (k : List ℕ) {ts behind : List Token} {z : Token} → ts ≡ z ∷ behind → r.fresh_key front z ≡ Some k
+    → r.read d (y.Pairs (r.keys_of front)) ts ≡ turn {B = Entries} (r.entry d behind) (r.read d (y.Pairs (r.keys_of front ++ k ∷ []))) (λ front x. front ++ (k, x) ∷ [])
+pairs_turn d front k {behind = behind} {z = z} is h = ap (r.read d (y.Pairs (r.keys_of front))) is ∙ pairs_item d (r.keys_of front) k z behind h
 
-pub section_turn : {A : Type 0} (d : ℕ) (kind : Section) (read : Reader A) (with : Config → A → Config) → Shrinks read
-    → ((n : ℕ) (front : Config) (ts : List Token) → r.sections d (suc n) front (t.Word (w.Section kind) ∷ ts) ≡ (read ts >>= λ x. r.sections d n (with front x.0) x.1))
-    → (n : ℕ) (front : Config) (ts behind after : List Token) (x : A) {z : Read Config} → length ts ≤ n → r.sections d n front ts ≡ z → ts ≡ t.Word (w.Section kind) ∷ behind → read behind ≡ Ok (x, after)
-    → (m : ℕ) × (length after ≤ m) × (r.sections d m (with front x) after ≡ z)
-section_turn d kind read with sr begins zero front ts behind after x h e is v = let l : length ts ≡ suc (length behind) = ap length is in absurd (omega (arith, h, l))
-section_turn d kind read with sr begins (suc n) front ts behind after x h e is v =
-    let k = less read ts behind after (t.Word (w.Section kind)) x sr is v in (
-      n,
-      omega (arith, h, k),
-      sym (begins n front behind ∙ bind_is (λ x_. r.sections d n (with front x_.0) x_.1) v refl) ∙ ap (r.sections d (suc n) front) (sym is) ∙ e,
-    )
+keys_more : (front : Entries) (k : List ℕ) (x : SettingValue) → r.keys_of (front ++ (k, x) ∷ []) ≡ r.keys_of front ++ k ∷ []
+keys_more [] k x = refl
+keys_more (e ∷ front) k x = ap (λ l. e.0 ∷ l) (keys_more front k x)
 
-pub input_begins : (d n : ℕ) (front : Config) (ts : List Token) → r.sections d (suc n) front (t.Word (w.Section kind.Input) ∷ ts) ≡ (r.plugins_block d ts >>= λ x. r.sections d n (with_inputs front x.0) x.1)
-unfolding r.sections
-input_begins d n front ts = refl
+pub pairs_turned : (d : ℕ) (front : Entries) (k : List ℕ) (x : SettingValue) {ts rest after : List Token} {z : Token} {all : Read Entries} → ts ≡ z ∷ rest → r.fresh_key front z ≡ Some k
+    → behind front (r.read d (y.Pairs (r.keys_of front))) ts ≡ all → r.entry d rest ≡ Ok (x, after) → behind (front ++ (k, x) ∷ []) (r.read d (y.Pairs (r.keys_of (front ++ (k, x) ∷ [])))) after ≡ all
+pairs_turned d front k x {after = after} is h all v =
+    ap (λ keys. behind (front ++ (k, x) ∷ []) (r.read d (y.Pairs keys)) after) (keys_more front k x)
+    ∙ turned (r.read d (y.Pairs (r.keys_of front))) (r.read d (y.Pairs (r.keys_of front ++ k ∷ []))) (λ front x. front ++ (k, x) ∷ []) front _ (pairs_turn d front k is h) all v
 
-pub filter_begins : (d n : ℕ) (front : Config) (ts : List Token) → r.sections d (suc n) front (t.Word (w.Section kind.Filter) ∷ ts) ≡ (r.block d ts >>= λ x. r.sections d n (with_filters front x.0) x.1)
-unfolding r.sections
-filter_begins d n front ts = refl
+pub settings_turn : (d : ℕ) (k : List ℕ) {ts behind : List Token} {z : Token} → ts ≡ z ∷ behind → setting_name z ≡ Some k → r.read d y.Settings ts ≡ turn {B = Entries} (r.entry d behind) (r.read d y.Settings) (λ front x. with_setting k x front)
+settings_turn d k {behind = behind} {z = z} is h = ap (r.read d y.Settings) is ∙ settings_item d k z behind h
 
-pub output_begins : (d n : ℕ) (front : Config) (ts : List Token) → r.sections d (suc n) front (t.Word (w.Section kind.Output) ∷ ts) ≡ (r.block d ts >>= λ x. r.sections d n (with_outputs front x.0) x.1)
-unfolding r.sections
-output_begins d n front ts = refl
+-- the first member of an array
+pub members_turn : (d : ℕ) {ts rest after : List Token} {z : Token} {x : SettingValue} → ts ≡ z ∷ rest → (z ≡ t.CloseBracket → ⊥) → r.read d y.Value ts ≡ Ok (x, after) → r.read d y.Members ts ≡ behind (x ∷ []) (r.read d y.More) after
+members_turn d {rest = rest} {z = z} is n v = ap (r.read d y.Members) is ∙ members_item d z rest n ∙ bind_is (λ x. behind (x.0 ∷ []) (r.read d y.More) x.1) (ap (r.read d y.Value) (sym is) ∙ v) refl

@@ -1,9 +1,9 @@
 -- What a function returned is what reading gives, unless memory ran out.
 use Rattle.std.specs.Prelude.{◌≡◌, ◌∷◌, [], ℕ, List, length, Option, Some, None, Result, Ok, Err}
 use Rattle.std.specs.Borrow.{Bor}
-use Rattle.config_grammar.specs.declared.token.Token.{Token}
-use Rattle.config_grammar.specs.declared.token.Lexeme.{Lexeme}
-use Rattle.config_laws.specs.Verdicts as is
+use Rattle.config_lex.specs.declared.token.Token.{Token}
+use Rattle.config_lex.specs.declared.token.Lexeme.{Lexeme}
+use Rattle.config_grammar.specs.Verdicts as is
 use Rattle.config_parse.specs.Read.{Read, Reader}
 use Rattle.config_parse.specs.Seen.{tokens_of}
 use Rattle.config_parse.specs.declared.error.ReadError.{ReadError}
@@ -14,22 +14,21 @@ Fails errors.Memory read = Unit {0}
 Fails (errors.Syntax left) read = read ≡ Err (is.Syntax left)
 Fails (errors.Deep left) read = read ≡ Err (is.Deep left)
 
--- what was made of the lexemes, with those behind it, is what their tokens read as
-abbrev pub GivesRead : {A : Type 0} → Result (A × Bor (List Lexeme)) ReadError → Read A → Type 0
-GivesRead (Ok x) read = read ≡ Ok (x.0, tokens_of x.1.now)
-GivesRead (Err e) read = Fails e read
+-- what was made of the lexemes stands for what is read, and the tokens of those behind it are behind that
+abbrev pub GivesRead : {A B : Type 0} → (A → B) → Result (A × Bor (List Lexeme)) ReadError → Read B → Type 0
+GivesRead stands (Ok x) read = read ≡ Ok (stands x.0, tokens_of x.1.now)
+GivesRead stands (Err e) read = Fails e read
+
+abbrev pub GivesAs : {A B : Type 0} → (A → B) → Result (A × Bor (List Lexeme)) ReadError → Reader B → List Lexeme → Type 0
+GivesAs stands result reader found = GivesRead stands result (reader (tokens_of found))
 
 abbrev pub Gives : {A : Type 0} → Result (A × Bor (List Lexeme)) ReadError → Reader A → List Lexeme → Type 0
-Gives result reader found = GivesRead result (reader (tokens_of found))
+Gives result reader found = GivesRead (λ x. x) result (reader (tokens_of found))
 
 -- the same of a token of which nothing is made
 abbrev pub Skips : Result (Bor (List Lexeme)) ReadError → Reader (Unit {0}) → List Lexeme → Type 0
 Skips (Ok behind) read found = read (tokens_of found) ≡ Ok (tt, tokens_of behind.now)
 Skips (Err e) read found = Fails e (read (tokens_of found))
-
--- a reader whose turns are counted, with a turn for each token
-abbrev pub full : {A : Type 0} → (ℕ → Reader A) → Reader A
-full read ts = read (length ts) ts
 
 -- the first token, and those behind it
 abbrev pub IsFront : List Lexeme → Bor Token × Bor (List Lexeme) → Type 0

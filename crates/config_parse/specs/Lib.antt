@@ -1,7 +1,6 @@
 pub mod Read
 pub mod Seen
 pub mod Gives
-pub mod Places
-pub mod Arms
+pub mod Tables
 pub mod Told
 pub mod Answers

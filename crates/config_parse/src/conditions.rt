@@ -1,13 +1,16 @@
 //! Conditions.
 
 ghost use Rattle.config_grammar.specs.Words as words;
-ghost use Rattle.config_parse.specs.Gives.{Gives, Skips, full};
+ghost use Rattle.config_grammar.specs.Symbols as symbol;
+ghost use Rattle.config_parse.specs.Gives.{Gives, Skips};
 ghost use Rattle.config_parse.specs.Read as spec;
+ghost use Rattle.std.specs.Prelude.{ℕ};
 
 use crate::error::ReadError;
 use crate::names::{conjoined, disjoined, literal, operand_token, pattern};
 use crate::tokens::{below, first, next, refuse};
-use config_grammar::{Condition, Lexeme, Literal, MatchPattern, Operand, Token, Word};
+use config_lex::{Lexeme, Token, Word};
+use config_tree::{Condition, Literal, MatchPattern, Operand};
 use plain_data::{Boxed, Items};
 use std::alloc::Global;
 
@@ -23,12 +26,12 @@ fn one_literal(tokens: &[Lexeme]) -> Result<(Literal, &[Lexeme]), ReadError>
 }
 
 /// Behind these literals of a list.
-#[tactic(auto, unfolding(crate::specs::Read::more))]
+#[tactic(auto, using(crate::proofs::Turns::turns))]
 fn more_literals(
     front: Items<Literal>,
     tokens: &[Lexeme],
 ) -> Result<(Items<Literal>, &[Lexeme]), ReadError>
-    ensures { Gives result (full (λ n. spec.more (spec.one words.literal) n front)) tokens.now }
+    ensures { (d : ℕ) → Gives result (spec.behind front (spec.read d symbol.MoreLiterals)) tokens.now }
 {
     let mut found = front;
     let mut rest = tokens;
@@ -49,9 +52,9 @@ fn more_literals(
 }
 
 /// Behind the `[` of a list.
-#[tactic(auto, unfolding(crate::specs::Read::members))]
+#[tactic(auto, using(crate::proofs::Turns::turns))]
 fn literals(alloc: Global, tokens: &[Lexeme]) -> Result<(Items<Literal>, &[Lexeme]), ReadError>
-    ensures { Gives result (spec.members (spec.one words.literal)) tokens.now }
+    ensures { (d : ℕ) → Gives result (spec.read d symbol.Literals) tokens.now }
 {
     let (token, rest) = next(tokens)?;
     let mut found = Items::new(alloc);
@@ -65,13 +68,13 @@ fn literals(alloc: Global, tokens: &[Lexeme]) -> Result<(Items<Literal>, &[Lexem
     }
 }
 
-#[tactic(auto, unfolding(crate::specs::Read::operand))]
+#[tactic(auto, using(crate::proofs::Turns::turns))]
 fn operand(
     alloc: Global,
     depth: usize,
     tokens: &[Lexeme],
 ) -> Result<(Operand, &[Lexeme]), ReadError>
-    ensures { Gives result (spec.operand depth) tokens.now }
+    ensures { Gives result (spec.read depth symbol.Operand) tokens.now }
 {
     let (token, rest) = next(tokens)?;
     match token {
@@ -120,14 +123,14 @@ fn close_paren(tokens: &[Lexeme]) -> Result<&[Lexeme], ReadError>
 }
 
 /// Behind the first operand of a comparison.
-#[tactic(auto, unfolding(crate::specs::Read::tail))]
+#[tactic(auto, using(crate::proofs::Turns::turns))]
 fn tail(
     alloc: Global,
     depth: usize,
     left: Operand,
     tokens: &[Lexeme],
 ) -> Result<(Condition, &[Lexeme]), ReadError>
-    ensures { Gives result (spec.tail depth left) tokens.now }
+    ensures { Gives result (spec.behind left (spec.read depth symbol.Tail)) tokens.now }
 {
     let Some((token, behind)) = first(tokens) else {
         return Ok((Condition::Operand(left), tokens));
@@ -135,11 +138,11 @@ fn tail(
     match token {
         Token::Comparison(comparison) => {
             let (right, rest) = operand(alloc, depth, behind)?;
-            Ok((Condition::compared(*comparison, left, right), rest))
+            Ok((Condition::Compared(*comparison, left, right), rest))
         }
         Token::Matching(matching) => {
             let (right, rest) = one_pattern(behind)?;
-            Ok((Condition::matched(*matching, left, right), rest))
+            Ok((Condition::Matched(*matching, left, right), rest))
         }
         Token::Word(Word::In) => {
             let (right, rest) = operand(alloc, depth, behind)?;
@@ -168,14 +171,14 @@ fn compare(
 }
 
 /// A unary part: `!` before one, a condition in parentheses, or a comparison.
-#[tactic(auto, unfolding(crate::specs::Read::unary))]
+#[tactic(auto, using(crate::proofs::Turns::unaries))]
 #[cycle(conditions)]
 fn unary(
     alloc: Global,
     depth: usize,
     tokens: &[Lexeme],
 ) -> Result<(Boxed<Condition>, &[Lexeme]), ReadError>
-    ensures { Gives result (spec.unary depth) tokens.now }
+    ensures { Gives result (spec.read depth symbol.Unary) tokens.now }
 {
     let (token, rest) = next(tokens)?;
     match token {
@@ -195,7 +198,7 @@ fn unary(
 }
 
 /// Behind an operand of `and` and `nand`.
-#[tactic(auto, unfolding(crate::specs::Read::ands))]
+#[tactic(auto, using(crate::proofs::Turns::turns))]
 #[cycle(conditions)]
 fn ands(
     alloc: Global,
@@ -203,7 +206,7 @@ fn ands(
     front: Boxed<Condition>,
     tokens: &[Lexeme],
 ) -> Result<(Boxed<Condition>, &[Lexeme]), ReadError>
-    ensures { Gives result (full (λ n. spec.ands (spec.unary depth) n front)) tokens.now }
+    ensures { Gives result (spec.behind front (spec.read depth symbol.Ands)) tokens.now }
 {
     let mut left = front;
     let mut rest = tokens;
@@ -229,14 +232,14 @@ fn joined(
     depth: usize,
     tokens: &[Lexeme],
 ) -> Result<(Boxed<Condition>, &[Lexeme]), ReadError>
-    ensures { Gives result (spec.joined (spec.unary depth)) tokens.now }
+    ensures { Gives result (spec.joined depth) tokens.now }
 {
     let (left, rest) = unary(alloc, depth, tokens)?;
     ands(alloc, depth, left, rest)
 }
 
 /// Behind an operand of `or` and `xor`.
-#[tactic(auto, unfolding(crate::specs::Read::ors))]
+#[tactic(auto, using(crate::proofs::Turns::turns))]
 #[cycle(conditions)]
 fn ors(
     alloc: Global,
@@ -244,7 +247,7 @@ fn ors(
     front: Boxed<Condition>,
     tokens: &[Lexeme],
 ) -> Result<(Boxed<Condition>, &[Lexeme]), ReadError>
-    ensures { Gives result (full (λ n. spec.ors (spec.unary depth) n front)) tokens.now }
+    ensures { Gives result (spec.behind front (spec.read depth symbol.Ors)) tokens.now }
 {
     let mut left = front;
     let mut rest = tokens;
@@ -270,7 +273,7 @@ pub fn condition(
     depth: usize,
     tokens: &[Lexeme],
 ) -> Result<(Boxed<Condition>, &[Lexeme]), ReadError>
-    ensures { Gives result (spec.test depth) tokens.now }
+    ensures { Gives result (spec.condition depth) tokens.now }
 {
     let (left, rest) = joined(alloc, depth, tokens)?;
     ors(alloc, depth, left, rest)

@@ -1,85 +1,133 @@
-//! How settings that stand twice are joined.
+//! Values while they are read, and how settings that stand twice are joined.
 
-ghost use Rattle.std.specs.Prelude.{◌≡◌, IfOk};
-ghost use Rattle.config_grammar.specs.Joining as joining;
-ghost use Rattle.config_parse.specs.Places.{key_place};
+ghost use Rattle.std.specs.Prelude.{◌≡◌, IfOk, OnOk};
+ghost use Rattle.config_tree.specs.Joining as joining;
+ghost use Rattle.config_parse.specs.Tables.{value_of, values_of, held_at, JoinsTo, IsSameElsewhere, HasSetting};
 
-use config_grammar::SettingValue;
+use config_tree::{Plugin, SettingValue};
+use event_tree::Number;
+use indexmap::IndexMap;
 use plain_data::{Items, Text};
-use std::alloc::AllocError;
+use std::alloc::{AllocError, Global};
 
 /// Names, or keys, with their values.
 pub type Entries = Items<(Text, SettingValue)>;
 
-/// How many entries stand in front of the first with the key; all of them where none has it.
-pub fn find(entries: &[(Text, SettingValue)], key: &str) -> usize
-    ensures { result ≡ key_place key.now entries.now }
+/// A hash while it is read: each key is found at once, and the keys stay in the order of the text.
+pub type Table = IndexMap<Text, SettingValue>;
+
+/// The settings of a plugin while they are read.
+pub type ReadSettings = IndexMap<Text, ReadValue>;
+
+/// A value as it is read. A setting's may be joined with a later one.
+#[derive(Drop)]
+pub enum ReadValue {
+    Text(Text),
+    Number(Number),
+    Nested(Plugin),
+    Array(Items<SettingValue>),
+    Hash(Table),
+}
+
+/// The entries of a hash, once it is read.
+fn entries_of(alloc: Global, table: Table) -> Result<Entries, AllocError>
+    ensures { IfOk result (λ entries. entries ≡ table.entries) }
 {
-    for at in 0..entries.len() {
-        if entries[at].0.as_str() == key {
-            return at;
-        }
+    let mut entries = Items::with_capacity(alloc, table.len())?;
+    for entry in table {
+        entries.push(entry)?;
     }
-    entries.len()
+    Ok(entries)
+}
+
+/// A value, once it is read and joined.
+pub fn finished(alloc: Global, value: ReadValue) -> Result<SettingValue, AllocError>
+    ensures { IfOk result (λ made. made ≡ value_of value) }
+{
+    match value {
+        ReadValue::Text(text) => Ok(SettingValue::Text(text)),
+        ReadValue::Number(number) => Ok(SettingValue::Number(number)),
+        ReadValue::Nested(plugin) => Ok(SettingValue::Nested(plugin)),
+        ReadValue::Array(members) => Ok(SettingValue::Array(members)),
+        ReadValue::Hash(table) => Ok(SettingValue::Hash(entries_of(alloc, table)?)),
+    }
+}
+
+/// The settings of a plugin, once they are read.
+pub fn finished_settings(alloc: Global, settings: ReadSettings) -> Result<Entries, AllocError>
+    ensures { IfOk result (λ entries. entries ≡ values_of settings.entries) }
+{
+    let mut entries = Items::with_capacity(alloc, settings.len())?;
+    for (name, value) in settings {
+        entries.push((name, finished(alloc, value)?))?;
+    }
+    Ok(entries)
 }
 
 /// The entries with this one: in the place of the one with this key, or at the end.
-fn with_entry(entries: Entries, entry: (Text, SettingValue)) -> Result<Entries, AllocError>
-    ensures { IfOk result (λ made. made ≡ joining.with_entry entry.0 entry.1 entries) }
+pub fn with_entry(table: Table, key: Text, value: SettingValue) -> Result<Table, AllocError>
+    ensures { IfOk result (λ made. made.entries ≡ joining.with_entry key value table.entries) }
 {
-    let mut entries = entries;
-    let at = find(entries.as_slice(), entry.0.as_str());
-    if at < entries.len() {
-        entries.set(at, entry);
-        return Ok(entries);
-    }
-    entries.push(entry)?;
-    Ok(entries)
+    let mut table = table;
+    table.insert(key, value)?;
+    Ok(table)
 }
 
 /// Two hashes as one: of a key that both have, the later value in the place of the first.
-fn with_entries(entries: Entries, later: Entries) -> Result<Entries, AllocError>
-    ensures { IfOk result (λ made. made ≡ joining.with_entries entries later) }
+fn with_entries(table: Table, later: Table) -> Result<Table, AllocError>
+    ensures { IfOk result (λ made. made.entries ≡ joining.with_entries table.entries later.entries) }
 {
-    let mut entries = entries;
-    for entry in later.into_vec() {
-        entries = with_entry(entries, entry)?;
+    let mut table = table;
+    for (key, value) in later {
+        table = with_entry(table, key, value)?;
     }
-    Ok(entries)
+    Ok(table)
 }
 
-/// Two values of one setting: two arrays as one, two hashes as one, and else the later.
-fn joined_value(value: SettingValue, later: SettingValue) -> Result<SettingValue, AllocError>
-    ensures { IfOk result (λ made. made ≡ joining.joined_value value later) }
+/// A value of a setting with the earlier one, where there is one: two arrays as one, two hashes as one, and else the later.
+fn joined(earlier: Option<ReadValue>, later: ReadValue) -> Result<ReadValue, AllocError>
+    ensures { IfOk result (JoinsTo earlier later) }
 {
-    match (value, later) {
-        (SettingValue::Array(members), SettingValue::Array(more)) => {
+    match (earlier, later) {
+        (Some(ReadValue::Array(members)), ReadValue::Array(more)) => {
             let mut members = members;
             members.append(more)?;
-            Ok(SettingValue::Array(members))
+            Ok(ReadValue::Array(members))
         }
-        (SettingValue::Hash(entries), SettingValue::Hash(more)) => {
-            Ok(SettingValue::Hash(with_entries(entries, more)?))
+        (Some(ReadValue::Hash(table)), ReadValue::Hash(more)) => {
+            Ok(ReadValue::Hash(with_entries(table, more)?))
         }
         (_, later) => Ok(later),
     }
 }
 
+/// The value that stands at the name, taken out; none where none stands there. Something else takes its place.
+fn taken(
+    alloc: Global,
+    settings: &mut ReadSettings,
+    name: &Text,
+) -> Result<Option<ReadValue>, AllocError>
+    ensures earlier { IfOk result (λ earlier. earlier ≡ held_at name.now settings.old.entries) }
+    ensures rest { OnOk result (IsSameElsewhere name.now settings.old.entries settings.new.entries) }
+{
+    if settings.contains_key(name) {
+        Ok(settings.insert(name.copy()?, ReadValue::Array(Items::new(alloc)))?)
+    } else {
+        Ok(None)
+    }
+}
+
 /// The settings with this one: in the place of the one with this name, joined with it, or at the end.
 pub fn with_setting(
-    settings: Entries,
+    alloc: Global,
+    settings: ReadSettings,
     name: Text,
-    value: SettingValue,
-) -> Result<Entries, AllocError>
-    ensures { IfOk result (λ made. made ≡ joining.with_setting name value settings) }
+    value: ReadValue,
+) -> Result<ReadSettings, AllocError>
+    ensures { IfOk result (λ made. HasSetting name value settings.entries made.entries) }
 {
     let mut settings = settings;
-    let at = find(settings.as_slice(), name.as_str());
-    if at < settings.len() {
-        let (_, earlier) = settings.remove(at);
-        settings.insert(at, (name, joined_value(earlier, value)?))?;
-        return Ok(settings);
-    }
-    settings.push((name, value))?;
+    let earlier = taken(alloc, &mut settings, &name)?;
+    settings.insert(name, joined(earlier, value)?)?;
     Ok(settings)
 }

@@ -2,12 +2,14 @@
 
 ghost use Rattle.std.specs.Prelude.{◌≡◌, IfOk};
 ghost use Rattle.config_grammar.specs.Words as words;
+ghost use Rattle.config_tree.specs.Joints as joints;
+ghost use Rattle.std.specs.Option.{option_map};
 ghost use Rattle.config_parse.specs.Gives.{Finds};
+ghost use Rattle.config_parse.specs.Tables.{value_of};
 
-use config_grammar::{
-    Condition, Conjunction, Disjunction, Literal, MatchPattern, Operand, Section, SettingValue,
-    Token, Word,
-};
+use crate::joining::ReadValue;
+use config_lex::{Section, Token, Word};
+use config_tree::{Condition, Conjunction, Disjunction, Literal, MatchPattern, Operand};
 use event_tree::Path;
 use plain_data::{Boxed, Text};
 use std::alloc::{AllocError, Global};
@@ -65,12 +67,12 @@ pub fn key(token: &Token) -> Option<&str>
 }
 
 /// A value that is one token, but for a bareword.
-pub fn scalar(token: &Token) -> Result<Option<SettingValue>, AllocError>
-    ensures { IfOk result (λ found. found ≡ words.scalar token.now) }
+pub fn scalar(token: &Token) -> Result<Option<ReadValue>, AllocError>
+    ensures { IfOk result (λ found. option_map value_of found ≡ words.scalar token.now) }
 {
     match token {
-        Token::Quoted(text) => Ok(Some(SettingValue::Text(text.copy()?))),
-        Token::Number(number, _) => Ok(Some(SettingValue::Number(*number))),
+        Token::Quoted(text) => Ok(Some(ReadValue::Text(text.copy()?))),
+        Token::Number(number, _) => Ok(Some(ReadValue::Number(*number))),
         _ => Ok(None),
     }
 }
@@ -119,9 +121,12 @@ pub fn conjoined(
     left: Boxed<Condition>,
     right: Boxed<Condition>,
 ) -> Result<Boxed<Condition>, AllocError>
-    ensures { IfOk result (λ made. made ≡ words.conjoined joint left right) }
+    ensures { IfOk result (λ made. made ≡ joints.conjoined joint left right) }
 {
-    Boxed::new(alloc, Condition::conjoined(joint, left, right))
+    Boxed::new(
+        alloc,
+        Condition::conjoined(alloc, joint, left.into_inner(), right.into_inner())?,
+    )
 }
 
 /// Two conditions with a joint between them that binds less tightly.
@@ -131,7 +136,10 @@ pub fn disjoined(
     left: Boxed<Condition>,
     right: Boxed<Condition>,
 ) -> Result<Boxed<Condition>, AllocError>
-    ensures { IfOk result (λ made. made ≡ words.disjoined joint left right) }
+    ensures { IfOk result (λ made. made ≡ joints.disjoined joint left right) }
 {
-    Boxed::new(alloc, Condition::disjoined(joint, left, right))
+    Boxed::new(
+        alloc,
+        Condition::disjoined(alloc, joint, left.into_inner(), right.into_inner())?,
+    )
 }

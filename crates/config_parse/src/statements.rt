@@ -1,35 +1,34 @@
 //! Statements and sections.
 
 ghost use Rattle.std.specs.Prelude.{◌≡◌, ◌∷◌, ◌++◌, [], IfOk, OnOk};
-ghost use Rattle.config_grammar.specs.Joining as joining;
-ghost use Rattle.config_laws.specs.Machine.{last_arm};
-ghost use Rattle.config_parse.specs.Gives.{Gives, full};
-ghost use Rattle.config_parse.specs.Arms.{arms_of};
+ghost use Rattle.config_tree.specs.Joining as joining;
+ghost use Rattle.config_grammar.specs.Machine.{last_arm};
+ghost use Rattle.config_grammar.specs.Symbols as symbol;
+ghost use Rattle.config_parse.specs.Gives.{Gives};
 ghost use Rattle.config_parse.specs.Read as spec;
 
 use crate::conditions::condition;
 use crate::error::ReadError;
-use crate::tokens::{below, first, next, refuse};
+use crate::tokens::{below, first, is_if, next, refuse};
 use crate::values::plugin;
-use config_grammar::{Arm, Config, Lexeme, Plugin, Section, Statement, Token, Word};
+use config_lex::{Lexeme, Section, Token, Word};
+use config_tree::{Arm, Config, Plugin, Statement};
 use plain_data::Items;
 use std::alloc::{AllocError, Global};
 
 /// Behind the `{` of an input section: plugins alone.
-#[tactic(auto, unfolding(crate::specs::Read::plugins))]
+#[tactic(auto, using(crate::proofs::Turns::turns))]
 fn plugins(
     alloc: Global,
     depth: usize,
     tokens: &[Lexeme],
 ) -> Result<(Items<Plugin>, &[Lexeme]), ReadError>
-    ensures { Gives result (full (λ n. spec.plugins (spec.plugin depth) n [])) tokens.now }
+    ensures { Gives result (spec.behind [] (spec.read depth symbol.Plugins)) tokens.now }
 {
     let mut found: Items<Plugin> = Items::new(alloc);
     let mut rest = tokens;
     loop {
-        let Some((token, behind)) = first(rest) else {
-            return Err(refuse(rest));
-        };
+        let (token, behind) = next(rest)?;
         match token {
             Token::CloseBrace => return Ok((found, behind)),
             _ => {
@@ -42,13 +41,13 @@ fn plugins(
 }
 
 /// An input section behind its word.
-#[tactic(auto, unfolding(crate::specs::Read::plugins_block))]
+#[tactic(auto, using(crate::proofs::Turns::turns))]
 fn plugins_block(
     alloc: Global,
     depth: usize,
     tokens: &[Lexeme],
 ) -> Result<(Items<Plugin>, &[Lexeme]), ReadError>
-    ensures { Gives result (spec.plugins_block depth) tokens.now }
+    ensures { Gives result (spec.read depth symbol.PluginsBlock) tokens.now }
 {
     let (token, rest) = next(tokens)?;
     match token {
@@ -61,9 +60,10 @@ fn plugins_block(
 }
 
 /// A condition and a block.
+#[tactic(auto, unfolding(crate::specs::Read::arm))]
 #[cycle(statements)]
 fn arm(alloc: Global, depth: usize, tokens: &[Lexeme]) -> Result<(Arm, &[Lexeme]), ReadError>
-    ensures { Gives result (spec.arm (spec.test depth) (spec.block depth)) tokens.now }
+    ensures { Gives result (spec.arm depth) tokens.now }
 {
     let (test, rest) = condition(alloc, depth, tokens)?;
     let (statements, rest) = block(alloc, depth, rest)?;
@@ -87,7 +87,7 @@ fn with_last(front: Items<Arm>, statements: Items<Statement>) -> Result<Items<Ar
 }
 
 /// Behind these arms of a branch.
-#[tactic(auto, unfolding(crate::specs::Read::otherwise))]
+#[tactic(auto, using(crate::proofs::Turns::turns))]
 #[cycle(statements)]
 fn otherwise(
     alloc: Global,
@@ -95,7 +95,7 @@ fn otherwise(
     front: Items<Arm>,
     tokens: &[Lexeme],
 ) -> Result<(Items<Arm>, &[Lexeme]), ReadError>
-    ensures { Gives result (full (λ n. spec.otherwise_in depth n front)) tokens.now }
+    ensures { Gives result (spec.behind front (spec.read depth symbol.Otherwise)) tokens.now }
 {
     let mut found = front;
     let mut rest = tokens;
@@ -105,19 +105,14 @@ fn otherwise(
         };
         match token {
             Token::Word(Word::Else) => {
-                let Some((second, next)) = first(behind) else {
-                    return Err(refuse(behind));
-                };
-                match second {
-                    Token::Word(Word::If) => {
-                        let (item, after) = arm(alloc, depth, next)?;
-                        found.push(item)?;
-                        rest = after;
-                    }
-                    _ => {
-                        let (statements, after) = block(alloc, depth, behind)?;
-                        return Ok((with_last(found, statements)?, after));
-                    }
+                let (second, next) = next(behind)?;
+                if is_if(second) {
+                    let (item, after) = arm(alloc, depth, next)?;
+                    found.push(item)?;
+                    rest = after;
+                } else {
+                    let (statements, after) = block(alloc, depth, behind)?;
+                    return Ok((with_last(found, statements)?, after));
                 }
             }
             _ => return Ok((found, rest)),
@@ -126,13 +121,14 @@ fn otherwise(
 }
 
 /// The arms of a branch, behind its `if`.
+#[tactic(auto, unfolding(crate::specs::Read::arms))]
 #[cycle(statements)]
 fn arms(
     alloc: Global,
     depth: usize,
     tokens: &[Lexeme],
 ) -> Result<(Items<Arm>, &[Lexeme]), ReadError>
-    ensures { Gives result (arms_of (spec.test depth) (spec.block depth)) tokens.now }
+    ensures { Gives result (spec.arms depth) tokens.now }
 {
     let (item, rest) = arm(alloc, depth, tokens)?;
     let mut front = Items::new(alloc);
@@ -140,32 +136,45 @@ fn arms(
     otherwise(alloc, depth, front, rest)
 }
 
+/// A branch or a plugin.
+#[tactic(auto, unfolding(crate::specs::Read::statement))]
+#[cycle(statements)]
+fn statement(
+    alloc: Global,
+    depth: usize,
+    tokens: &[Lexeme],
+) -> Result<(Statement, &[Lexeme]), ReadError>
+    ensures { Gives result (spec.statement depth) tokens.now }
+{
+    let (token, behind) = next(tokens)?;
+    if is_if(token) {
+        let (branch, rest) = arms(alloc, depth, behind)?;
+        Ok((Statement::Branch(branch), rest))
+    } else {
+        let (item, rest) = plugin(alloc, depth, tokens)?;
+        Ok((Statement::Plugin(item), rest))
+    }
+}
+
 /// Behind the `{` of a block, or of a filter or output section.
-#[tactic(auto, unfolding(crate::specs::Read::statements))]
+#[tactic(auto, using(crate::proofs::Turns::turns))]
 #[cycle(statements)]
 fn statements(
     alloc: Global,
     depth: usize,
     tokens: &[Lexeme],
 ) -> Result<(Items<Statement>, &[Lexeme]), ReadError>
-    ensures { Gives result (full (λ n. spec.statements_in depth n [])) tokens.now }
+    ensures { Gives result (spec.behind [] (spec.read depth symbol.Statements)) tokens.now }
 {
     let mut found: Items<Statement> = Items::new(alloc);
     let mut rest = tokens;
     loop {
-        let Some((token, behind)) = first(rest) else {
-            return Err(refuse(rest));
-        };
+        let (token, behind) = next(rest)?;
         match token {
             Token::CloseBrace => return Ok((found, behind)),
-            Token::Word(Word::If) => {
-                let (branch, after) = arms(alloc, depth, behind)?;
-                found.push(Statement::Branch(branch))?;
-                rest = after;
-            }
             _ => {
-                let (item, after) = plugin(alloc, depth, rest)?;
-                found.push(Statement::Plugin(item))?;
+                let (item, after) = statement(alloc, depth, rest)?;
+                found.push(item)?;
                 rest = after;
             }
         }
@@ -173,14 +182,14 @@ fn statements(
 }
 
 /// A block, or a filter or output section behind its word.
-#[tactic(auto, unfolding(crate::specs::Read::block))]
+#[tactic(auto, using(crate::proofs::Turns::turns))]
 #[cycle(statements)]
 fn block(
     alloc: Global,
     depth: usize,
     tokens: &[Lexeme],
 ) -> Result<(Items<Statement>, &[Lexeme]), ReadError>
-    ensures { Gives result (spec.block depth) tokens.now }
+    ensures { Gives result (spec.read depth symbol.Block) tokens.now }
 {
     let (token, rest) = next(tokens)?;
     match token {
@@ -211,13 +220,13 @@ fn add_outputs(config: &mut Config, more: Items<Statement>) -> Result<(), AllocE
 }
 
 /// The sections of the whole text.
-#[tactic(auto, unfolding(crate::specs::Read::sections))]
+#[tactic(auto, using(crate::proofs::Turns::turns))]
 pub fn sections(
     alloc: Global,
     depth: usize,
     tokens: &[Lexeme],
 ) -> Result<(Config, &[Lexeme]), ReadError>
-    ensures { Gives result (spec.config depth) tokens.now }
+    ensures { Gives result (spec.behind joining.empty (spec.read depth symbol.Sections)) tokens.now }
 {
     let mut found = Config {
         inputs: Items::new(alloc),
@@ -245,7 +254,7 @@ pub fn sections(
                 add_outputs(&mut found, more)?;
                 rest = after;
             }
-            _ => return Err(refuse(rest)),
+            _ => return Ok((found, rest)),
         }
     }
 }

@@ -1,7 +1,7 @@
 //! A text as the configuration that it is.
 
 ghost use Rattle.std.specs.Prelude.{◌≡◌, ◌↔◌, ◌<◌, length, IfOk, Err};
-ghost use Rattle.config_grammar.specs.Lexemes.{place_in};
+ghost use Rattle.config_lex.specs.Lexemes.{place_in};
 ghost use Rattle.config_parse.specs.Answers as answers;
 ghost use Rattle.config_parse.specs.Told as told;
 ghost use Rattle.config_parse.specs.declared.fault.ConfigFault.TheVariants as fault;
@@ -11,8 +11,10 @@ use crate::error::ReadError;
 use crate::fault::ConfigFault;
 use crate::laws::reading_is_right;
 use crate::statements::sections;
-use config_grammar::{Config, Lexeme, lexemes};
-use config_laws::{machine_is_right, one_answer, reads_once};
+use crate::tokens::{first, refuse};
+use config_grammar::{machine_is_right, one_answer, reads_once};
+use config_lex::{Lexeme, lexemes};
+use config_tree::Config;
 use std::alloc::Global;
 
 /// How many bytes a text may have.
@@ -27,9 +29,10 @@ fn read(alloc: Global, found: &[Lexeme]) -> Result<Config, ReadError>
 {
     machine_is_right();
     reading_is_right();
-    match sections(alloc, LEVELS, found) {
-        Ok((config, _)) => Ok(config),
-        Err(fault) => Err(fault),
+    let (config, rest) = sections(alloc, LEVELS, found)?;
+    match first(rest) {
+        None => Ok(config),
+        Some(_) => Err(refuse(rest)),
     }
 }
 
@@ -74,8 +77,10 @@ fn parse_text(alloc: Global, text: &str) -> Result<Config, ConfigFault>
 /// each `{`, `[`, `(` and `!` being one. Sections of one kind that repeat, and settings that stand twice in a
 /// plugin, are joined.
 ///
-/// It takes time in proportion to the length of the text and, for each hash and each plugin, to the square of the
-/// number of its keys or settings; and memory for the tokens and the tree.
+/// It takes time in proportion to the length of the text, also where a hash has many keys, a plugin many settings, or
+/// many hashes are joined into one setting: they are found by hashing, with a fixed seed, so keys that are chosen to fall
+/// together can take the square of their number. It takes memory for the tokens and the tree, and for a table of each hash
+/// and each plugin while it is read. No clause speaks of time, nor of the stack.
 pub fn parse(alloc: Global, text: &str) -> Result<Config, ConfigFault>
     // The limits are these numbers.
     ensures limits { (LENGTH ≡ 1048576) × (LEVELS ≡ 64) }

@@ -2,11 +2,12 @@
 
 ghost use Rattle.std.specs.Prelude.{◌≡◌, [], length, suc, MatchOption, MatchResult};
 ghost use Rattle.config_parse.specs.Gives.{IsFront, IsEarlyEnd, IsTooDeep};
+ghost use Rattle.config_parse.specs.Read as spec;
 ghost use Rattle.config_parse.specs.Seen.{tokens_of};
 ghost use Rattle.config_parse.specs.declared.error.ReadError.TheVariants as errors;
 
 use crate::error::ReadError;
-use config_grammar::{Lexeme, Token};
+use config_lex::{Lexeme, Token, Word};
 
 /// The first token, and what is behind it.
 #[tactic(auto, unfolding(crate::specs::Seen::tokens_of))]
@@ -53,4 +54,14 @@ pub fn below(depth: usize, found: &[Lexeme]) -> Result<usize, ReadError>
         return Err(too_deep(found));
     }
     Ok(depth - 1)
+}
+
+/// Whether a token is the word `if`.
+pub fn is_if(token: &Token) -> bool
+    ensures { result ≡ spec.is_if token.now }
+{
+    match token {
+        Token::Word(Word::If) => true,
+        _ => false,
+    }
 }

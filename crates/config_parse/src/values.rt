@@ -2,39 +2,43 @@
 
 ghost use Rattle.std.specs.Prelude.{◌≡◌, [], IfOk};
 ghost use Rattle.config_grammar.specs.Words as words;
-ghost use Rattle.config_parse.specs.Gives.{Gives, Skips, full};
+ghost use Rattle.config_grammar.specs.Symbols as symbol;
+ghost use Rattle.config_parse.specs.Gives.{Gives, GivesAs, Skips};
 ghost use Rattle.config_parse.specs.Read as spec;
+ghost use Rattle.config_parse.specs.Tables.{value_of};
 
 use crate::error::ReadError;
-use crate::joining::{Entries, find, with_setting};
+use crate::joining::{
+    Entries, ReadSettings, ReadValue, Table, finished, finished_settings, with_entry, with_setting,
+};
 use crate::names::{key, plugin_name, scalar, setting_name, spelling};
 use crate::tokens::{below, first, next, refuse};
-use config_grammar::{Lexeme, Plugin, SettingValue, Settings, Token};
+use config_lex::{Lexeme, Token};
+use config_tree::{Plugin, SettingValue, Settings};
+use indexmap::IndexMap;
 use plain_data::{Items, Text};
 use std::alloc::{AllocError, Global};
 
-#[tactic(auto, unfolding(crate::specs::Read::value))]
+#[tactic(auto, using(crate::proofs::Turns::turns))]
 #[cycle(values)]
 pub fn value(
     alloc: Global,
     depth: usize,
     tokens: &[Lexeme],
-) -> Result<(SettingValue, &[Lexeme]), ReadError>
-    ensures { Gives result (spec.value depth) tokens.now }
+) -> Result<(ReadValue, &[Lexeme]), ReadError>
+    ensures { GivesAs value_of result (spec.read depth symbol.Value) tokens.now }
 {
-    let Some((token, rest)) = first(tokens) else {
-        return Err(refuse(tokens));
-    };
+    let (token, rest) = next(tokens)?;
     match token {
         Token::OpenBracket => {
             let depth = below(depth, tokens)?;
             let (found, rest) = members(alloc, depth, rest)?;
-            Ok((SettingValue::Array(found), rest))
+            Ok((ReadValue::Array(found), rest))
         }
         Token::OpenBrace => {
             let depth = below(depth, tokens)?;
             let (found, rest) = pairs(alloc, depth, rest)?;
-            Ok((SettingValue::Hash(found), rest))
+            Ok((ReadValue::Hash(found), rest))
         }
         Token::Word(word) => nest(alloc, depth, Text::of(alloc, spelling(word))?, rest),
         other => match scalar(other)? {
@@ -45,46 +49,59 @@ pub fn value(
 }
 
 /// Behind a bareword that is a value: nothing, or the settings of a nested plugin.
-#[tactic(auto, unfolding(crate::specs::Read::nest))]
+#[tactic(auto, using(crate::proofs::Turns::turns))]
 #[cycle(values)]
 fn nest(
     alloc: Global,
     depth: usize,
     name: Text,
     tokens: &[Lexeme],
-) -> Result<(SettingValue, &[Lexeme]), ReadError>
-    ensures { Gives result (spec.nest (spec.below depth) name) tokens.now }
+) -> Result<(ReadValue, &[Lexeme]), ReadError>
+    ensures { GivesAs value_of result (spec.behind name (spec.read depth symbol.Nest)) tokens.now }
 {
     let Some((token, rest)) = first(tokens) else {
-        return Ok((SettingValue::Text(name), tokens));
+        return Ok((ReadValue::Text(name), tokens));
     };
     match token {
         Token::OpenBrace => {
             let depth = below(depth, tokens)?;
             let (list, rest) = settings(alloc, depth, rest)?;
             let settings = Settings { list };
-            Ok((SettingValue::Nested(Plugin { name, settings }), rest))
+            Ok((ReadValue::Nested(Plugin { name, settings }), rest))
         }
-        _ => Ok((SettingValue::Text(name), tokens)),
+        _ => Ok((ReadValue::Text(name), tokens)),
     }
 }
 
+/// A value that is joined with no other.
+#[cycle(values)]
+fn single(
+    alloc: Global,
+    depth: usize,
+    tokens: &[Lexeme],
+) -> Result<(SettingValue, &[Lexeme]), ReadError>
+    ensures { Gives result (spec.read depth symbol.Value) tokens.now }
+{
+    let (found, rest) = value(alloc, depth, tokens)?;
+    Ok((finished(alloc, found)?, rest))
+}
+
 /// Behind the `[` of an array.
-#[tactic(auto, unfolding(crate::specs::Read::members))]
+#[tactic(auto, using(crate::proofs::Turns::turns))]
 #[cycle(values)]
 fn members(
     alloc: Global,
     depth: usize,
     tokens: &[Lexeme],
 ) -> Result<(Items<SettingValue>, &[Lexeme]), ReadError>
-    ensures { Gives result (spec.members (spec.value depth)) tokens.now }
+    ensures { Gives result (spec.read depth symbol.Members) tokens.now }
 {
     let (token, rest) = next(tokens)?;
     let mut found = Items::new(alloc);
     match token {
         Token::CloseBracket => Ok((found, rest)),
         _ => {
-            let (member, rest) = value(alloc, depth, tokens)?;
+            let (member, rest) = single(alloc, depth, tokens)?;
             found.push(member)?;
             more(alloc, depth, found, rest)
         }
@@ -92,7 +109,7 @@ fn members(
 }
 
 /// Behind these members of an array.
-#[tactic(auto, unfolding(crate::specs::Read::more))]
+#[tactic(auto, using(crate::proofs::Turns::turns))]
 #[cycle(values)]
 fn more(
     alloc: Global,
@@ -100,7 +117,7 @@ fn more(
     front: Items<SettingValue>,
     tokens: &[Lexeme],
 ) -> Result<(Items<SettingValue>, &[Lexeme]), ReadError>
-    ensures { Gives result (full (λ n. spec.more (spec.value depth) n front)) tokens.now }
+    ensures { Gives result (spec.behind front (spec.read depth symbol.More)) tokens.now }
 {
     let mut found = front;
     let mut rest = tokens;
@@ -111,7 +128,7 @@ fn more(
         match token {
             Token::CloseBracket => return Ok((found, behind)),
             Token::Comma => {
-                let (member, after) = value(alloc, depth, behind)?;
+                let (member, after) = single(alloc, depth, behind)?;
                 found.push(member)?;
                 rest = after;
             }
@@ -120,23 +137,18 @@ fn more(
     }
 }
 
-/// The token's key, where it is a key that isn't among those of the entries.
-fn fresh(
-    alloc: Global,
-    entries: &[(Text, SettingValue)],
-    token: &Token,
-) -> Result<Option<Text>, AllocError>
-    ensures { IfOk result (λ found. found ≡ spec.fresh_key entries.now token.now) }
+/// The token's key, where it is a key that the table hasn't.
+fn fresh(alloc: Global, table: &Table, token: &Token) -> Result<Option<Text>, AllocError>
+    ensures { IfOk result (λ found. found ≡ spec.fresh_key table.now.entries token.now) }
 {
-    match key(token) {
-        Some(found) => {
-            if find(entries, found) < entries.len() {
-                Ok(None)
-            } else {
-                Ok(Some(Text::of(alloc, found)?))
-            }
-        }
-        None => Ok(None),
+    let Some(found) = key(token) else {
+        return Ok(None);
+    };
+    let own = Text::of(alloc, found)?;
+    if table.contains_key(&own) {
+        Ok(None)
+    } else {
+        Ok(Some(own))
     }
 }
 
@@ -151,38 +163,50 @@ fn arrow(tokens: &[Lexeme]) -> Result<&[Lexeme], ReadError>
 }
 
 /// `=>` and a value.
+#[tactic(auto, unfolding(crate::specs::Read::entry))]
 #[cycle(values)]
 fn entry(
     alloc: Global,
     depth: usize,
     tokens: &[Lexeme],
-) -> Result<(SettingValue, &[Lexeme]), ReadError>
-    ensures { Gives result (spec.entry (spec.value depth)) tokens.now }
+) -> Result<(ReadValue, &[Lexeme]), ReadError>
+    ensures { GivesAs value_of result (spec.entry depth) tokens.now }
 {
     let rest = arrow(tokens)?;
     value(alloc, depth, rest)
 }
 
-/// Behind the `{` of a hash.
-#[tactic(auto, unfolding(crate::specs::Read::pairs))]
+/// `=>` and a value that is joined with no other.
 #[cycle(values)]
-fn pairs(alloc: Global, depth: usize, tokens: &[Lexeme]) -> Result<(Entries, &[Lexeme]), ReadError>
-    ensures { Gives result (full (λ n. spec.pairs (spec.value depth) n [])) tokens.now }
+fn single_entry(
+    alloc: Global,
+    depth: usize,
+    tokens: &[Lexeme],
+) -> Result<(SettingValue, &[Lexeme]), ReadError>
+    ensures { Gives result (spec.entry depth) tokens.now }
 {
-    let mut found: Entries = Items::new(alloc);
+    let (found, rest) = entry(alloc, depth, tokens)?;
+    Ok((finished(alloc, found)?, rest))
+}
+
+/// Behind the `{` of a hash.
+#[tactic(auto, using(crate::proofs::Turns::turns))]
+#[cycle(values)]
+fn pairs(alloc: Global, depth: usize, tokens: &[Lexeme]) -> Result<(Table, &[Lexeme]), ReadError>
+    ensures { GivesAs (λ table. table.entries) result (spec.behind [] (spec.read depth (symbol.Pairs []))) tokens.now }
+{
+    let mut found: Table = IndexMap::new(alloc);
     let mut rest = tokens;
     loop {
-        let Some((token, behind)) = first(rest) else {
-            return Err(refuse(rest));
-        };
+        let (token, behind) = next(rest)?;
         match token {
             Token::CloseBrace => return Ok((found, behind)),
             other => {
-                let Some(key) = fresh(alloc, found.as_slice(), other)? else {
+                let Some(key) = fresh(alloc, &found, other)? else {
                     return Err(refuse(rest));
                 };
-                let (item, after) = entry(alloc, depth, behind)?;
-                found.push((key, item))?;
+                let (item, after) = single_entry(alloc, depth, behind)?;
+                found = with_entry(found, key, item)?;
                 rest = after;
             }
         }
@@ -200,29 +224,27 @@ fn own_setting_name(alloc: Global, token: &Token) -> Result<Option<Text>, AllocE
 }
 
 /// Behind the `{` of a plugin.
-#[tactic(auto, unfolding(crate::specs::Read::settings))]
+#[tactic(auto, using(crate::proofs::Turns::turns))]
 #[cycle(values)]
 fn settings(
     alloc: Global,
     depth: usize,
     tokens: &[Lexeme],
 ) -> Result<(Entries, &[Lexeme]), ReadError>
-    ensures { Gives result (full (λ n. spec.settings (spec.value depth) n [])) tokens.now }
+    ensures { Gives result (spec.behind [] (spec.read depth symbol.Settings)) tokens.now }
 {
-    let mut found: Entries = Items::new(alloc);
+    let mut found: ReadSettings = IndexMap::new(alloc);
     let mut rest = tokens;
     loop {
-        let Some((token, behind)) = first(rest) else {
-            return Err(refuse(rest));
-        };
+        let (token, behind) = next(rest)?;
         match token {
-            Token::CloseBrace => return Ok((found, behind)),
+            Token::CloseBrace => return Ok((finished_settings(alloc, found)?, behind)),
             other => {
                 let Some(name) = own_setting_name(alloc, other)? else {
                     return Err(refuse(rest));
                 };
                 let (item, after) = entry(alloc, depth, behind)?;
-                found = with_setting(found, name, item)?;
+                found = with_setting(alloc, found, name, item)?;
                 rest = after;
             }
         }
@@ -230,13 +252,13 @@ fn settings(
 }
 
 /// The `{` of a plugin and its settings.
-#[tactic(auto, unfolding(crate::specs::Read::settings_block))]
+#[tactic(auto, using(crate::proofs::Turns::turns))]
 fn settings_block(
     alloc: Global,
     depth: usize,
     tokens: &[Lexeme],
 ) -> Result<(Entries, &[Lexeme]), ReadError>
-    ensures { Gives result (spec.settings_block depth) tokens.now }
+    ensures { Gives result (spec.read depth symbol.SettingsBlock) tokens.now }
 {
     let (token, rest) = next(tokens)?;
     match token {

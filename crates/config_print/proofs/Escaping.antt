@@ -1,7 +1,7 @@
 -- One step of the loop that writes a backslash before each `/`.
 use Rattle.std.proofs.Common.{◌≡◌, ℕ, ◌+◌, ◌-◌, ◌<◌, ◌≤◌, ◌==◌, List, [], ◌∷◌, ◌++◌, length, take, drop, get_or, true, false, if◌then◌else◌, ap, sym, ◌∙◌, append_assoc, arith}
 use Rattle.std.proofs.lemmas.List.{drop_more}
-use Rattle.config_grammar.proofs.Scans.{part_more, equal_is, unequal_is}
+use Rattle.config_lex.proofs.Scans.{part_more, equal_is, unequal_is}
 use Rattle.config_print.specs.Tokens.{escaped}
 
 escaped_slash : (s : List ℕ) (i : ℕ) → i < length s → (get_or s i 0 == 47) ≡ true → escaped (drop i s) ≡ 92 ∷ 47 ∷ escaped (drop (i + 1) s)

@@ -1,44 +1,65 @@
 -- A condition on one line, its tokens with one blank between.
-use Rattle.std.specs.Prelude.{ℕ, List, [], ◌∷◌, ◌++◌, map, Bool, true, false, if◌then◌else◌, codes}
-use Rattle.event_json.specs.Json.{number_text}
-use Rattle.config_grammar.specs.declared.tree.Condition.{Condition}
-use Rattle.config_grammar.specs.declared.tree.Condition.TheOpen.{Condition-F}
-use Rattle.config_grammar.specs.declared.tree.Condition.TheFolds.{fold-Condition}
-use Rattle.config_grammar.specs.declared.tree.Operand.{Operand}
-use Rattle.config_grammar.specs.declared.tree.Operand.TheVariants as o
-use Rattle.config_grammar.specs.declared.tree.Literal.{Literal}
-use Rattle.config_grammar.specs.declared.tree.Literal.TheVariants as l
-use Rattle.config_grammar.specs.declared.tree.MatchPattern.{MatchPattern}
-use Rattle.config_grammar.specs.declared.tree.MatchPattern.TheVariants as p
+use Rattle.std.specs.Prelude.{ℕ, List, [], ◌∷◌, ◌++◌, map, flat_map, Bool, true, false, if◌then◌else◌}
+use Rattle.config_lex.specs.declared.token.Token.{Token}
+use Rattle.config_lex.specs.declared.token.Token.TheVariants as t
+use Rattle.config_lex.specs.declared.token.Word.{Word}
+use Rattle.config_lex.specs.declared.token.Word.TheVariants as w
+use Rattle.config_tree.specs.declared.tree.Condition.{Condition}
+use Rattle.config_tree.specs.declared.tree.Condition.TheOpen.{Condition-F}
+use Rattle.config_tree.specs.declared.tree.Condition.TheFolds.{fold-Condition}
+use Rattle.config_tree.specs.declared.tree.Operand.{Operand}
+use Rattle.config_tree.specs.declared.tree.Operand.TheVariants as o
+use Rattle.config_tree.specs.declared.tree.Literal.{Literal}
+use Rattle.config_tree.specs.declared.tree.Literal.TheVariants as l
+use Rattle.config_tree.specs.declared.tree.MatchPattern.{MatchPattern}
+use Rattle.config_tree.specs.declared.tree.MatchPattern.TheVariants as p
 use Rattle.config_print.specs.declared.conditions.Place.{Place}
 use Rattle.config_print.specs.declared.conditions.Place.TheVariants as at
-use Rattle.config_print.specs.Tokens.{string, regexp, selector}
+use Rattle.config_print.specs.Tokens.{number_token, parts_of}
+use Rattle.config_print.specs.Layout.{Piece, spaced, text_of}
 
--- the members of a list behind its `[` (91): each behind a blank, a comma before all but the first, and the `]` at the end
-abbrev pub members : Bool → List (List ℕ) → List ℕ
-members later [] = codes " ]"
-members later (x ∷ xs) = (if later then codes " , " else codes " ") ++ (x ++ members true xs)
+-- a comma before all members of a list but the first
+abbrev pub comma : Bool → List Piece
+comma later = if later then spaced t.Comma ∷ [] else []
 
-abbrev pub listed : List (List ℕ) → List ℕ
-listed xs = 91 ∷ members false xs
+-- the members of a list behind its `[`, and the `]` at the end
+abbrev pub members : Bool → List (List Piece) → List Piece
+members later [] = spaced t.CloseBracket ∷ []
+members later (x ∷ xs) = comma later ++ (x ++ members true xs)
 
-abbrev pub literal : Literal → List ℕ
-literal (l.Text s) = string s
-literal (l.Number n) = number_text n
+abbrev pub listed : List (List Piece) → List Piece
+listed xs = spaced t.OpenBracket ∷ members false xs
 
-abbrev pub operand : Operand → List ℕ
-operand (o.Field way) = selector way
-operand (o.Text s) = string s
-operand (o.Number n) = number_text n
+abbrev pub literal_token : Literal → Token
+literal_token (l.Text s) = t.Quoted s
+literal_token (l.Number n) = number_token n
+
+abbrev pub literal : Literal → List Piece
+literal x = spaced (literal_token x) ∷ []
+
+abbrev pub operand : Operand → List Piece
+operand (o.Field way) = spaced (t.Selector (parts_of way)) ∷ []
+operand (o.Text s) = spaced (t.Quoted s) ∷ []
+operand (o.Number n) = spaced (number_token n) ∷ []
 operand (o.List xs) = listed (map literal xs)
 
 -- the literals of a list, behind its `[`
-abbrev pub literals : List Literal → List ℕ
+abbrev pub literals : List Literal → List Piece
 literals xs = members false (map literal xs)
 
-abbrev pub pattern : MatchPattern → List ℕ
-pattern (p.Regexp s) = regexp s
-pattern (p.Text s) = string s
+abbrev pub pattern_token : MatchPattern → Token
+pattern_token (p.Regexp s) = t.Regexp s
+pattern_token (p.Text s) = t.Quoted s
+
+abbrev pub pattern : MatchPattern → List Piece
+pattern q = spaced (pattern_token q) ∷ []
+
+-- two with an operator between, as a text
+abbrev pub compared_text : Operand → List ℕ → Operand → List ℕ
+compared_text x sign y = text_of (operand x) ++ 32 ∷ (sign ++ text_of (operand y))
+
+abbrev pub matched_text : Operand → List ℕ → MatchPattern → List ℕ
+matched_text x sign q = text_of (operand x) ++ 32 ∷ (sign ++ text_of (pattern q))
 
 -- `or` and `xor` bind the least, and stand bare only where any condition may
 abbrev pub parts_or : Place → Bool
@@ -52,55 +73,44 @@ parts_and at.Whole = false
 parts_and at.Joined = false
 parts_and at.Unary = true
 
-abbrev pub opened : Bool → List ℕ
-opened parens = if parens then codes "( " else []
+abbrev pub opened : Bool → List Piece
+opened parens = if parens then spaced t.OpenParen ∷ [] else []
 
-abbrev pub closed : Bool → List ℕ
-closed parens = if parens then codes " )" else []
+abbrev pub closed : Bool → List Piece
+closed parens = if parens then spaced t.CloseParen ∷ [] else []
 
--- two with an operator between
-abbrev pub with_sign : List ℕ → List ℕ → List ℕ → List ℕ
-with_sign sign x y = x ++ (sign ++ y)
+-- in parentheses, where they are wanted
+abbrev pub grouped : Bool → List Piece → List Piece
+grouped parens pieces = opened parens ++ (pieces ++ closed parens)
 
-abbrev pub comparison : List ℕ → Operand → Operand → List ℕ
-comparison sign x y = with_sign sign (operand x) (operand y)
+-- the pieces of a condition depend on where it stands
+abbrev pub Placed : Type 0
+Placed = Place → List Piece
 
-abbrev pub matching : List ℕ → Operand → MatchPattern → List ℕ
-matching sign x y = with_sign sign (operand x) (pattern y)
+-- what follows the first condition of a row: each further one behind its joint
+abbrev pub joined : {J : Type 0} → (J → Word) → Place → J × Placed → List Piece
+joined word place e = spaced (t.Word (word e.0)) ∷ e.1 place
 
--- two conditions with an operator between, in parentheses where the operator wants them; operators of one rank associate to the left
-abbrev pub conjoined : List ℕ → (Place → List ℕ) → (Place → List ℕ) → Place → List ℕ
-conjoined sign x y place = opened (parts_and place) ++ (with_sign sign (x at.Joined) (y at.Unary) ++ closed (parts_and place))
+abbrev pub compared : Token → Operand → Operand → List Piece
+compared sign x y = operand x ++ spaced sign ∷ operand y
 
-abbrev pub disjoined : List ℕ → (Place → List ℕ) → (Place → List ℕ) → Place → List ℕ
-disjoined sign x y place = opened (parts_or place) ++ (with_sign sign (x at.Whole) (y at.Joined) ++ closed (parts_or place))
-
--- a condition at a place, with the text of each condition in it at each place
-abbrev pub condition_step : Condition-F (Place → List ℕ) → Place → List ℕ
+-- a condition at a place, with the pieces of each condition in it at each place; joints of one rank associate to the left
+abbrev pub condition_step : Condition-F Placed → Placed
 condition_step (Condition-F.Operand x) place = operand x
-condition_step (Condition-F.Not x) place = codes "! " ++ x at.Unary
-condition_step (Condition-F.And x y) place = conjoined (codes " and ") x y place
-condition_step (Condition-F.Nand x y) place = conjoined (codes " nand ") x y place
-condition_step (Condition-F.Or x y) place = disjoined (codes " or ") x y place
-condition_step (Condition-F.Xor x y) place = disjoined (codes " xor ") x y place
-condition_step (Condition-F.Equal x y) place = comparison (codes " == ") x y
-condition_step (Condition-F.Unequal x y) place = comparison (codes " != ") x y
-condition_step (Condition-F.Less x y) place = comparison (codes " < ") x y
-condition_step (Condition-F.Greater x y) place = comparison (codes " > ") x y
-condition_step (Condition-F.AtMost x y) place = comparison (codes " <= ") x y
-condition_step (Condition-F.AtLeast x y) place = comparison (codes " >= ") x y
-condition_step (Condition-F.Matches x y) place = matching (codes " =~ ") x y
-condition_step (Condition-F.MatchesNot x y) place = matching (codes " !~ ") x y
-condition_step (Condition-F.In x y) place = comparison (codes " in ") x y
-condition_step (Condition-F.NotIn x y) place = comparison (codes " not in ") x y
+condition_step (Condition-F.Not x) place = spaced t.Exclamation ∷ x at.Unary
+condition_step (Condition-F.Conjoined x rest) place = grouped (parts_and place) (x at.Joined ++ flat_map (joined w.Conjunction at.Unary) rest)
+condition_step (Condition-F.Disjoined x rest) place = grouped (parts_or place) (x at.Whole ++ flat_map (joined w.Disjunction at.Joined) rest)
+condition_step (Condition-F.Compared j x y) place = compared (t.Comparison j) x y
+condition_step (Condition-F.Matched j x q) place = operand x ++ spaced (t.Matching j) ∷ pattern q
+condition_step (Condition-F.In x y) place = compared (t.Word w.In) x y
+condition_step (Condition-F.NotIn x y) place = operand x ++ spaced (t.Word w.Not) ∷ spaced (t.Word w.In) ∷ operand y
 
-unfoldable pub condition : Condition → Place → List ℕ
-condition = fold-Condition (Place → List ℕ) condition_step
+unfoldable pub condition : Condition → Placed
+condition = fold-Condition Placed condition_step
 
--- the left side of an operator, and the operator
-abbrev pub left_side : Bool → Condition → Place → List ℕ → List ℕ
-left_side parens x place sign = opened parens ++ (condition x place ++ sign)
+-- further conditions of a row
+abbrev pub conjunct : {J : Type 0} → (J → Word) → Place → J × Condition → List Piece
+conjunct word place e = joined word place (e.0, condition e.1)
 
--- the right side of an operator
-abbrev pub right_side : Condition → Place → Bool → List ℕ
-right_side x place parens = condition x place ++ closed parens
+abbrev pub row : {J : Type 0} → (J → Word) → Place → List (J × Condition) → List Piece
+row word place = flat_map (conjunct word place)

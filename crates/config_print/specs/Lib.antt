@@ -1,4 +1,5 @@
-pub mod Prints
 pub mod Tokens
+pub mod Layout
+pub mod Prints
 pub mod Conditions
 pub mod Printed

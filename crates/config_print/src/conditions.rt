@@ -1,21 +1,26 @@
 //! Conditions.
 
-ghost use Rattle.std.specs.Prelude.{◌≡◌, OnOk, codes, if◌then◌else◌};
-ghost use Rattle.config_print.specs.Prints.{Prints};
+ghost use Rattle.std.specs.Prelude.{◌≡◌, ◌∷◌, OnOk};
+ghost use Rattle.config_lex.specs.declared.token.Word.TheVariants as w;
+ghost use Rattle.config_print.specs.Prints.{Prints, Lays};
 ghost use Rattle.config_print.specs.Conditions as spec;
+ghost use Rattle.config_print.specs.declared.conditions.Place.TheVariants as at;
 
-use crate::tokens::{add_number, add_regexp, add_selector, add_string};
-use config_grammar::{Condition, Literal, MatchPattern, Operand};
+use crate::tokens::{
+    add_number, add_regexp, add_selector, add_string, comparison_text, conjunction_text,
+    disjunction_text, matching_text,
+};
+use config_tree::{Condition, Conjunction, Disjunction, Literal, MatchPattern, Operand};
 use std::alloc::AllocError;
 
 /// Where a condition stands in another one.
 #[derive(Clone, Copy)]
 pub enum Place {
-    /// Behind `if`, in parentheses, or on the left of `or` or `xor`: no condition wants parentheses.
+    /// Behind `if`, in parentheses, or the first of those with `or` or `xor` between: no condition wants parentheses.
     Whole,
-    /// On the right of `or` or `xor`, or on the left of `and` or `nand`: `or` and `xor` want them.
+    /// Behind `or` or `xor`, or the first of those with `and` or `nand` between: `or` and `xor` want them.
     Joined,
-    /// On the right of `and` or `nand`, or behind `!`: `and` and `nand` want them too.
+    /// Behind `and`, `nand` or `!`: `and` and `nand` want them too.
     Unary,
 }
 
@@ -37,20 +42,17 @@ fn parts_and(place: Place) -> bool
     }
 }
 
-/// What stands between two members of a list, or before the first.
+/// What stands between two members of a list.
 pub(crate) fn add_comma(to: &mut String, later: bool) -> Result<(), AllocError>
-    ensures { OnOk result (Prints to.old to.new (if later then codes " , " else codes " ")) }
+    ensures { OnOk result (Lays to.old to.new (spec.comma later)) }
 {
-    if later {
-        to.push_str(" , ")
-    } else {
-        to.push_str(" ")
-    }
+    if later { to.push_str(" ,") } else { Ok(()) }
 }
 
 fn add_literal(to: &mut String, literal: &Literal) -> Result<(), AllocError>
-    ensures { OnOk result (Prints to.old to.new (spec.literal literal.now)) }
+    ensures { OnOk result (Lays to.old to.new (spec.literal literal.now)) }
 {
+    to.push_str(" ")?;
     match literal {
         Literal::Text(text) => add_string(to, text.as_str()),
         Literal::Number(number) => add_number(to, number),
@@ -58,7 +60,7 @@ fn add_literal(to: &mut String, literal: &Literal) -> Result<(), AllocError>
 }
 
 fn add_literals(to: &mut String, literals: &[Literal]) -> Result<(), AllocError>
-    ensures { OnOk result (Prints to.old to.new (spec.literals literals.now)) }
+    ensures { OnOk result (Lays to.old to.new (spec.literals literals.now)) }
 {
     let mut later = false;
     for literal in literals {
@@ -70,8 +72,9 @@ fn add_literals(to: &mut String, literals: &[Literal]) -> Result<(), AllocError>
 }
 
 fn add_operand(to: &mut String, operand: &Operand) -> Result<(), AllocError>
-    ensures { OnOk result (Prints to.old to.new (spec.operand operand.now)) }
+    ensures { OnOk result (Lays to.old to.new (spec.operand operand.now)) }
 {
+    to.push_str(" ")?;
     match operand {
         Operand::Field(path) => add_selector(to, path),
         Operand::Text(text) => add_string(to, text.as_str()),
@@ -84,12 +87,21 @@ fn add_operand(to: &mut String, operand: &Operand) -> Result<(), AllocError>
 }
 
 fn add_pattern(to: &mut String, pattern: &MatchPattern) -> Result<(), AllocError>
-    ensures { OnOk result (Prints to.old to.new (spec.pattern pattern.now)) }
+    ensures { OnOk result (Lays to.old to.new (spec.pattern pattern.now)) }
 {
+    to.push_str(" ")?;
     match pattern {
         MatchPattern::Regexp(text) => add_regexp(to, text.as_str()),
         MatchPattern::Text(text) => add_string(to, text.as_str()),
     }
+}
+
+/// A joint or another operator.
+fn add_sign(to: &mut String, sign: &str) -> Result<(), AllocError>
+    ensures { OnOk result (Prints to.old to.new (32 ∷ sign.now)) }
+{
+    to.push_str(" ")?;
+    to.push_str(sign)
 }
 
 fn add_compared(
@@ -98,10 +110,10 @@ fn add_compared(
     sign: &str,
     right: &Operand,
 ) -> Result<(), AllocError>
-    ensures { OnOk result (Prints to.old to.new (spec.comparison sign.now left.now right.now)) }
+    ensures { OnOk result (Prints to.old to.new (spec.compared_text left.now sign.now right.now)) }
 {
     add_operand(to, left)?;
-    to.push_str(sign)?;
+    add_sign(to, sign)?;
     add_operand(to, right)
 }
 
@@ -111,53 +123,47 @@ fn add_matched(
     sign: &str,
     right: &MatchPattern,
 ) -> Result<(), AllocError>
-    ensures { OnOk result (Prints to.old to.new (spec.matching sign.now left.now right.now)) }
+    ensures { OnOk result (Prints to.old to.new (spec.matched_text left.now sign.now right.now)) }
 {
     add_operand(to, left)?;
-    to.push_str(sign)?;
+    add_sign(to, sign)?;
     add_pattern(to, right)
 }
 
 fn add_open(to: &mut String, parens: bool) -> Result<(), AllocError>
-    ensures { OnOk result (Prints to.old to.new (spec.opened parens)) }
+    ensures { OnOk result (Lays to.old to.new (spec.opened parens)) }
 {
-    if parens { to.push_str("( ") } else { Ok(()) }
+    if parens { to.push_str(" (") } else { Ok(()) }
 }
 
 fn add_close(to: &mut String, parens: bool) -> Result<(), AllocError>
-    ensures { OnOk result (Prints to.old to.new (spec.closed parens)) }
+    ensures { OnOk result (Lays to.old to.new (spec.closed parens)) }
 {
     if parens { to.push_str(" )") } else { Ok(()) }
 }
 
-/// The left side of an operator, and the operator.
+/// Conditions behind others of a row, each behind its `and` or `nand`.
 #[cycle(conditions)]
-fn add_left(
-    to: &mut String,
-    parens: bool,
-    left: &Condition,
-    place: Place,
-    sign: &str,
-) -> Result<(), AllocError>
-    ensures { OnOk result (Prints to.old to.new (spec.left_side parens left.now place sign.now)) }
+fn add_conjuncts(to: &mut String, rest: &[(Conjunction, Condition)]) -> Result<(), AllocError>
+    ensures { OnOk result (Lays to.old to.new (spec.row w.Conjunction at.Unary rest.now)) }
 {
-    add_open(to, parens)?;
-    add_condition(to, left, place)?;
-    to.push_str(sign)
+    for part in rest {
+        add_sign(to, conjunction_text(part.0))?;
+        add_condition(to, &part.1, Place::Unary)?;
+    }
+    Ok(())
 }
 
-/// The right side of an operator.
+/// The same with `or` or `xor`.
 #[cycle(conditions)]
-fn add_right(
-    to: &mut String,
-    right: &Condition,
-    place: Place,
-    parens: bool,
-) -> Result<(), AllocError>
-    ensures { OnOk result (Prints to.old to.new (spec.right_side right.now place parens)) }
+fn add_disjuncts(to: &mut String, rest: &[(Disjunction, Condition)]) -> Result<(), AllocError>
+    ensures { OnOk result (Lays to.old to.new (spec.row w.Disjunction at.Joined rest.now)) }
 {
-    add_condition(to, right, place)?;
-    add_close(to, parens)
+    for part in rest {
+        add_sign(to, disjunction_text(part.0))?;
+        add_condition(to, &part.1, Place::Joined)?;
+    }
+    Ok(())
 }
 
 /// A condition, which stands at this place.
@@ -168,43 +174,35 @@ pub(crate) fn add_condition(
     condition: &Condition,
     place: Place,
 ) -> Result<(), AllocError>
-    ensures { OnOk result (Prints to.old to.new (spec.condition condition.now place)) }
+    ensures { OnOk result (Lays to.old to.new (spec.condition condition.now place)) }
 {
     match condition {
         Condition::Operand(only) => add_operand(to, only),
         Condition::Not(inner) => {
-            to.push_str("! ")?;
+            to.push_str(" !")?;
             add_condition(to, inner.get(), Place::Unary)
         }
-        Condition::And(left, right) => {
+        Condition::Conjoined(first, rest) => {
             let parens = parts_and(place);
-            add_left(to, parens, left.get(), Place::Joined, " and ")?;
-            add_right(to, right.get(), Place::Unary, parens)
+            add_open(to, parens)?;
+            add_condition(to, first.get(), Place::Joined)?;
+            add_conjuncts(to, rest.as_slice())?;
+            add_close(to, parens)
         }
-        Condition::Nand(left, right) => {
-            let parens = parts_and(place);
-            add_left(to, parens, left.get(), Place::Joined, " nand ")?;
-            add_right(to, right.get(), Place::Unary, parens)
-        }
-        Condition::Or(left, right) => {
+        Condition::Disjoined(first, rest) => {
             let parens = parts_or(place);
-            add_left(to, parens, left.get(), Place::Whole, " or ")?;
-            add_right(to, right.get(), Place::Joined, parens)
+            add_open(to, parens)?;
+            add_condition(to, first.get(), Place::Whole)?;
+            add_disjuncts(to, rest.as_slice())?;
+            add_close(to, parens)
         }
-        Condition::Xor(left, right) => {
-            let parens = parts_or(place);
-            add_left(to, parens, left.get(), Place::Whole, " xor ")?;
-            add_right(to, right.get(), Place::Joined, parens)
+        Condition::Compared(comparison, left, right) => {
+            add_compared(to, left, comparison_text(*comparison), right)
         }
-        Condition::Equal(left, right) => add_compared(to, left, " == ", right),
-        Condition::Unequal(left, right) => add_compared(to, left, " != ", right),
-        Condition::Less(left, right) => add_compared(to, left, " < ", right),
-        Condition::Greater(left, right) => add_compared(to, left, " > ", right),
-        Condition::AtMost(left, right) => add_compared(to, left, " <= ", right),
-        Condition::AtLeast(left, right) => add_compared(to, left, " >= ", right),
-        Condition::Matches(left, right) => add_matched(to, left, " =~ ", right),
-        Condition::MatchesNot(left, right) => add_matched(to, left, " !~ ", right),
-        Condition::In(left, right) => add_compared(to, left, " in ", right),
-        Condition::NotIn(left, right) => add_compared(to, left, " not in ", right),
+        Condition::Matched(matching, left, right) => {
+            add_matched(to, left, matching_text(*matching), right)
+        }
+        Condition::In(left, right) => add_compared(to, left, "in", right),
+        Condition::NotIn(left, right) => add_compared(to, left, "not in", right),
     }
 }

@@ -1,71 +1,77 @@
 //! Plugins and branches, and the sections that have them.
 
-ghost use Rattle.std.specs.Prelude.{OnOk};
-ghost use Rattle.config_print.specs.Prints.{Prints};
+ghost use Rattle.std.specs.Prelude.{◌≡◌, OnOk};
+ghost use Rattle.config_lex.specs.Spelling.{section_text};
+ghost use Rattle.config_print.specs.Prints.{Prints, Lays};
 ghost use Rattle.config_print.specs.Printed as spec;
 
 use crate::conditions::{Place, add_condition};
-use crate::values::{add_close_brace, add_plugin, deeper};
-use config_grammar::{Arm, Condition, Plugin, Statement};
+use crate::values::{Margin, add_close_brace, add_gap, add_plugin, deeper};
+use config_lex::Section;
+use config_tree::{Arm, Condition, Plugin, Statement};
 use std::alloc::AllocError;
 
-fn add_test(to: &mut String, condition: &Option<Condition>) -> Result<(), AllocError>
-    ensures { OnOk result (Prints to.old to.new (spec.test condition.now)) }
+/// The condition of an arm, behind its `if` and what stands in front of that.
+fn add_test(to: &mut String, front: Margin, condition: &Option<Condition>) -> Result<(), AllocError>
+    ensures { OnOk result (Lays to.old to.new (spec.test front condition.now)) }
 {
     match condition {
         None => Ok(()),
         Some(condition) => {
-            to.push_str("if ")?;
-            add_condition(to, condition, Place::Whole)?;
-            to.push_str(" ")
+            add_gap(to, front)?;
+            to.push_str("if")?;
+            add_condition(to, condition, Place::Whole)
         }
     }
 }
 
-#[tactic(auto, using(crate::proofs::Equations::statements))]
+/// Statements in braces, behind a blank.
 #[cycle(statements)]
-fn add_statements(to: &mut String, list: &[Statement], margin: &str) -> Result<(), AllocError>
-    ensures { OnOk result (Prints to.old to.new (spec.statement_lines margin.now list.now)) }
+fn add_block(to: &mut String, list: &[Statement], margin: Margin) -> Result<(), AllocError>
+    ensures { OnOk result (Lays to.old to.new (spec.block list.now margin)) }
 {
+    to.push_str(" {")?;
+    let inner = deeper(margin)?;
     for statement in list {
-        to.push_str(margin)?;
-        add_statement(to, statement, margin)?;
+        add_statement(to, statement, inner)?;
     }
-    Ok(())
-}
-
-#[tactic(auto, using(crate::proofs::Equations::statements))]
-#[cycle(statements)]
-fn add_arm(to: &mut String, arm: &Arm, margin: &str) -> Result<(), AllocError>
-    ensures { OnOk result (Prints to.old to.new (spec.arm arm.now margin.now)) }
-{
-    add_test(to, &arm.condition)?;
-    to.push_str("{")?;
-    let inner = deeper(to, margin)?;
-    add_statements(to, arm.block.as_slice(), inner.as_str())?;
     add_close_brace(to, margin)
 }
 
+#[cycle(statements)]
+fn add_arm(to: &mut String, arm: &Arm, front: Margin, margin: Margin) -> Result<(), AllocError>
+    ensures { OnOk result (Lays to.old to.new (spec.arm arm.now front margin)) }
+{
+    add_test(to, front, &arm.condition)?;
+    add_block(to, arm.block.as_slice(), margin)
+}
+
 /// What an arm of a branch stands behind.
-fn add_else(to: &mut String, later: bool, margin: &str) -> Result<(), AllocError>
-    ensures { OnOk result (Prints to.old to.new (spec.behind_else later margin.now)) }
+fn add_else(to: &mut String, later: bool, margin: Margin) -> Result<(), AllocError>
+    ensures { OnOk result (Lays to.old to.new (spec.behind_else later margin)) }
 {
     if !later {
         return Ok(());
     }
-    to.push_str(margin)?;
-    to.push_str("else ")
+    add_gap(to, margin)?;
+    to.push_str("else")
 }
 
-#[tactic(auto, using(crate::proofs::Equations::statements))]
+/// What stands in front of the `if` of an arm.
+fn arm_front(later: bool, margin: Margin) -> Margin
+    ensures { result ≡ spec.arm_front later margin }
+{
+    if later { Margin::OneLine } else { margin }
+}
+
 #[cycle(statements)]
-fn add_branch(to: &mut String, arms: &[Arm], margin: &str) -> Result<(), AllocError>
-    ensures { OnOk result (Prints to.old to.new (spec.arms margin.now arms.now)) }
+fn add_branch(to: &mut String, arms: &[Arm], margin: Margin) -> Result<(), AllocError>
+    ensures { OnOk result (Lays to.old to.new (spec.arms margin arms.now)) }
 {
     let mut later = false;
     for arm in arms {
         add_else(to, later, margin)?;
-        add_arm(to, arm, margin)?;
+        add_arm(to, arm, arm_front(later, margin), margin)?;
         later = true;
     }
     Ok(())
@@ -73,8 +79,8 @@ fn add_branch(to: &mut String, arms: &[Arm], margin: &str) -> Result<(), AllocEr
 
 #[tactic(auto, using(crate::proofs::Equations::statements))]
 #[cycle(statements)]
-fn add_statement(to: &mut String, statement: &Statement, margin: &str) -> Result<(), AllocError>
-    ensures { OnOk result (Prints to.old to.new (spec.statement statement.now margin.now)) }
+fn add_statement(to: &mut String, statement: &Statement, margin: Margin) -> Result<(), AllocError>
+    ensures { OnOk result (Lays to.old to.new (spec.statement statement.now margin)) }
 {
     match statement {
         Statement::Plugin(plugin) => add_plugin(to, plugin, margin),
@@ -82,41 +88,51 @@ fn add_statement(to: &mut String, statement: &Statement, margin: &str) -> Result
     }
 }
 
-fn add_plugins(to: &mut String, list: &[Plugin], margin: &str) -> Result<(), AllocError>
-    ensures { OnOk result (Prints to.old to.new (spec.plugin_lines margin.now list.now)) }
+/// Plugins in braces, behind a blank.
+fn add_plugins(to: &mut String, list: &[Plugin], margin: Margin) -> Result<(), AllocError>
+    ensures { OnOk result (Lays to.old to.new (spec.plugin_block list.now margin)) }
 {
+    to.push_str(" {")?;
+    let inner = deeper(margin)?;
     for plugin in list {
-        to.push_str(margin)?;
-        add_plugin(to, plugin, margin)?;
+        add_plugin(to, plugin, inner)?;
     }
-    Ok(())
+    add_close_brace(to, margin)
 }
 
-/// A section of plugins alone.
-pub(crate) fn add_plugin_section(
+fn section_text(kind: Section) -> &'static str
+    ensures { result.now ≡ section_text kind }
+{
+    match kind {
+        Section::Input => "input",
+        Section::Filter => "filter",
+        Section::Output => "output",
+    }
+}
+
+/// The section of the inputs, which are plugins alone.
+pub(crate) fn add_inputs(to: &mut String, list: &[Plugin]) -> Result<(), AllocError>
+    ensures { OnOk result (Prints to.old to.new (spec.inputs_text list.now)) }
+{
+    if list.is_empty() {
+        return Ok(());
+    }
+    to.push_str("input")?;
+    add_plugins(to, list, Margin::Level(0))?;
+    to.push_str("\n")
+}
+
+pub(crate) fn add_section(
     to: &mut String,
-    name: &str,
-    list: &[Plugin],
+    kind: Section,
+    list: &[Statement],
 ) -> Result<(), AllocError>
-    ensures { OnOk result (Prints to.old to.new (spec.plugin_section name.now list.now)) }
+    ensures { OnOk result (Prints to.old to.new (spec.statements_text kind list.now)) }
 {
     if list.is_empty() {
         return Ok(());
     }
-    to.push_str(name)?;
-    to.push_str(" {")?;
-    add_plugins(to, list, "\n  ")?;
-    to.push_str("\n}\n")
-}
-
-pub(crate) fn add_section(to: &mut String, name: &str, list: &[Statement]) -> Result<(), AllocError>
-    ensures { OnOk result (Prints to.old to.new (spec.statement_section name.now list.now)) }
-{
-    if list.is_empty() {
-        return Ok(());
-    }
-    to.push_str(name)?;
-    to.push_str(" {")?;
-    add_statements(to, list, "\n  ")?;
-    to.push_str("\n}\n")
+    to.push_str(section_text(kind))?;
+    add_block(to, list, Margin::Level(0))?;
+    to.push_str("\n")
 }

@@ -1,13 +1,19 @@
 //! What one token is written as.
 
-ghost use Rattle.std.specs.Prelude.{◌≡◌, ◌++◌, false, OnOk};
+ghost use Rattle.std.specs.Prelude.{◌≡◌, ◌++◌, [], false, OnOk, codes, if◌then◌else◌};
 ghost use Rattle.std.specs.List.{list_all};
-ghost use Rattle.config_grammar.specs.Bytes as bytes;
+ghost use Rattle.config_lex.specs.Bytes as bytes;
 ghost use Rattle.event_json.specs.Json.{number_text};
+ghost use Rattle.event_tree.specs.PathTexts.{bracketed};
 ghost use Rattle.config_print.specs.Prints.{Prints};
 ghost use Rattle.config_print.specs.Tokens as spec;
+ghost use Rattle.config_lex.specs.Spelling as texts;
+ghost use Rattle.config_lex.specs.declared.token.Token.TheVariants as t;
+ghost use Rattle.config_lex.specs.declared.token.Word.TheVariants as w;
+ghost use Rattle.config_lex.specs.Lexemes.{word_of};
 
-use config_grammar::{is_in_word, is_letter};
+use config_lex::{is_in_word, is_letter};
+use config_tree::{Comparison, Conjunction, Disjunction, Matching};
 use event_json::write_json;
 use event_tree::{Number, Path, Value};
 use plain_data::Text;
@@ -69,7 +75,7 @@ pub(crate) fn add_string(to: &mut String, text: &str) -> Result<(), AllocError>
 
 /// The name of a setting.
 pub(crate) fn add_setting_name(to: &mut String, name: &str) -> Result<(), AllocError>
-    ensures { OnOk result (Prints to.old to.new (spec.setting_name name.now)) }
+    ensures { OnOk result (Prints to.old to.new (spec.written (spec.name_token name.now))) }
 {
     if is_word(true, name) {
         to.push_str(name)
@@ -80,7 +86,7 @@ pub(crate) fn add_setting_name(to: &mut String, name: &str) -> Result<(), AllocE
 
 /// The name of a plugin that is a value.
 pub(crate) fn add_nested_name(to: &mut String, name: &str) -> Result<(), AllocError>
-    ensures { OnOk result (Prints to.old to.new (spec.nested_name name.now)) }
+    ensures { OnOk result (Prints to.old to.new (spec.written (t.Word (word_of name.now)))) }
 {
     if is_word(false, name) {
         to.push_str(name)
@@ -89,20 +95,21 @@ pub(crate) fn add_nested_name(to: &mut String, name: &str) -> Result<(), AllocEr
     }
 }
 
-fn is_plugin_word(name: &str) -> bool
-    ensures { result ≡ spec.is_plugin_word name.now }
+/// Whether the text is a word that a branch begins with.
+fn is_branch_word(name: &str) -> bool
+    ensures { result ≡ spec.is_branch_word name.now }
 {
-    is_word(true, name) && !(name == "if" || name == "else")
+    name == "if" || name == "else"
 }
 
 /// The name of a plugin that is a statement.
 pub(crate) fn add_plugin_name(to: &mut String, name: &str) -> Result<(), AllocError>
-    ensures { OnOk result (Prints to.old to.new (spec.plugin_name name.now)) }
+    ensures { OnOk result (Prints to.old to.new (spec.written (spec.plugin_token name.now))) }
 {
-    if is_plugin_word(name) {
-        to.push_str(name)
-    } else {
+    if is_branch_word(name) {
         add_string(to, name)
+    } else {
+        add_setting_name(to, name)
     }
 }
 
@@ -144,7 +151,7 @@ pub(crate) fn add_regexp(to: &mut String, text: &str) -> Result<(), AllocError>
 }
 
 fn add_parts(to: &mut String, parts: &[Text]) -> Result<(), AllocError>
-    ensures { OnOk result (Prints to.old to.new (spec.bracketed parts.now)) }
+    ensures { OnOk result (Prints to.old to.new (bracketed parts.now)) }
 {
     for part in parts {
         to.push_str("[")?;
@@ -155,7 +162,7 @@ fn add_parts(to: &mut String, parts: &[Text]) -> Result<(), AllocError>
 }
 
 fn add_selector_front(to: &mut String, meta: bool) -> Result<(), AllocError>
-    ensures { OnOk result (Prints to.old to.new (spec.selector_front meta)) }
+    ensures { OnOk result (Prints to.old to.new (if meta then codes "[@metadata]" else [])) }
 {
     if meta {
         to.push_str("[@metadata]")
@@ -165,8 +172,48 @@ fn add_selector_front(to: &mut String, meta: bool) -> Result<(), AllocError>
 }
 
 pub(crate) fn add_selector(to: &mut String, path: &Path) -> Result<(), AllocError>
-    ensures { OnOk result (Prints to.old to.new (spec.selector path.now)) }
+    ensures { OnOk result (Prints to.old to.new (bracketed (spec.parts_of path.now))) }
 {
     add_selector_front(to, path.is_meta())?;
     add_parts(to, path.parts())
+}
+
+pub(crate) fn conjunction_text(joint: Conjunction) -> &'static str
+    ensures { result.now ≡ texts.conjunction_text joint }
+{
+    match joint {
+        Conjunction::And => "and",
+        Conjunction::Nand => "nand",
+    }
+}
+
+pub(crate) fn disjunction_text(joint: Disjunction) -> &'static str
+    ensures { result.now ≡ texts.disjunction_text joint }
+{
+    match joint {
+        Disjunction::Or => "or",
+        Disjunction::Xor => "xor",
+    }
+}
+
+pub(crate) fn comparison_text(comparison: Comparison) -> &'static str
+    ensures { result.now ≡ texts.comparison_text comparison }
+{
+    match comparison {
+        Comparison::Equal => "==",
+        Comparison::Unequal => "!=",
+        Comparison::Less => "<",
+        Comparison::Greater => ">",
+        Comparison::AtMost => "<=",
+        Comparison::AtLeast => ">=",
+    }
+}
+
+pub(crate) fn matching_text(matching: Matching) -> &'static str
+    ensures { result.now ≡ texts.matching_text matching }
+{
+    match matching {
+        Matching::Matches => "=~",
+        Matching::MatchesNot => "!~",
+    }
 }

@@ -1,31 +1,31 @@
 -- What the lexer takes for a token can be written again.
-use Rattle.std.proofs.Common.{◌≡◌, ℕ, suc, ◌+◌, ◌==◌, ◌&&◌, ◌||◌, not, List, [], ◌∷◌, ◌++◌, length, take, drop, Option, Some, None, option_map, Bool, true, false, if◌then◌else◌, refl, ap, sym, subst, ◌∙◌, arith, nat_eq}
+use Rattle.std.proofs.Common.{◌≡◌, ℕ, suc, ◌+◌, ◌==◌, ◌&&◌, ◌||◌, not, List, [], ◌∷◌, ◌++◌, length, take, drop, Option, Some, None, option_map, Bool, true, false, if◌then◌else◌, refl, ap, subst, ◌∙◌, arith, nat_eq}
 use Rattle.std.proofs.lemmas.Bool.{not-true}
 use Rattle.std.specs.List.{list_all, list_any}
 use Rattle.std.proofs.lemmas.Bool.Decides.{nat_tests}
 use Rattle.std.proofs.Math.Seq.{take-append_seam}
 use Rattle.event_tree.specs.Number.{Num}
 use Rattle.event_json.specs.Json.{number_text}
-use Rattle.config_grammar.specs.declared.token.Token.{Token}
-use Rattle.config_grammar.specs.declared.token.Token.TheVariants as t
-use Rattle.config_grammar.specs.declared.token.Word.{Word}
-use Rattle.config_grammar.specs.declared.token.Word.TheVariants as w
-use Rattle.config_grammar.specs.declared.token.Conjunction.TheVariants as and
-use Rattle.config_grammar.specs.declared.token.Disjunction.TheVariants as or
-use Rattle.config_grammar.specs.declared.token.Section.TheVariants as kind
-use Rattle.config_grammar.specs.declared.token.Comparison.TheVariants as is
-use Rattle.config_grammar.specs.declared.token.Matching.TheVariants as matching
-use Rattle.config_grammar.specs.declared.context.Context.{Context}
-use Rattle.config_grammar.specs.Bytes.{passing, skip, closing, unescaped, is_letter, is_in_word, number_length, number_of, begins_number}
+use Rattle.config_lex.specs.declared.token.Token.{Token}
+use Rattle.config_lex.specs.declared.token.Token.TheVariants as t
+use Rattle.config_lex.specs.declared.token.Word.{Word}
+use Rattle.config_lex.specs.declared.token.Word.TheVariants as w
+use Rattle.config_tree.specs.declared.operators.Conjunction.TheVariants as and
+use Rattle.config_tree.specs.declared.operators.Disjunction.TheVariants as or
+use Rattle.config_lex.specs.declared.token.Section.TheVariants as kind
+use Rattle.config_tree.specs.declared.operators.Comparison.TheVariants as is
+use Rattle.config_tree.specs.declared.operators.Matching.TheVariants as matching
+use Rattle.config_lex.specs.declared.context.Context.{Context}
+use Rattle.config_lex.specs.Bytes.{passing, skip, closing, unescaped, is_letter, is_in_word, number_length, number_of, begins_number}
 use Rattle.config_grammar.specs.Words.{spelling, setting_name, plugin_name}
-use Rattle.config_grammar.specs.Lexemes.{Found, word_of, word_token, word_at, number_at, quoted_at, regexp_at, bracket_at, selector_of, parts_at, begins_literals, sign_at, double, single, longer, token_at}
-use Rattle.config_print_laws.specs.Tokens.{is_bare, name_token}
+use Rattle.config_lex.specs.Lexemes.{Found, word_of, word_token, word_at, number_at, quoted_at, regexp_at, bracket_at, selector_of, parts_at, begins_literals, sign_at, double, single, longer, token_at}
 use Rattle.config_print_laws.proofs.Good.{is_sign, Lawful}
 use Rattle.config_print_laws.proofs.Names.{word_spelled}
-use Rattle.config_print.specs.Tokens.{is_word}
+use Rattle.config_print.specs.Tokens.{is_word, name_token}
+use Rattle.config_print.proofs.Names.{word_bare}
 use Rattle.config_print_laws.proofs.Strings.{is_plain, ArePlain, Between, plain_between, quoted_between, ends_escaped, none_before, ends_like}
-use Rattle.config_print_laws.proofs.Bools.{and_l, and_r, both_true}
-use Rattle.config_print_laws.proofs.Words.{run_passes, in_word_bare, in_word_more, letter_in_word, SelectorFits, selector_from}
+use Rattle.config_print.proofs.Bools.{and_l, and_r, both_true}
+use Rattle.config_print_laws.proofs.Words.{run_passes, in_word_more, letter_in_word, SelectorFits, selector_from}
 use Rattle.config_print_laws.proofs.Numbers.{IsHeld, read_held, number_plain, number_lexes}
 
 -- a token that can be written, so that the lexer takes it for itself
@@ -58,23 +58,8 @@ pub word_more : (s : List ℕ) → is_word false s ≡ true → is_word true s �
 word_more [] h = absurd (cc)
 word_more (b ∷ s) h = both_true (is_letter b) (list_all (is_in_word true) s) (and_l (is_letter b) (list_all (is_in_word false) s) h) (in_word_more s (and_r (is_letter b) (list_all (is_in_word false) s) h))
 
-letter_no_dash : (b : ℕ) → is_letter b ≡ true → nat_eq b 45 ≡ false
-letter_no_dash b h = grind (arith, nat_tests)
-
--- a word without a dash
-word_bare : (s : List ℕ) → is_word true s ≡ true → list_any (λ b. nat_eq b 45) s ≡ false → is_word false s ≡ true
-word_bare [] h u = absurd (cc)
-word_bare (b ∷ s) h u =
-    let l = and_l (is_letter b) (list_all (is_in_word true) s) h in
-    both_true (is_letter b) (list_all (is_in_word false) s) l
-    (in_word_bare s (and_r (is_letter b) (list_all (is_in_word true) s) h) (sym (ap (λ z. z || list_any (λ b. nat_eq b 45) s) (letter_no_dash b l)) ∙ u))
-
 pub spelled : (s : List ℕ) → spelling (word_of s) ≡ s
 spelled s = let h : Some (spelling (word_of s)) ≡ Some s = word_spelled s in cc
-
-same_bare : (s : List ℕ) → is_bare s ≡ is_word true s
-same_bare [] = refl
-same_bare (b ∷ s) = refl
 
 word_fits : (s : List ℕ) → is_word false s ≡ true → Fit (t.Word (word_of s))
 word_fits s h = (ap (is_word false) (spelled s) ∙ h, ap word_of (spelled s))
@@ -88,10 +73,10 @@ word_token_fits s h = at (list_any (λ b. nat_eq b 45) s) refl
     at false e = word_fits s (word_bare s h e)
 
 name_fits : (s : List ℕ) → Between s → Fit (name_token s)
-name_fits s h = at (is_bare s) refl
+name_fits s h = at (is_word true s) refl
   where
-    at : (z : Bool) → is_bare s ≡ z → Fit (if z then word_token s else t.Quoted s)
-    at true e = word_token_fits s (sym (same_bare s) ∙ e)
+    at : (z : Bool) → is_word true s ≡ z → Fit (if z then word_token s else t.Quoted s)
+    at true e = word_token_fits s e
     at false e = h
 
 text_of_word : (a : Word) → Fit (t.Word a) → Between (spelling a)
@@ -207,33 +192,20 @@ abbrev Sign : Option Token → Type 0
 Sign None = Unit {0}
 Sign (Some y) = is_sign y ≡ true
 
+-- the first of several signs
+or_else : (z : Bool) (y : Token) (o : Option Token) → is_sign y ≡ true → Sign o → Sign (if z then Some y else o)
+or_else true y o h u = h
+or_else false y o h u = u
+
 double_sign : (b c : ℕ) → Sign (double b c)
-double_sign b c = at (b == 61 && c == 62) (b == 61 && c == 61) (b == 33 && c == 61) (b == 60 && c == 61) (b == 62 && c == 61) (b == 61 && c == 126) (b == 33 && c == 126)
-  where
-    at : (z1 z2 z3 z4 z5 z6 z7 : Bool) → Sign (if z1 then Some t.Arrow else (if z2 then Some (t.Comparison is.Equal) else (if z3 then Some (t.Comparison is.Unequal) else (if z4 then Some (t.Comparison is.AtMost) else (if z5 then Some (t.Comparison is.AtLeast) else (if z6 then Some (t.Matching matching.Matches) else (if z7 then Some (t.Matching matching.MatchesNot) else (None))))))))
-    at true z2 z3 z4 z5 z6 z7 = refl
-    at false true z3 z4 z5 z6 z7 = refl
-    at false false true z4 z5 z6 z7 = refl
-    at false false false true z5 z6 z7 = refl
-    at false false false false true z6 z7 = refl
-    at false false false false false true z7 = refl
-    at false false false false false false true = refl
-    at false false false false false false false = tt
+double_sign b c =
+    or_else (b == 61 && c == 62) t.Arrow _ refl (or_else (b == 61 && c == 61) (t.Comparison is.Equal) _ refl (or_else (b == 33 && c == 61) (t.Comparison is.Unequal) _ refl (or_else (b == 60 && c == 61) (t.Comparison is.AtMost) _ refl
+    (or_else (b == 62 && c == 61) (t.Comparison is.AtLeast) _ refl (or_else (b == 61 && c == 126) (t.Matching matching.Matches) _ refl (or_else (b == 33 && c == 126) (t.Matching matching.MatchesNot) None refl tt))))))
 
 single_sign : (b : ℕ) → Sign (single b)
-single_sign b = at (b == 123) (b == 125) (b == 93) (b == 40) (b == 41) (b == 44) (b == 33) (b == 60) (b == 62)
-  where
-    at : (z1 z2 z3 z4 z5 z6 z7 z8 z9 : Bool) → Sign (if z1 then Some t.OpenBrace else (if z2 then Some t.CloseBrace else (if z3 then Some t.CloseBracket else (if z4 then Some t.OpenParen else (if z5 then Some t.CloseParen else (if z6 then Some t.Comma else (if z7 then Some t.Exclamation else (if z8 then Some (t.Comparison is.Less) else (if z9 then Some (t.Comparison is.Greater) else (None))))))))))
-    at true z2 z3 z4 z5 z6 z7 z8 z9 = refl
-    at false true z3 z4 z5 z6 z7 z8 z9 = refl
-    at false false true z4 z5 z6 z7 z8 z9 = refl
-    at false false false true z5 z6 z7 z8 z9 = refl
-    at false false false false true z6 z7 z8 z9 = refl
-    at false false false false false true z7 z8 z9 = refl
-    at false false false false false false true z8 z9 = refl
-    at false false false false false false false true z9 = refl
-    at false false false false false false false false true = refl
-    at false false false false false false false false false = tt
+single_sign b =
+    or_else (b == 123) t.OpenBrace _ refl (or_else (b == 125) t.CloseBrace _ refl (or_else (b == 93) t.CloseBracket _ refl (or_else (b == 40) t.OpenParen _ refl (or_else (b == 41) t.CloseParen _ refl
+    (or_else (b == 44) t.Comma _ refl (or_else (b == 33) t.Exclamation _ refl (or_else (b == 60) (t.Comparison is.Less) _ refl (or_else (b == 62) (t.Comparison is.Greater) None refl tt))))))))
 
 longer_found : (o q : Option Token) → Sign o → Sign q → Found_fits (longer o q)
 longer_found (Some y) q h u = sign_fits y h

@@ -2,9 +2,9 @@
 use Rattle.std.proofs.Common.{◌≡◌, ℕ, List, [], ◌∷◌, ◌++◌, map, Bool, true, false, ◌||◌, if◌then◌else◌, refl, ap, sym, ◌∙◌, bytes_eq}
 use Rattle.std.proofs.lemmas.Slice.Eq.{bytes_eq-Decides}
 use Rattle.std.specs.List.{list_any}
-use Rattle.config_grammar.specs.declared.tree.SettingValue.{SettingValue}
+use Rattle.config_tree.specs.declared.tree.SettingValue.{SettingValue}
 use Rattle.config_print_laws.specs.Once.{Fresh}
-use Rattle.config_grammar.specs.Joining.{Entries, has, with_entry, with_entries, with_setting, joined_value}
+use Rattle.config_tree.specs.Joining.{Entries, has, with_entry, with_entries, with_setting, joined_value}
 
 abbrev names : Entries → List (List ℕ)
 names es = map (λ e. e.0) es

@@ -1,47 +1,25 @@
 -- What was read holds only what its printed tokens give again: names stand once, and each token that is printed passes a test that
 -- the tokens read passed.
-use Rattle.std.proofs.Common.{◌≡◌, ℕ, zero, suc, List, [], ◌∷◌, ◌++◌, Some, None, Bool, true, false, if◌then◌else◌, refl, ap, sym, subst, ◌∙◌, bytes_eq}
+use Rattle.std.proofs.Common.{◌≡◌, ℕ, suc, List, [], ◌∷◌, ◌++◌, Some, Bool, true, false, if◌then◌else◌, ap, sym, subst, ◌∙◌, bytes_eq}
 use Rattle.event_tree.specs.Number.{Num}
-use Rattle.event_json.specs.Json.{number_text}
-use Rattle.config_grammar.specs.declared.token.Token.{Token}
-use Rattle.config_grammar.specs.declared.token.Token.TheVariants as t
-use Rattle.config_grammar.specs.declared.token.Word.{Word}
-use Rattle.config_grammar.specs.declared.token.Word.TheVariants as w
-use Rattle.config_grammar.specs.declared.tree.SettingValue.{SettingValue, out-SettingValue}
-use Rattle.config_grammar.specs.declared.tree.SettingValue.TheVariants as v
-use Rattle.config_grammar.specs.declared.tree.SettingValue.TheOpen.{SettingValue-F}
-use Rattle.config_grammar.specs.declared.tree.SettingValue.TheViews.{out-roll-SettingValue}
-use Rattle.config_grammar.specs.declared.tree.Condition.{Condition}
-use Rattle.config_grammar.specs.declared.tree.Plugin.{Plugin}
-use Rattle.config_grammar.specs.declared.tree.Settings.{Settings}
-use Rattle.config_grammar.specs.declared.tree.Arm.{Arm}
-use Rattle.config_grammar.specs.declared.tree.Statement.{Statement}
-use Rattle.config_grammar.specs.declared.tree.Statement.TheVariants as s
-use Rattle.config_grammar.specs.declared.tree.Config.{Config}
+use Rattle.config_lex.specs.declared.token.Token.{Token}
+use Rattle.config_lex.specs.declared.token.Token.TheVariants as t
+use Rattle.config_lex.specs.declared.token.Word.{Word}
+use Rattle.config_lex.specs.declared.token.Word.TheVariants as w
+use Rattle.config_tree.specs.declared.tree.SettingValue.{SettingValue, out-SettingValue, roll-SettingValue}
+use Rattle.config_tree.specs.declared.tree.SettingValue.TheVariants as v
+use Rattle.config_tree.specs.declared.tree.SettingValue.TheOpen.{SettingValue-F}
+use Rattle.config_tree.specs.declared.tree.SettingValue.TheViews.{out-roll-SettingValue}
+use Rattle.config_tree.specs.declared.tree.Plugin.{Plugin}
+use Rattle.config_tree.specs.declared.tree.Settings.{Settings}
 use Rattle.config_grammar.specs.Grammar as g
 use Rattle.config_grammar.specs.Words.{spelling, bareword, setting_name, plugin_name, key, scalar}
-use Rattle.config_grammar.specs.Lexemes.{word_of}
-use Rattle.config_grammar.specs.Joining.{Entries, with_setting, with_entry, with_entries, joined_value, plugin_of, empty}
-use Rattle.config_print_laws.specs.Tokens.{name_token, plugin_token, condition_tokens}
+use Rattle.config_lex.specs.Lexemes.{word_of}
+use Rattle.config_tree.specs.Joining.{Entries, with_setting, with_entry, with_entries, joined_value, plugin_of}
+use Rattle.config_print.specs.Tokens.{name_token, plugin_token, number_token}
+use Rattle.config_print_laws.proofs.Pieces.{AllOf, first_of_all, last_of_all}
 use Rattle.config_print_laws.specs.Once.{Fresh}
 use Rattle.config_print_laws.proofs.Fresh.{fresh_setting, fresh_entries, fresh_end}
-
--- a test of the tokens of a list
-abbrev pub AllOf : (Token → Type 0) → List Token → Type 0
-AllOf Ok [] = Unit {0}
-AllOf Ok (y ∷ ts) = Ok y × AllOf Ok ts
-
-pub first_of_all : (Ok : Token → Type 0) (a b : List Token) → AllOf Ok (a ++ b) → AllOf Ok a
-first_of_all Ok [] b h = tt
-first_of_all Ok (y ∷ a) b h = (h.0, first_of_all Ok a b h.1)
-
-pub last_of_all : (Ok : Token → Type 0) (a b : List Token) → AllOf Ok (a ++ b) → AllOf Ok b
-last_of_all Ok [] b h = h
-last_of_all Ok (y ∷ a) b h = last_of_all Ok a b h.1
-
-pub all_of_both : (Ok : Token → Type 0) (a b : List Token) → AllOf Ok a → AllOf Ok b → AllOf Ok (a ++ b)
-all_of_both Ok [] b h u = u
-all_of_both Ok (y ∷ a) b h u = (h.0, all_of_both Ok a b h.1 u)
 
 -- a token that is always written alike
 abbrev pub is_sign : Token → Bool
@@ -60,7 +38,7 @@ pub record Lawful (Ok : Token → Type 0) : Type 0 where
   pub sign : (y : Token) → is_sign y ≡ true → Ok y
   pub text : (a : Word) → Ok (t.Word a) → Ok (t.Quoted (spelling a))
   pub word : (a : Word) → Ok (t.Word a) → Ok (t.Word (word_of (spelling a)))
-  pub number : (n : Num) (s : List ℕ) → Ok (t.Number n s) → Ok (t.Number n (number_text n))
+  pub number : (n : Num) (s : List ℕ) → Ok (t.Number n s) → Ok (number_token n)
   pub number_key : (n : Num) (s : List ℕ) → Ok (t.Number n s) → Ok (t.Quoted s)
   pub name : (y : Token) (k : List ℕ) → setting_name y ≡ Some k → Ok y → Ok (name_token k)
   pub plugin : (y : Token) (k : List ℕ) → plugin_name y ≡ Some k → Ok y → Ok (plugin_token k)
@@ -72,7 +50,7 @@ entry_token is_setting k = if is_setting then name_token k else t.Quoted k
 mutual
   pub data GoodValue (Ok : Token → Type 0) : ℕ → SettingValue → Type 0 where
     good_text : {d : ℕ} {s : List ℕ} → Ok (t.Quoted s) → GoodValue Ok d (v.Text s)
-    good_number : {d : ℕ} {n : Num} → Ok (t.Number n (number_text n)) → GoodValue Ok d (v.Number n)
+    good_number : {d : ℕ} {n : Num} → Ok (number_token n) → GoodValue Ok d (v.Number n)
     good_nested : {d : ℕ} {name : List ℕ} {es : Entries} → Ok (t.Word (word_of name)) → GoodEntries Ok true d es → Fresh [] es → GoodValue Ok (suc d) (v.Nested (plugin_of name es))
     good_array : {d : ℕ} {xs : List SettingValue} → GoodItems Ok d xs → GoodValue Ok (suc d) (v.Array xs)
     good_hash : {d : ℕ} {es : Entries} → GoodEntries Ok false d es → Fresh [] es → GoodValue Ok (suc d) (v.Hash es)
@@ -86,52 +64,6 @@ mutual
     entry : {is_setting : Bool} {d : ℕ} {k : List ℕ} {x : SettingValue} {es : Entries} → Ok (entry_token is_setting k) → GoodValue Ok d x → GoodEntries Ok is_setting d es
         → GoodEntries Ok is_setting d ((k, x) ∷ es)
 
-pub data GoodPlugin (Ok : Token → Type 0) : ℕ → Plugin → Type 0 where
-  good_plugin : {d : ℕ} {name : List ℕ} {es : Entries} → Ok (plugin_token name) → GoodEntries Ok true d es → Fresh [] es → GoodPlugin Ok (suc d) (plugin_of name es)
-
-pub data GoodPlugins (Ok : Token → Type 0) : ℕ → List Plugin → Type 0 where
-  no_plugins : {d : ℕ} → GoodPlugins Ok d []
-  one_plugin : {d : ℕ} {x : Plugin} {xs : List Plugin} → GoodPlugin Ok d x → GoodPlugins Ok d xs → GoodPlugins Ok d (x ∷ xs)
-
-mutual
-  pub data GoodStatement (Ok : Token → Type 0) : ℕ → Statement → Type 0 where
-    plugin_there : {d : ℕ} {x : Plugin} → GoodPlugin Ok d x → GoodStatement Ok d (s.Plugin x)
-    branch_there : {d : ℕ} {x : Arm} {arms : List Arm} → GoodArm Ok d x → GoodElse Ok d arms → GoodStatement Ok d (s.Branch (x ∷ arms))
-
-  pub data GoodStatements (Ok : Token → Type 0) : ℕ → List Statement → Type 0 where
-    no_statements : {d : ℕ} → GoodStatements Ok d []
-    one_statement : {d : ℕ} {x : Statement} {xs : List Statement} → GoodStatement Ok d x → GoodStatements Ok d xs → GoodStatements Ok d (x ∷ xs)
-
-  pub data GoodArm (Ok : Token → Type 0) : ℕ → Arm → Type 0 where
-    arm_there : {d : ℕ} {x : Condition} {xs : List Statement} → g.ReadsCondition (suc d) (condition_tokens x 0) x → AllOf Ok (condition_tokens x 0) → GoodStatements Ok d xs
-        → GoodArm Ok (suc d) (record { condition = Some x; block = xs })
-
-  pub data GoodElse (Ok : Token → Type 0) : ℕ → List Arm → Type 0 where
-    no_more_arms : {d : ℕ} → GoodElse Ok d []
-    else_if_there : {d : ℕ} {x : Arm} {arms : List Arm} → GoodArm Ok d x → GoodElse Ok d arms → GoodElse Ok d (x ∷ arms)
-    else_there : {d : ℕ} {xs : List Statement} → GoodStatements Ok d xs → GoodElse Ok (suc d) (record { condition = None; block = xs } ∷ [])
-
--- a configuration without statements takes no level
-abbrev pub GoodConfig : (Token → Type 0) → ℕ → Config → Type 0
-GoodConfig Ok zero config = config ≡ empty
-GoodConfig Ok (suc d) config = GoodPlugins Ok d config.inputs × GoodStatements Ok d config.filters × GoodStatements Ok d config.outputs
-
--- what a value is seen as
-seen_text : (s : List ℕ) → out-SettingValue (v.Text s) ≡ SettingValue-F.Text s
-seen_text s = ap out-SettingValue (sym (v.rolls-Text s)) ∙ out-roll-SettingValue (SettingValue-F.Text s)
-
-seen_number : (n : Num) → out-SettingValue (v.Number n) ≡ SettingValue-F.Number n
-seen_number n = ap out-SettingValue (sym (v.rolls-Number n)) ∙ out-roll-SettingValue (SettingValue-F.Number n)
-
-seen_nested : (x : Plugin) → out-SettingValue (v.Nested x) ≡ SettingValue-F.Nested x
-seen_nested x = ap out-SettingValue (sym (v.rolls-Nested x)) ∙ out-roll-SettingValue (SettingValue-F.Nested x)
-
-seen_array : (xs : List SettingValue) → out-SettingValue (v.Array xs) ≡ SettingValue-F.Array xs
-seen_array xs = ap out-SettingValue (sym (v.rolls-Array xs)) ∙ out-roll-SettingValue (SettingValue-F.Array xs)
-
-seen_hash : (es : Entries) → out-SettingValue (v.Hash es) ≡ SettingValue-F.Hash es
-seen_hash es = ap out-SettingValue (sym (v.rolls-Hash es)) ∙ out-roll-SettingValue (SettingValue-F.Hash es)
-
 -- the two values of a setting, by what they are seen as
 abbrev step : SettingValue → SettingValue-F SettingValue Plugin Settings → SettingValue-F SettingValue Plugin Settings → SettingValue
 step y (SettingValue-F.Array xs) (SettingValue-F.Array ys) = v.Array (xs ++ ys)
@@ -141,31 +73,12 @@ step y _ _ = y
 joined_seen : (x y : SettingValue) (a b : SettingValue-F SettingValue Plugin Settings) → out-SettingValue x ≡ a → out-SettingValue y ≡ b → joined_value x y ≡ step y a b
 joined_seen x y a b h u = ap (λ l. step y l (out-SettingValue y)) h ∙ ap (λ l. step y a l) u
 
--- neither two arrays nor two hashes
-abbrev differ : SettingValue-F SettingValue Plugin Settings → SettingValue-F SettingValue Plugin Settings → Bool
-differ (SettingValue-F.Array xs) (SettingValue-F.Array ys) = false
-differ (SettingValue-F.Hash xs) (SettingValue-F.Hash ys) = false
-differ _ _ = true
+abbrev Seen : SettingValue → Type 0
+Seen x = (a : SettingValue-F SettingValue Plugin Settings) × (out-SettingValue x ≡ a)
 
-abbrev single : SettingValue-F SettingValue Plugin Settings → Bool
-single (SettingValue-F.Array xs) = false
-single (SettingValue-F.Hash xs) = false
-single _ = true
-
-plain_later : (a b : SettingValue-F SettingValue Plugin Settings) → single b ≡ true → differ a b ≡ true
-plain_later a (SettingValue-F.Array ys) h = absurd (cc)
-plain_later a (SettingValue-F.Hash ys) h = absurd (cc)
-plain_later (SettingValue-F.Array xs) b h = refl
-plain_later (SettingValue-F.Hash xs) b h = refl
-plain_later a b h = refl
-
-later_step : (y : SettingValue) (a b : SettingValue-F SettingValue Plugin Settings) → differ a b ≡ true → step y a b ≡ y
-later_step y (SettingValue-F.Array xs) (SettingValue-F.Array ys) h = absurd (cc)
-later_step y (SettingValue-F.Hash xs) (SettingValue-F.Hash ys) h = absurd (cc)
-later_step y a b h = refl
-
-joined_later : (x y : SettingValue) (a b : SettingValue-F SettingValue Plugin Settings) → out-SettingValue x ≡ a → out-SettingValue y ≡ b → differ a b ≡ true → joined_value x y ≡ y
-joined_later x y a b h u r = joined_seen x y a b h u ∙ later_step y a b r
+-- what a value is made of
+made : (a : SettingValue-F SettingValue Plugin Settings) (x : SettingValue) → roll-SettingValue a ≡ x → Seen x
+made a x e = (a, ap out-SettingValue (sym e) ∙ out-roll-SettingValue a)
 
 module _ (Ok : Token → Type 0) where
   items_end : {d : ℕ} {xs ys : List SettingValue} → GoodItems Ok d xs → GoodItems Ok d ys → GoodItems Ok d (xs ++ ys)
@@ -189,24 +102,21 @@ module _ (Ok : Token → Type 0) where
   with_entries_good p no_entries = p
   with_entries_good p (entry {k} {x} r q o) = with_entries_good (with_entry_good k x p r q) o
 
+  seen : {d : ℕ} {x : SettingValue} → GoodValue Ok d x → Seen x
+  seen (good_text {s} o) = made (SettingValue-F.Text s) (v.Text s) (v.rolls-Text s)
+  seen (good_number {n} o) = made (SettingValue-F.Number n) (v.Number n) (v.rolls-Number n)
+  seen (good_nested {name} {es} o p f) = made (SettingValue-F.Nested (plugin_of name es)) (v.Nested (plugin_of name es)) (v.rolls-Nested (plugin_of name es))
+  seen (good_array {xs} p) = made (SettingValue-F.Array xs) (v.Array xs) (v.rolls-Array xs)
+  seen (good_hash {es} p f) = made (SettingValue-F.Hash es) (v.Hash es) (v.rolls-Hash es)
+
+  joined_is : {d : ℕ} {x y : SettingValue} (p : GoodValue Ok d x) (q : GoodValue Ok d y) → GoodValue Ok d (step y (seen p).0 (seen q).0) → GoodValue Ok d (joined_value x y)
+  joined_is {d} {x} {y} p q = subst (GoodValue Ok d) (sym (joined_seen x y (seen p).0 (seen q).0 (seen p).1 (seen q).1))
+
   joined_good : {d : ℕ} {x y : SettingValue} → GoodValue Ok d x → GoodValue Ok d y → GoodValue Ok d (joined_value x y)
-  joined_good {d} {x} p (good_text {s} o) = subst (GoodValue Ok d) (sym (joined_later x (v.Text s) (out-SettingValue x) (SettingValue-F.Text s) refl (seen_text s) (plain_later (out-SettingValue x) (SettingValue-F.Text s) refl))) (good_text o)
-  joined_good {d} {x} p (good_number {n} o) = subst (GoodValue Ok d) (sym (joined_later x (v.Number n) (out-SettingValue x) (SettingValue-F.Number n) refl (seen_number n) (plain_later (out-SettingValue x) (SettingValue-F.Number n) refl))) (good_number o)
-  joined_good {x} p (good_nested {d} {name} {es} o r f) =
-      subst (GoodValue Ok (suc d)) (sym (joined_later x (v.Nested (plugin_of name es)) (out-SettingValue x) (SettingValue-F.Nested (plugin_of name es)) refl (seen_nested (plugin_of name es)) (plain_later (out-SettingValue x) (SettingValue-F.Nested (plugin_of name es)) refl))) (good_nested o r f)
-  joined_good (good_array {d} {xs} p) (good_array {xs = ys} q) = subst (GoodValue Ok (suc d)) (sym (joined_seen (v.Array xs) (v.Array ys) (SettingValue-F.Array xs) (SettingValue-F.Array ys) (seen_array xs) (seen_array ys))) (good_array (items_end p q))
-  joined_good (good_hash {d} {es} p f) (good_hash {es = later} q h) =
-      subst (GoodValue Ok (suc d)) (sym (joined_seen (v.Hash es) (v.Hash later) (SettingValue-F.Hash es) (SettingValue-F.Hash later) (seen_hash es) (seen_hash later))) (good_hash (with_entries_good p q) (fresh_entries es later f))
-  joined_good (good_text {s} p) (good_array {d} {xs} q) = subst (GoodValue Ok (suc d)) (sym (joined_later (v.Text s) (v.Array xs) (SettingValue-F.Text s) (SettingValue-F.Array xs) (seen_text s) (seen_array xs) refl)) (good_array q)
-  joined_good (good_number {n} p) (good_array {d} {xs} q) = subst (GoodValue Ok (suc d)) (sym (joined_later (v.Number n) (v.Array xs) (SettingValue-F.Number n) (SettingValue-F.Array xs) (seen_number n) (seen_array xs) refl)) (good_array q)
-  joined_good (good_nested {name} {es} o r f) (good_array {d} {xs} q) =
-      subst (GoodValue Ok (suc d)) (sym (joined_later (v.Nested (plugin_of name es)) (v.Array xs) (SettingValue-F.Nested (plugin_of name es)) (SettingValue-F.Array xs) (seen_nested (plugin_of name es)) (seen_array xs) refl)) (good_array q)
-  joined_good (good_hash {es} p f) (good_array {d} {xs} q) = subst (GoodValue Ok (suc d)) (sym (joined_later (v.Hash es) (v.Array xs) (SettingValue-F.Hash es) (SettingValue-F.Array xs) (seen_hash es) (seen_array xs) refl)) (good_array q)
-  joined_good (good_text {s} p) (good_hash {d} {es} q h) = subst (GoodValue Ok (suc d)) (sym (joined_later (v.Text s) (v.Hash es) (SettingValue-F.Text s) (SettingValue-F.Hash es) (seen_text s) (seen_hash es) refl)) (good_hash q h)
-  joined_good (good_number {n} p) (good_hash {d} {es} q h) = subst (GoodValue Ok (suc d)) (sym (joined_later (v.Number n) (v.Hash es) (SettingValue-F.Number n) (SettingValue-F.Hash es) (seen_number n) (seen_hash es) refl)) (good_hash q h)
-  joined_good (good_nested {name} {es = fs} o r f) (good_hash {d} {es} q h) =
-      subst (GoodValue Ok (suc d)) (sym (joined_later (v.Nested (plugin_of name fs)) (v.Hash es) (SettingValue-F.Nested (plugin_of name fs)) (SettingValue-F.Hash es) (seen_nested (plugin_of name fs)) (seen_hash es) refl)) (good_hash q h)
-  joined_good (good_array {xs} p) (good_hash {d} {es} q h) = subst (GoodValue Ok (suc d)) (sym (joined_later (v.Array xs) (v.Hash es) (SettingValue-F.Array xs) (SettingValue-F.Hash es) (seen_array xs) (seen_hash es) refl)) (good_hash q h)
+  unfolding seen made
+  joined_good (good_array p) (good_array q) = joined_is (good_array p) (good_array q) (good_array (items_end p q))
+  joined_good (good_hash {es} p f) (good_hash {es = later} q h) = joined_is (good_hash p f) (good_hash q h) (good_hash (with_entries_good p q) (fresh_entries es later f))
+  joined_good p q = joined_is p q q
 
   with_setting_good : {d : ℕ} {es : Entries} (k : List ℕ) (x : SettingValue) → GoodEntries Ok true d es → Ok (name_token k) → GoodValue Ok d x → GoodEntries Ok true d (with_setting k x es)
   with_setting_good k x no_entries o h = entry o h no_entries
@@ -262,6 +172,3 @@ module _ (Ok : Token → Type 0) where
       good_settings g.no_setting o h f = (h, f)
       good_settings (g.setting {k} {front} {y} {a} {b} {x} e p q) o h f =
           good_settings q (last_of_all Ok a b o.1.1) (with_setting_good k x h (law.name y k e o.0) (good_value p (first_of_all Ok a b o.1.1))) (fresh_setting front k x f)
-
-    pub plugin_good : {d : ℕ} {ts : List Token} {x : Plugin} → g.ReadsPlugin d ts x → AllOf Ok ts → GoodPlugin Ok d x
-    plugin_good (g.plugin {name} {y} e q) o = let r = good_settings q o.1.1 no_entries tt in good_plugin (law.plugin y name e o.0) r.0 r.1

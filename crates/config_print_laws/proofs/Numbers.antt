@@ -1,23 +1,26 @@
 -- The text of a number is read as that number.
-use Rattle.std.proofs.Common.{◌≡◌, ℕ, zero, suc, ◌+◌, ◌-◌, ◌*◌, ◌/◌, ◌%◌, ◌^◌, ◌<◌, ◌≤◌, ◌==◌, ◌&&◌, ◌||◌, ◌⊎◌, inl, inr, nat_le, ℤ, pos, negsuc, unsigned_abs, List, [], ◌∷◌, ◌++◌, length, take, drop, Some, None, option_and_then, Bool, true, false, if◌then◌else◌, refl, ap, sym, subst, ◌∙◌, arith, append_assoc, length-append, eqb-true}
-use Rattle.std.specs.Prelude.{decimal, int_rem, int_div}
+use Rattle.std.proofs.Common.{◌≡◌, ℕ, zero, suc, ◌+◌, ◌-◌, ◌*◌, ◌%◌, ◌^◌, ◌<◌, ◌≤◌, ◌==◌, ◌&&◌, ◌||◌, ◌⊎◌, inl, inr, nat_le, ℤ, pos, negsuc, unsigned_abs, List, [], ◌∷◌, ◌++◌, length, take, drop, Option, Some, None, option_and_then, Bool, true, false, if◌then◌else◌, refl, ap, sym, subst, ◌∙◌, arith, append_assoc, length-append, eqb-true}
+use Rattle.std.specs.Prelude.{int_rem, int_div}
 use Rattle.std.specs.Ordering.{int_eq}
 use Rattle.std.specs.List.{list_all}
 use Rattle.std.proofs.lemmas.Int.{ints}
 use Rattle.std.proofs.lemmas.Bool.Decides.{nat_tests, Decides-int_eq}
 use Rattle.std.proofs.lemmas.List.{append-nil, take-append-drop, length-drop, length-take}
 use Rattle.std.proofs.Math.Seq.{take-append_seam, drop-append_seam, take-length, drop-length}
-use Rattle.std.proofs.lemmas.Fmt.{decimal_by_steps}
 use Rattle.event_tree.specs.Number.{Num, IsLeast, least}
 use Rattle.event_tree.specs.Paths.{at_most}
-use Rattle.event_tree.specs.NumberTexts.{numeral, is_digit, number, signed, most, IsI64}
+use Rattle.event_tree.specs.NumberTexts.{numeral, is_digit, AreDigits, number, signed, most, IsI64}
 use Rattle.event_tree.proofs.Tens.{number-append}
 use Rattle.event_tree.proofs.DecimalLemmas.{magnitude}
-use Rattle.event_tree.proofs.Least.{least_few}
-use Rattle.event_json.specs.Json.{zeros, padded, pointed, sign_of, number_text}
-use Rattle.config_grammar.specs.Bytes.{passing, is_blank, is_letter, begins_with, begins_digit, sign_length, point_length, whole_length, number_length, begins_number, zeros_behind, without_zeros, number_of}
+use Rattle.event_json_laws.proofs.Tests.{bool_cases}
+use Rattle.event_json_laws.proofs.NumberLaws.{least_same}
+use Rattle.event_json.proofs.LeastForms.{least_some}
+use Rattle.event_json.proofs.DecimalDigits.{padded_writes, take_digits, drop_digits, length-padded}
+use Rattle.std.proofs.lemmas.Option.{same_Some}
+use Rattle.event_json.specs.Json.{padded, pointed, sign_of, number_text}
+use Rattle.config_lex.specs.Bytes.{passing, is_blank, is_letter, begins_with, begins_digit, sign_length, point_length, whole_length, number_length, begins_number, zeros_behind, without_zeros, number_of}
 use Rattle.config_print_laws.proofs.Strings.{is_plain, ArePlain}
-use Rattle.config_print_laws.proofs.Bools.{and_l, and_r, both_true}
+use Rattle.config_print.proofs.Bools.{and_l, and_r, both_true}
 use Rattle.config_print_laws.proofs.Words.{Apart, blank_case, run_all, run_passes}
 
 -- ---- numbers that are read are in least form
@@ -28,25 +31,16 @@ IsHeld n = IsLeast n.mantissa n.scale × IsI64 n.mantissa
 tenth_held : (z : ℤ) → IsI64 z → IsI64 (int_div z (pos 10))
 tenth_held z h = (omega (arith, ints, h.0, h.1), omega (arith, ints, h.0, h.1))
 
-some_same : (a b : Num) → Some a ≡ Some b → a ≡ b
-some_same a b e = cc
-
-pub least_held : (z : ℤ) (s : ℕ) (n : Num) → IsI64 z → least z s ≡ Some n → IsHeld n
-least_held z zero n h e =
-    let same : record { mantissa = z; scale = 0 } ≡ n = some_same (record { mantissa = z; scale = 0 }) n e in
-    subst IsHeld same (record { few = omega arith; trimmed = inl refl }, h)
-least_held z (suc s) n h e = at (int_eq (int_rem z (pos 10)) (pos 0)) refl e (λ u. least_held (int_div z (pos 10)) s n (tenth_held z h) u)
+fits_least : (z : ℤ) (s : ℕ) (n : Num) → IsI64 z → least z s ≡ Some n → IsI64 n.mantissa
+fits_least z zero n h e = subst (λ (x : Num). IsI64 x.mantissa) (same_Some (record { mantissa = z; scale = 0 }) n e) h
+fits_least z (suc s) n h e = bool_cases (int_eq (int_rem z (pos 10)) (pos 0)) (λ t. fits_least (int_div z (pos 10)) s n (tenth_held z h) (rw t at e)) (λ t. ends (nat_le (suc s) 18) (rw t at e))
   where
-    few : (y : Bool) → nat_le (suc s) 18 ≡ y → int_eq (int_rem z (pos 10)) (pos 0) ≡ false → (if y then Some (record { mantissa = z; scale = suc s }) else None) ≡ Some n → IsHeld n
-    few true l u k =
-        let le : suc s ≤ 18 = grind (arith, nat_tests) in
-        subst IsHeld (some_same (record { mantissa = z; scale = suc s }) n k) (record { few = le; trimmed = inr u }, h)
-    few false l u k = absurd (cc)
+    ends : (t : Bool) → ◌≡◌ {A = Option Num} (if t then Some (record { mantissa = z; scale = suc s }) else None) (Some n) → IsI64 n.mantissa
+    ends true k = subst (λ (x : Num). IsI64 x.mantissa) (same_Some (record { mantissa = z; scale = suc s }) n k) h
+    ends false k = absurd (cc)
 
-    at : (y : Bool) → int_eq (int_rem z (pos 10)) (pos 0) ≡ y → (if y then least (int_div z (pos 10)) s else (if nat_le (suc s) 18 then Some (record { mantissa = z; scale = suc s }) else None)) ≡ Some n
-        → (least (int_div z (pos 10)) s ≡ Some n → IsHeld n) → IsHeld n
-    at true u k again = again k
-    at false u k again = few (nat_le (suc s) 18) refl u k
+least_held : (z : ℤ) (s : ℕ) (n : Num) → IsI64 z → least z s ≡ Some n → IsHeld n
+least_held z s n h e = ((least_some z s n e).0, fits_least z s n h e)
 
 signed_held : (negative : Bool) (k : ℕ) → k ≤ most negative → IsI64 (signed negative k)
 signed_held true k h = (omega (arith, ints), omega (arith, ints))
@@ -72,51 +66,9 @@ read_held s n h = numeral_held (begins_with 45 s) (take (passing is_digit (drop 
 
 -- ---- the digits of the text
 
-all_digits : (xs ys : List ℕ) → list_all is_digit xs ≡ true → list_all is_digit ys ≡ true → list_all is_digit (xs ++ ys) ≡ true
-all_digits [] ys h k = k
-all_digits (x ∷ xs) ys h k = both_true (is_digit x) (list_all is_digit (xs ++ ys)) (and_l (is_digit x) (list_all is_digit xs) h) (all_digits xs ys (and_r (is_digit x) (list_all is_digit xs) h) k)
-
--- what decimal digits are, and the number that they write
-abbrev Writes : ℕ → List ℕ → Type 0
-Writes n ds = (list_all is_digit ds ≡ true) × (number 0 ds ≡ n)
-
-digit_byte : (d : ℕ) → d < 10 → is_digit (48 + d) ≡ true
-digit_byte d lt = grind (arith, nat_tests)
-
-one_digit : (n : ℕ) → n < 10 → Writes n ((48 + n) ∷ [])
-one_digit n lt = (both_true (is_digit (48 + n)) true (digit_byte n lt) refl, omega arith)
-
-next_digit : (n : ℕ) (ds : List ℕ) → 10 ≤ n → Writes (n / 10) ds → Writes n (ds ++ ((48 + n % 10) ∷ []))
-next_digit n ds le h =
-    let lt : n % 10 < 10 = omega arith in
-    (all_digits ds ((48 + n % 10) ∷ []) h.0 (both_true (is_digit (48 + n % 10)) true (digit_byte (n % 10) lt) refl), number-append 0 ds ((48 + n % 10) ∷ []) ∙ ap (λ x. 10 * x + (48 + n % 10 - 48)) h.1 ∙ omega arith)
-
-decimal_writes : (n : ℕ) → n < 2 ^ 64 → Writes n (decimal n)
-decimal_writes n lt = decimal_by_steps Writes one_digit next_digit n lt
-
-zeros_write : (k n : ℕ) (ds : List ℕ) → Writes n ds → Writes n (zeros k ++ ds)
-zeros_write zero n ds h = h
-zeros_write (suc k) n ds h = zeros_write k n ds h
-
-padded_writes : (least n : ℕ) → n < 2 ^ 64 → Writes n (padded least n)
-padded_writes least n lt = zeros_write (least - length (decimal n)) n (decimal n) (decimal_writes n lt)
-
-length-zeros : (n : ℕ) → length (zeros n) ≡ n
-length-zeros zero = refl
-length-zeros (suc n) = ap suc (length-zeros n)
-
-length-padded : (least n : ℕ) → length (padded least n) ≡ least - length (decimal n) + length (decimal n)
-length-padded least n = length-append (zeros (least - length (decimal n))) (decimal n) ∙ ap (λ k. k + length (decimal n)) (length-zeros (least - length (decimal n)))
-
-take_digits : (n : ℕ) (ds : List ℕ) → list_all is_digit ds ≡ true → list_all is_digit (take n ds) ≡ true
-take_digits zero ds h = refl
-take_digits (suc n) [] h = refl
-take_digits (suc n) (d ∷ ds) h = both_true (is_digit d) (list_all is_digit (take n ds)) (and_l (is_digit d) (list_all is_digit ds) h) (take_digits n ds (and_r (is_digit d) (list_all is_digit ds) h))
-
-drop_digits : (n : ℕ) (ds : List ℕ) → list_all is_digit ds ≡ true → list_all is_digit (drop n ds) ≡ true
-drop_digits zero ds h = h
-drop_digits (suc n) [] h = refl
-drop_digits (suc n) (d ∷ ds) h = drop_digits n ds (and_r (is_digit d) (list_all is_digit ds) h)
+all_digits : (ds : List ℕ) → AreDigits ds → list_all is_digit ds ≡ true
+all_digits [] h = refl
+all_digits (d ∷ ds) h = both_true (is_digit d) (list_all is_digit ds) h.0 (all_digits ds h.1)
 
 -- ---- a sign, digits, and a point with digits
 
@@ -164,50 +116,51 @@ point_is (d ∷ f) rest h u =
 
 -- ---- how far it goes
 
-signed_part : (w f rest : List ℕ) → list_all is_digit w ≡ true → list_all is_digit f ≡ true → Apart rest → number_length (45 ∷ ((w ++ dotted f) ++ rest)) ≡ length (45 ∷ (w ++ dotted f))
-signed_part w f rest h u r =
-    let v = (w ++ dotted f) ++ rest in
-    let same : v ≡ w ++ (dotted f ++ rest) = append_assoc w (dotted f) rest in
-    let digits : passing is_digit v ≡ length w = ap (passing is_digit) same ∙ digits_run w f rest h r in
-    let one : 1 + length w ≡ suc (length w) = omega arith in
-    let behind : drop (1 + length w) (45 ∷ v) ≡ dotted f ++ rest = ap (λ k. drop k (45 ∷ v)) one ∙ ap (drop (length w)) same ∙ drop-append_seam w (dotted f ++ rest) in
-    ap (λ k. (1 + k) + point_length (drop (1 + k) (45 ∷ v))) digits ∙ ap (λ l. (1 + length w) + point_length l) behind ∙ ap (λ k. (1 + length w) + k) (point_is f rest u r) ∙ omega (arith, length-append w (dotted f))
+-- a sign in front of digits, or none
+signed_length : (negative : Bool) (d : ℕ) (v : List ℕ) → is_digit d ≡ true
+    → number_length (minus negative ++ d ∷ v) ≡ length (minus negative) + (passing is_digit (d ∷ v) + point_length (drop (passing is_digit (d ∷ v)) (d ∷ v)))
+signed_length true d v h =
+    let n = passing is_digit (d ∷ v) in
+    let one : 1 + n ≡ suc n = omega arith in
+    ap (λ k. (1 + n) + point_length (drop k (45 ∷ d ∷ v))) one ∙ omega arith
+signed_length false d v h =
+    let n = passing is_digit (d ∷ v) in
+    let none : 0 + n ≡ n = omega arith in
+    ap (λ z. ((if z then 1 else 0) + passing is_digit (drop (if z then 1 else 0) (d ∷ v))) + point_length (drop ((if z then 1 else 0) + passing is_digit (drop (if z then 1 else 0) (d ∷ v))) (d ∷ v))) (digit_no_minus d h)
+    ∙ ap (λ k. (0 + n) + point_length (drop k (d ∷ v))) none ∙ omega arith
 
-plain_part : (d : ℕ) (w f rest : List ℕ) → list_all is_digit (d ∷ w) ≡ true → list_all is_digit f ≡ true → Apart rest → number_length (((d ∷ w) ++ dotted f) ++ rest) ≡ length ((d ∷ w) ++ dotted f)
-plain_part d w f rest h u r =
-    let v = ((d ∷ w) ++ dotted f) ++ rest in
-    let same : v ≡ (d ∷ w) ++ (dotted f ++ rest) = append_assoc (d ∷ w) (dotted f) rest in
-    let digits : passing is_digit v ≡ length (d ∷ w) = ap (passing is_digit) same ∙ digits_run (d ∷ w) f rest h r in
-    let none : 0 + length (d ∷ w) ≡ length (d ∷ w) = omega arith in
-    let behind : drop (0 + length (d ∷ w)) v ≡ dotted f ++ rest = ap (λ k. drop k v) none ∙ ap (drop (length (d ∷ w))) same ∙ drop-append_seam (d ∷ w) (dotted f ++ rest) in
-    ap (λ z. ((if z then 1 else 0) + passing is_digit (drop (if z then 1 else 0) v)) + point_length (drop ((if z then 1 else 0) + passing is_digit (drop (if z then 1 else 0) v)) v)) (digit_no_minus d (and_l (is_digit d) (list_all is_digit w) h))
-    ∙ ap (λ k. (0 + k) + point_length (drop (0 + k) v)) digits ∙ ap (λ l. (0 + length (d ∷ w)) + point_length l) behind ∙ ap (λ k. (0 + length (d ∷ w)) + k) (point_is f rest u r) ∙ omega (arith, length-append (d ∷ w) (dotted f))
-
-digits_before : (w f : List ℕ) → list_all is_digit w ≡ true → passing is_digit (w ++ dotted f) ≡ length w
-digits_before w [] h = run_all is_digit w [] h no_digits
-digits_before w (b ∷ f) h = run_all is_digit w (46 ∷ b ∷ f) h (no_digit 46 (b ∷ f) refl)
+signed_value : (negative : Bool) (d : ℕ) (v : List ℕ) → is_digit d ≡ true
+    → number_of (minus negative ++ d ∷ v) ≡ numeral negative (take (passing is_digit (d ∷ v)) (d ∷ v)) (without_zeros (drop (suc (passing is_digit (d ∷ v))) (d ∷ v)))
+signed_value true d v h =
+    let n = passing is_digit (d ∷ v) in
+    let one : suc (1 + n) ≡ suc (suc n) = omega arith in
+    ap (λ k. numeral true (take n (d ∷ v)) (without_zeros (drop k (45 ∷ d ∷ v)))) one
+signed_value false d v h =
+    let n = passing is_digit (d ∷ v) in
+    let none : suc (0 + n) ≡ suc n = omega arith in
+    ap (λ z. numeral z (take (passing is_digit (drop (if z then 1 else 0) (d ∷ v))) (drop (if z then 1 else 0) (d ∷ v))) (without_zeros (drop (suc ((if z then 1 else 0) + passing is_digit (drop (if z then 1 else 0) (d ∷ v)))) (d ∷ v)))) (digit_no_minus d h)
+    ∙ ap (λ k. numeral false (take n (d ∷ v)) (without_zeros (drop k (d ∷ v)))) none
 
 drop_dot : (w f : List ℕ) → drop (suc (length w)) (w ++ dotted f) ≡ f
 drop_dot [] [] = refl
 drop_dot [] (b ∷ f) = refl
 drop_dot (x ∷ w) f = drop_dot w f
 
-signed_value : (w f : List ℕ) → list_all is_digit w ≡ true → number_of (45 ∷ (w ++ dotted f)) ≡ numeral true w (without_zeros f)
-signed_value w f h =
-    let v = w ++ dotted f in
-    let one : suc (1 + length w) ≡ suc (suc (length w)) = omega arith in
-    ap (λ k. numeral true (take k v) (without_zeros (drop (suc (1 + k)) (45 ∷ v)))) (digits_before w f h)
-    ∙ ap (λ l. numeral true l (without_zeros (drop (suc (1 + length w)) (45 ∷ v)))) (take-append_seam w (dotted f))
-    ∙ ap (λ k. numeral true w (without_zeros (drop k (45 ∷ v)))) one ∙ ap (λ l. numeral true w (without_zeros l)) (drop_dot w f)
+text_goes : (negative : Bool) (d : ℕ) (w f rest : List ℕ) → list_all is_digit (d ∷ w) ≡ true → list_all is_digit f ≡ true → Apart rest → number_length (text negative (d ∷ w) f ++ rest) ≡ length (text negative (d ∷ w) f)
+text_goes negative d w f rest h u r =
+    let m = minus negative in
+    let behind = dotted f ++ rest in
+    let same : text negative (d ∷ w) f ++ rest ≡ m ++ ((d ∷ w) ++ behind) = append_assoc m ((d ∷ w) ++ dotted f) rest ∙ ap (λ l. m ++ l) (append_assoc (d ∷ w) (dotted f) rest) in
+    ap number_length same ∙ signed_length negative d (w ++ behind) (and_l (is_digit d) (list_all is_digit w) h)
+    ∙ ap (λ k. length m + (k + point_length (drop k ((d ∷ w) ++ behind)))) (digits_run (d ∷ w) f rest h r) ∙ ap (λ l. length m + (length (d ∷ w) + point_length l)) (drop-append_seam (d ∷ w) behind)
+    ∙ ap (λ k. length m + (length (d ∷ w) + k)) (point_is f rest u r) ∙ omega (arith, length-append m ((d ∷ w) ++ dotted f), length-append (d ∷ w) (dotted f))
 
-plain_value : (d : ℕ) (w f : List ℕ) → list_all is_digit (d ∷ w) ≡ true → number_of ((d ∷ w) ++ dotted f) ≡ numeral false (d ∷ w) (without_zeros f)
-plain_value d w f h =
+text_value : (negative : Bool) (d : ℕ) (w f : List ℕ) → list_all is_digit (d ∷ w) ≡ true → number_of (text negative (d ∷ w) f) ≡ numeral negative (d ∷ w) (without_zeros f)
+text_value negative d w f h =
     let v = (d ∷ w) ++ dotted f in
-    let none : suc (0 + length (d ∷ w)) ≡ suc (length (d ∷ w)) = omega arith in
-    ap (λ z. numeral z (take (passing is_digit (drop (if z then 1 else 0) v)) (drop (if z then 1 else 0) v)) (without_zeros (drop (suc ((if z then 1 else 0) + passing is_digit (drop (if z then 1 else 0) v))) v))) (digit_no_minus d (and_l (is_digit d) (list_all is_digit w) h))
-    ∙ ap (λ k. numeral false (take k v) (without_zeros (drop (suc (0 + k)) v))) (digits_before (d ∷ w) f h)
-    ∙ ap (λ l. numeral false l (without_zeros (drop (suc (0 + length (d ∷ w))) v))) (take-append_seam (d ∷ w) (dotted f))
-    ∙ ap (λ k. numeral false (d ∷ w) (without_zeros (drop k v))) none ∙ ap (λ l. numeral false (d ∷ w) (without_zeros l)) (drop_dot (d ∷ w) f)
+    let digits : passing is_digit v ≡ length (d ∷ w) = ap (λ l. passing is_digit ((d ∷ w) ++ l)) (sym (append-nil (dotted f))) ∙ digits_run (d ∷ w) f [] h tt in
+    signed_value negative d (w ++ dotted f) (and_l (is_digit d) (list_all is_digit w) h) ∙ ap (λ k. numeral negative (take k v) (without_zeros (drop (suc k) v))) digits
+    ∙ ap (λ l. numeral negative l (without_zeros (drop (suc (length (d ∷ w))) v))) (take-append_seam (d ∷ w) (dotted f)) ∙ ap (λ l. numeral negative (d ∷ w) (without_zeros l)) (drop_dot (d ∷ w) f)
 
 -- ---- the text of a number
 
@@ -270,7 +223,7 @@ numeral_is negative w f n k held is value long =
     ∙ ap (λ m. option_and_then (λ k. least (signed negative k) n.scale) (at_most (most negative) (Some m))) value
     ∙ ap (λ z. option_and_then (λ k. least (signed negative k) n.scale) (if z then Some k else None)) small
     ∙ ap (λ z. least z n.scale) (sym is)
-    ∙ (elim held.0.trimmed [ inl z ↦ least_few n.mantissa n.scale (λ p. absurd (omega (arith, p, z))) held.0.few | inr g ↦ least_few n.mantissa n.scale (λ p. g) held.0.few ])
+    ∙ least_same n held.0
 
 signed_rem : (negative : Bool) (k : ℕ) → k % 10 ≡ 0 → int_rem (signed negative k) (pos 10) ≡ pos 0
 signed_rem true k e = omega (arith, ints)
@@ -318,73 +271,39 @@ shape_of n held =
       whole = first.1;
       places = f;
       is = ap (λ m. m ++ pointed s ds) (sign_is n.mantissa) ∙ ap (λ l. minus (is_negative n.mantissa) ++ l) (pointed_is s ds long ∙ ap (λ l. l ++ dotted f) first.2);
-      whole_digits = subst (λ l. list_all is_digit l ≡ true) first.2 (take_digits (length ds - s) ds writes.0);
-      places_digits = drop_digits (length ds - s) ds writes.0;
+      whole_digits = subst (λ l. list_all is_digit l ≡ true) first.2 (all_digits w (take_digits (length ds - s) ds writes.0));
+      places_digits = all_digits f (drop_digits (length ds - s) ds writes.0);
       value = subst (λ l. numeral (is_negative n.mantissa) l (without_zeros f) ≡ Some n) first.2 whole;
     }
 
--- how the lexer reads it
-pub record Lexes (n : Num) (rest : List ℕ) : Type 0 where
+-- how the lexer reads a text as a number
+pub record Lexes (n : Num) (rest text : List ℕ) : Type 0 where
   pub first : ℕ
   pub more : List ℕ
-  pub is : number_text n ≡ first ∷ more
+  pub is : text ≡ first ∷ more
   pub no_letter : is_letter first ≡ false
-  pub begins : begins_number (number_text n ++ rest) ≡ true
-  pub goes : number_length (number_text n ++ rest) ≡ length (number_text n)
-  pub value : number_of (number_text n) ≡ Some n
+  pub begins : begins_number (text ++ rest) ≡ true
+  pub goes : number_length (text ++ rest) ≡ length text
+  pub value : number_of text ≡ Some n
   pub starts : (is_digit first || first == 45) ≡ true
 
 no_letter_digit : (d : ℕ) → is_digit d ≡ true → is_letter d ≡ false
 no_letter_digit d h = grind (arith, nat_tests)
 
-begins_plain : (d : ℕ) (w s : List ℕ) → is_digit d ≡ true → begins_number (d ∷ s) ≡ true
-begins_plain d w s h = ap (λ z. begins_digit (drop (if z then 1 else 0) (d ∷ s))) (digit_no_minus d h) ∙ h
+begins_plain : (d : ℕ) (s : List ℕ) → is_digit d ≡ true → begins_number (d ∷ s) ≡ true
+begins_plain d s h = ap (λ z. begins_digit (drop (if z then 1 else 0) (d ∷ s))) (digit_no_minus d h) ∙ h
 
-or_true : (a b : Bool) → a ≡ true → (a || b) ≡ true
-or_true a b h = ap (λ z. z || b) h
-
--- the parts of a text with a sign or none
-record Read (negative : Bool) (d : ℕ) (w f rest : List ℕ) : Type 0 where
-  first : ℕ
-  more : List ℕ
-  is : text negative (d ∷ w) f ≡ first ∷ more
-  no_letter : is_letter first ≡ false
-  begins : begins_number (text negative (d ∷ w) f ++ rest) ≡ true
-  goes : number_length (text negative (d ∷ w) f ++ rest) ≡ length (text negative (d ∷ w) f)
-  value : number_of (text negative (d ∷ w) f) ≡ numeral negative (d ∷ w) (without_zeros f)
-  starts : (is_digit first || first == 45) ≡ true
-
-read : (negative : Bool) (d : ℕ) (w f rest : List ℕ) → list_all is_digit (d ∷ w) ≡ true → list_all is_digit f ≡ true → Apart rest → Read negative d w f rest
-read true d w f rest h u r =
+lexes : (n : Num) (negative : Bool) (d : ℕ) (w f rest : List ℕ) → list_all is_digit (d ∷ w) ≡ true → number_length (text negative (d ∷ w) f ++ rest) ≡ length (text negative (d ∷ w) f) → number_of (text negative (d ∷ w) f) ≡ Some n → Lexes n rest (text negative (d ∷ w) f)
+lexes n true d w f rest h goes value = record { first = 45; more = (d ∷ w) ++ dotted f; is = refl; no_letter = refl; begins = and_l (is_digit d) (list_all is_digit w) h; goes = goes; value = value; starts = refl }
+lexes n false d w f rest h goes value =
     let digit = and_l (is_digit d) (list_all is_digit w) h in
-    record { first = 45; more = (d ∷ w) ++ dotted f; is = refl; no_letter = refl; begins = digit; goes = signed_part (d ∷ w) f rest h u r; value = signed_value (d ∷ w) f h; starts = refl }
-read false d w f rest h u r =
-    let digit = and_l (is_digit d) (list_all is_digit w) h in
-    record {
-      first = d;
-      more = w ++ dotted f;
-      is = refl;
-      no_letter = no_letter_digit d digit;
-      begins = begins_plain d w ((w ++ dotted f) ++ rest) digit;
-      goes = plain_part d w f rest h u r;
-      value = plain_value d w f h;
-      starts = or_true (is_digit d) (d == 45) digit;
-    }
+    record { first = d; more = w ++ dotted f; is = refl; no_letter = no_letter_digit d digit; begins = begins_plain d ((w ++ dotted f) ++ rest) digit; goes = goes; value = value; starts = ap (λ z. z || d == 45) digit }
 
-pub number_lexes : (n : Num) (rest : List ℕ) → IsHeld n → Apart rest → Lexes n rest
+pub number_lexes : (n : Num) (rest : List ℕ) → IsHeld n → Apart rest → Lexes n rest (number_text n)
 number_lexes n rest held apart =
     let s = shape_of n held in
-    let r = read s.negative s.first s.whole s.places rest s.whole_digits s.places_digits apart in
-    record {
-      first = r.first;
-      more = r.more;
-      is = s.is ∙ r.is;
-      no_letter = r.no_letter;
-      begins = ap (λ l. begins_number (l ++ rest)) s.is ∙ r.begins;
-      goes = ap (λ l. number_length (l ++ rest)) s.is ∙ r.goes ∙ ap length (sym s.is);
-      value = ap number_of s.is ∙ r.value ∙ s.value;
-      starts = r.starts;
-    }
+    subst (Lexes n rest) (sym s.is)
+    (lexes n s.negative s.first s.whole s.places rest s.whole_digits (text_goes s.negative s.first s.whole s.places rest s.whole_digits s.places_digits apart) (text_value s.negative s.first s.whole s.places s.whole_digits ∙ s.value))
 
 -- ---- a number that is read has no quote in it
 

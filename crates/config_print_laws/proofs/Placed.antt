@@ -1,24 +1,24 @@
 -- In a configuration each token stands where the lexer takes it for what it is.
 use Rattle.std.proofs.Common.{◌≡◌, ℕ, List, [], ◌∷◌, ◌++◌, Some, Bool, true, false, ◌⊎◌, inl, inr, refl, ap, sym, subst}
-use Rattle.config_grammar.specs.declared.token.Token.{Token}
-use Rattle.config_grammar.specs.declared.token.Token.TheVariants as t
-use Rattle.config_grammar.specs.declared.token.Word.{Word}
-use Rattle.config_grammar.specs.declared.token.Word.TheVariants as w
-use Rattle.config_grammar.specs.declared.token.Section.TheVariants as kind
-use Rattle.config_grammar.specs.declared.context.Context.{Context}
-use Rattle.config_grammar.specs.declared.tree.SettingValue.{SettingValue}
-use Rattle.config_grammar.specs.declared.tree.Condition.{Condition}
-use Rattle.config_grammar.specs.declared.tree.Operand.{Operand}
-use Rattle.config_grammar.specs.declared.tree.Literal.{Literal}
-use Rattle.config_grammar.specs.declared.tree.MatchPattern.{MatchPattern}
-use Rattle.config_grammar.specs.declared.tree.Plugin.{Plugin}
-use Rattle.config_grammar.specs.declared.tree.Arm.{Arm}
-use Rattle.config_grammar.specs.declared.tree.Statement.{Statement}
-use Rattle.config_grammar.specs.declared.tree.Config.{Config}
+use Rattle.config_lex.specs.declared.token.Token.{Token}
+use Rattle.config_lex.specs.declared.token.Token.TheVariants as t
+use Rattle.config_lex.specs.declared.token.Word.{Word}
+use Rattle.config_lex.specs.declared.token.Word.TheVariants as w
+use Rattle.config_lex.specs.declared.token.Section.TheVariants as kind
+use Rattle.config_lex.specs.declared.context.Context.{Context}
+use Rattle.config_tree.specs.declared.tree.SettingValue.{SettingValue}
+use Rattle.config_tree.specs.declared.tree.Condition.{Condition}
+use Rattle.config_tree.specs.declared.tree.Operand.{Operand}
+use Rattle.config_tree.specs.declared.tree.Literal.{Literal}
+use Rattle.config_tree.specs.declared.tree.MatchPattern.{MatchPattern}
+use Rattle.config_tree.specs.declared.tree.Plugin.{Plugin}
+use Rattle.config_tree.specs.declared.tree.Arm.{Arm}
+use Rattle.config_tree.specs.declared.tree.Statement.{Statement}
+use Rattle.config_tree.specs.declared.tree.Config.{Config}
 use Rattle.config_grammar.specs.Grammar as g
-use Rattle.config_grammar.specs.Joining.{Entries}
+use Rattle.config_tree.specs.Joining.{Entries}
 use Rattle.config_grammar.specs.Words.{bareword, setting_name, plugin_name, key, scalar, literal, operand_token, pattern}
-use Rattle.config_grammar.specs.Lexemes.{start, plain, before_branch, before_operand, after_token}
+use Rattle.config_lex.specs.Lexemes.{start, plain, before_branch, before_operand, after_token}
 
 -- the context behind some tokens
 abbrev pub contexts : Context → List Token → Context

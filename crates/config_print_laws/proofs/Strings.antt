@@ -2,9 +2,9 @@
 use Rattle.std.proofs.Common.{◌≡◌, ℕ, suc, ◌==◌, ◌&&◌, ◌||◌, ◌⊎◌, inl, inr, not, List, [], ◌∷◌, ◌++◌, length, take, Option, Some, None, option_map, Bool, true, false, if◌then◌else◌, refl, ap, sym, subst, ◌∙◌, arith}
 use Rattle.std.proofs.lemmas.Bool.Decides.{nat_tests}
 use Rattle.std.proofs.lemmas.Bool.{eqb-true, not-true, and_right}
-use Rattle.config_grammar.specs.Bytes.{closing, unescaped, begins_with}
+use Rattle.config_lex.specs.Bytes.{closing, unescaped, begins_with}
 use Rattle.config_print.specs.Tokens.{has_quote, quote_of, escaped}
-use Rattle.config_print_laws.proofs.Bools.{and_r, or_l, or_r}
+use Rattle.config_print.proofs.Bools.{and_r, or_l, or_r}
 
 -- a closing byte stands there that no backslash precedes
 abbrev pub has : ℕ → Bool → List ℕ → Bool

@@ -1,16 +1,16 @@
 -- Words and selectors.
-use Rattle.std.proofs.Common.{◌≡◌, ℕ, zero, suc, ◌+◌, ◌≤◌, ◌==◌, ◌&&◌, ◌||◌, not, List, [], ◌∷◌, ◌++◌, length, take, drop, Option, Some, None, Bool, true, false, if◌then◌else◌, refl, ap, sym, subst, ◌∙◌, arith, nat_eq, append_assoc}
-use Rattle.std.specs.List.{list_all, list_any}
+use Rattle.std.proofs.Common.{◌≡◌, ℕ, zero, suc, ◌+◌, ◌≤◌, ◌==◌, ◌&&◌, ◌||◌, not, List, [], ◌∷◌, ◌++◌, length, take, drop, Option, Some, None, Bool, true, false, if◌then◌else◌, refl, ap, sym, subst, ◌∙◌, arith, append_assoc}
+use Rattle.std.specs.List.{list_all}
 use Rattle.std.proofs.lemmas.Bool.Decides.{nat_tests}
 use Rattle.std.proofs.lemmas.Bool.{eqb-true, not-true}
 use Rattle.std.proofs.Math.Seq.{take-append_seam, drop-append_seam}
 use Rattle.std.proofs.lemmas.List.{append-nil, take-append-drop}
 use Rattle.event_tree.specs.NumberTexts.{is_digit}
 use Rattle.event_tree.specs.PathTexts.{bracketed}
-use Rattle.config_grammar.specs.Bytes.{passing, skip, is_blank, is_letter, is_in_word, is_in_part, part_length, begins_with}
-use Rattle.config_grammar.specs.Lexemes.{parts_at, parts_more, begins_literals}
-use Rattle.config_grammar.proofs.Lexing.{parts_on, parts_stop}
-use Rattle.config_print_laws.proofs.Bools.{and_l, and_r, both_true}
+use Rattle.config_lex.specs.Bytes.{passing, skip, is_blank, is_letter, is_in_word, is_in_part, part_length, begins_with}
+use Rattle.config_lex.specs.Lexemes.{parts_at, parts_more, begins_literals}
+use Rattle.config_lex.proofs.Lexing.{parts_on, parts_stop}
+use Rattle.config_print.proofs.Bools.{and_l, and_r, both_true}
 
 -- what stands behind a token: nothing, or a blank
 abbrev pub Apart : List ℕ → Type 0
@@ -82,21 +82,6 @@ in_word_dashes b h = at (is_letter b) (is_digit b) (b == 45) h
     at true d m h = refl
     at false true m h = refl
     at false false m h = absurd (cc)
-
--- where no dash stands, none is wanted
-pub in_word_bare : (s : List ℕ) → list_all (is_in_word true) s ≡ true → list_any (λ b. nat_eq b 45) s ≡ false → list_all (is_in_word false) s ≡ true
-in_word_bare [] h u = refl
-in_word_bare (b ∷ s) h u = at (is_letter b) (is_digit b) (nat_eq b 45) h u (in_word_bare s)
-  where
-    at : (l d m : Bool) → ((l || d || (true && m)) && list_all (is_in_word true) s) ≡ true → (m || list_any (λ b. nat_eq b 45) s) ≡ false
-        → (list_all (is_in_word true) s ≡ true → list_any (λ b. nat_eq b 45) s ≡ false → list_all (is_in_word false) s ≡ true)
-        → ((l || d || (false && m)) && list_all (is_in_word false) s) ≡ true
-    at true d true h u again = absurd (cc)
-    at true d false h u again = again h u
-    at false true true h u again = absurd (cc)
-    at false true false h u again = again h u
-    at false false true h u again = absurd (cc)
-    at false false false h u again = absurd (cc)
 
 pub in_word_more : (s : List ℕ) → list_all (is_in_word false) s ≡ true → list_all (is_in_word true) s ≡ true
 in_word_more [] h = refl

@@ -1,4 +1,3 @@
-pub mod Tokens
 pub mod Once
 pub mod Laws
 pub mod Answers

@@ -1,6 +1,6 @@
 -- Names and keys that stand once.
 use Rattle.std.specs.Prelude.{◌≡◌, false, [], ◌∷◌, ◌++◌, ⊤}
-use Rattle.config_grammar.specs.Joining.{Entries, has}
+use Rattle.config_tree.specs.Joining.{Entries, has}
 
 -- each stands neither in front nor before its place
 abbrev pub Fresh : Entries → Entries → Type 0

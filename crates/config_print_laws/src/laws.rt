@@ -1,7 +1,7 @@
 //! The laws, each the contract of a function that does nothing.
 
 ghost use Rattle.std.specs.Prelude.{ℕ, List};
-ghost use Rattle.config_grammar.specs.declared.token.Token.{Token};
+ghost use Rattle.config_lex.specs.declared.token.Token.{Token};
 ghost use Rattle.config_print_laws.specs.Laws as law;
 
 /// The tokens that a condition is printed as read as that condition, with no more levels than the tokens that

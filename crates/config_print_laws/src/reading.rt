@@ -7,9 +7,9 @@ ghost use Rattle.config_print.specs.Printed.{printed};
 ghost use Rattle.config_print_laws.specs.Answers as answers;
 
 use crate::laws::printed_text_reads;
-use config_grammar::Config;
 use config_parse::{ConfigFault, LENGTH, LEVELS, parse};
 use config_print::print;
+use config_tree::Config;
 use std::alloc::Global;
 
 /// Prints a configuration, and reads the printed text. Of a configuration that a text was read as, this is that

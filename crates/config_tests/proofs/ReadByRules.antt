@@ -1,26 +1,32 @@
 -- The derivations of three texts, rule by rule.
-use Rattle.std.proofs.Common.{◌≡◌, ℕ, suc, List, [], ◌∷◌, ◌++◌, Some, refl, sym, ap, subst, ◌∙◌, codes}
+use Rattle.std.proofs.Common.{◌≡◌, ℕ, suc, List, [], ◌∷◌, ◌++◌, Some, refl, sym, ap, ap₂, subst, ◌∙◌, codes}
 use Rattle.event_tree.specs.Number.{Num}
-use Rattle.config_grammar.specs.declared.token.Token.{Token}
-use Rattle.config_grammar.specs.declared.token.Token.TheVariants as t
-use Rattle.config_grammar.specs.declared.token.Comparison.{Comparison}
-use Rattle.config_grammar.specs.declared.token.Comparison.TheVariants as is
-use Rattle.config_grammar.specs.declared.token.Matching.{Matching}
-use Rattle.config_grammar.specs.declared.token.Matching.TheVariants as m
-use Rattle.config_grammar.specs.declared.tree.SettingValue.{SettingValue, out-SettingValue, roll-SettingValue, out-roll-SettingValue}
-use Rattle.config_grammar.specs.declared.tree.SettingValue.TheOpen.{SettingValue-F}
-use Rattle.config_grammar.specs.declared.tree.SettingValue.TheVariants as v
-use Rattle.config_grammar.specs.declared.tree.Plugin.{Plugin}
-use Rattle.config_grammar.specs.declared.tree.Settings.{Settings}
-use Rattle.config_grammar.specs.declared.tree.MatchPattern.{MatchPattern}
-use Rattle.config_grammar.specs.declared.tree.MatchPattern.TheVariants as p
-use Rattle.config_grammar.specs.declared.tree.Statement.TheVariants as s
-use Rattle.config_grammar.specs.declared.tree.Config.{Config}
-use Rattle.config_grammar.specs.Words.{compared, matched, pattern}
-use Rattle.config_grammar.specs.Joining.{Entries, with_entries, joined_value, plugin_of}
+use Rattle.config_lex.specs.declared.token.Token.{Token}
+use Rattle.config_lex.specs.declared.token.Token.TheVariants as t
+use Rattle.config_tree.specs.declared.operators.Comparison.{Comparison}
+use Rattle.config_tree.specs.declared.operators.Comparison.TheVariants as is
+use Rattle.config_tree.specs.declared.operators.Matching.{Matching}
+use Rattle.config_tree.specs.declared.operators.Matching.TheVariants as m
+use Rattle.config_tree.specs.declared.tree.SettingValue.{SettingValue, out-SettingValue, roll-SettingValue, out-roll-SettingValue}
+use Rattle.config_tree.specs.declared.tree.SettingValue.TheOpen.{SettingValue-F}
+use Rattle.config_tree.specs.declared.tree.SettingValue.TheVariants as v
+use Rattle.config_tree.specs.declared.tree.Plugin.{Plugin}
+use Rattle.config_tree.specs.declared.tree.Settings.{Settings}
+use Rattle.config_tree.specs.declared.tree.MatchPattern.{MatchPattern}
+use Rattle.config_tree.specs.declared.tree.MatchPattern.TheVariants as p
+use Rattle.config_tree.specs.declared.tree.Statement.TheVariants as s
+use Rattle.config_tree.specs.Joints.{conjoined, disjoined}
+use Rattle.config_tree.specs.declared.operators.Conjunction.TheVariants as conjunction
+use Rattle.config_tree.specs.declared.operators.Disjunction.TheVariants as disjunction
+use Rattle.config_tree.specs.declared.tree.Condition.{Condition}
+use Rattle.config_tree.specs.declared.tree.Condition.TheVariants as c
+use Rattle.config_tree.specs.declared.tree.Config.{Config}
+use Rattle.config_grammar.specs.Words.{pattern}
+use Rattle.config_tree.specs.Joining.{Entries, with_entries, joined_value, plugin_of}
 use Rattle.config_grammar.specs.Grammar.{ReadsValue, scalar_value, bare, array, hash, no_nest, nested, no_item, items, no_more, more, no_pair, pair, no_setting, setting, no_more_literal, more_literals, no_literal, literals, one_token, list, alone, comparison, matching, within, not_within, ReadsUnary, compare, negation, group, joined, no_and, and, condition, no_or, or, ReadsPlugin, plugin, no_statement, plugin_statement, branch, arm, no_else, else_if, else, no_plugin, plugins, no_section, input, filter, output, ReadsConfig}
 use Rattle.config_tests.specs.Examples.{whole}
-use Rattle.config_tests.specs.Written.{word, field, digit, settings_tokens, settings_config, joints_tokens, joints_config, arms_tokens, arms_config, of_field, of_number}
+use Rattle.config_tests.specs.Written.{word, field, digit, settings_tokens, settings_config, joints_tokens, joints_with, joints_config, joints_condition, left_of_or, right_of_xor, compared, arms_tokens, arms_with, arms_config, has_g, lacks_i, of_field, of_number}
+use Rattle.config_tests.proofs.Joined.{behind_comparison, behind_match, behind_conjunction, behind_disjunction, conjunction_or}
 
 -- Values of one token.
 bareword_value : {d : ℕ} (s : List ℕ) → ReadsValue d (word s ∷ []) (v.Text s)
@@ -97,23 +103,41 @@ settings_read =
     subst (λ config. ReadsConfig 64 settings_tokens config) (λ i. settings_with (tags i) (pairs i) (codec i)) settings_joined
 
 -- A field compared with a number.
-compares : {d : ℕ} (part : List ℕ) (j : Comparison) (n : ℕ) (digits : List ℕ) → ReadsUnary d (field part ∷ t.Comparison j ∷ digit n digits ∷ []) (compared j (of_field part) (of_number n))
+compares : {d : ℕ} (part : List ℕ) (j : Comparison) (n : ℕ) (digits : List ℕ) → ReadsUnary d (field part ∷ t.Comparison j ∷ digit n digits ∷ []) (compared part j n)
 compares part j n digits = compare (one_token refl) (comparison (one_token refl))
 
-pub joints_read : ReadsConfig 64 joints_tokens joints_config
-joints_read =
+joints_joined : Condition
+joints_joined =
+    disjoined disjunction.Xor (disjoined disjunction.Or (conjoined conjunction.Nand (conjoined conjunction.And (compared (codes "a") is.Equal 1) (compared (codes "b") is.Unequal 2)) (compared (codes "c") is.Less 3)) (compared (codes "d") is.Greater 4))
+    (c.Not (conjoined conjunction.And (compared (codes "e") is.AtMost 5) (compared (codes "f") is.AtLeast 6)))
+
+joints_are : joints_joined ≡ joints_condition
+unfolding joints_joined
+joints_are =
+    let rest = (conjunction.And, compared (codes "b") is.Unequal 2) ∷ (conjunction.Nand, compared (codes "c") is.Less 3) ∷ [] in
+    let denied = ap c.Not (behind_comparison conjunction.And is.AtMost (of_field (codes "e")) (of_number 5) (compared (codes "f") is.AtLeast 6)) in
+    let left = ap (λ x. conjoined conjunction.Nand x (compared (codes "c") is.Less 3)) (behind_comparison conjunction.And is.Equal (of_field (codes "a")) (of_number 1) (compared (codes "b") is.Unequal 2)) ∙ behind_conjunction conjunction.Nand _ _ _ in
+    let middle = ap (λ x. disjoined disjunction.Or x (compared (codes "d") is.Greater 4)) left ∙ conjunction_or disjunction.Or (compared (codes "a") is.Equal 1) (compared (codes "d") is.Greater 4) rest in
+    ap₂ (λ x y. disjoined disjunction.Xor x y) middle denied ∙ behind_disjunction disjunction.Xor left_of_or right_of_xor ((disjunction.Or, compared (codes "d") is.Greater 4) ∷ [])
+
+joints_derived : ReadsConfig 64 joints_tokens (joints_with joints_joined)
+unfolding joints_joined
+joints_derived =
     filter (branch (arm (condition
     (joined (compares (codes "a") is.Equal 1 (codes "1")) (and (compares (codes "b") is.Unequal 2 (codes "2")) (and (compares (codes "c") is.Less 3 (codes "3")) no_and)))
     (or (joined (compares (codes "d") is.Greater 4 (codes "4")) no_and)
     (or (joined (negation (group (condition (joined (compares (codes "e") is.AtMost 5 (codes "5")) (and (compares (codes "f") is.AtLeast 6 (codes "6")) no_and)) no_or))) no_and) no_or)))
     no_statement) no_else no_statement) no_section
 
+pub joints_read : ReadsConfig 64 joints_tokens joints_config
+joints_read = subst (λ x. ReadsConfig 64 joints_tokens (joints_with x)) joints_are joints_derived
+
 -- A field matched.
-matches : {d : ℕ} (part : List ℕ) (j : Matching) (y : Token) (q : MatchPattern) → pattern y ≡ Some q → ReadsUnary d (field part ∷ t.Matching j ∷ y ∷ []) (matched j (of_field part) q)
+matches : {d : ℕ} (part : List ℕ) (j : Matching) (y : Token) (q : MatchPattern) → pattern y ≡ Some q → ReadsUnary d (field part ∷ t.Matching j ∷ y ∷ []) (c.Matched j (of_field part) q)
 matches part j y q e = compare (one_token refl) (matching e)
 
-pub arms_read : ReadsConfig 64 arms_tokens arms_config
-arms_read =
+arms_derived : ReadsConfig 64 arms_tokens (arms_with (conjoined conjunction.And has_g lacks_i))
+arms_derived =
     filter (branch
     (arm (condition (joined (compare (one_token refl) (within (list (literals refl (more_literals refl no_more_literal))))) no_and) no_or) (plugin_statement (bare_plugin (codes "c")) no_statement))
     (else_if (arm (condition (joined (compare (one_token refl) (not_within (list no_literal))) no_and) no_or)
@@ -124,3 +148,6 @@ arms_read =
     no_statement)
     (filter (plugin_statement (bare_plugin (codes "l")) no_statement)
     (output (branch (arm (condition (joined (matches (codes "m") m.Matches (t.Quoted (codes "n")) (p.Text (codes "n")) refl) no_and) no_or) no_statement) no_else no_statement) no_section))
+
+pub arms_read : ReadsConfig 64 arms_tokens arms_config
+arms_read = subst (λ x. ReadsConfig 64 arms_tokens (arms_with x)) (behind_match conjunction.And m.Matches (of_field (codes "f")) (p.Regexp (codes "g")) lacks_i) arms_derived

@@ -1,25 +1,25 @@
--- Three texts with their tokens and what they read as. Between them they take each rule of the grammar.
+-- Three texts with their tokens and what they read as.
 use Rattle.std.specs.Prelude.{ℕ, List, [], ◌∷◌, codes, Some, None, pos}
 use Rattle.event_tree.specs.Number.{Num}
 use Rattle.event_tree.specs.PathTexts.{way_of}
-use Rattle.config_grammar.specs.Joining.{Entries, plugin_of}
-use Rattle.config_grammar.specs.declared.token.Token.{Token}
-use Rattle.config_grammar.specs.declared.token.Token.TheVariants as t
-use Rattle.config_grammar.specs.declared.token.Word.TheVariants as w
-use Rattle.config_grammar.specs.declared.token.Conjunction.TheVariants as and
-use Rattle.config_grammar.specs.declared.token.Disjunction.TheVariants as or
-use Rattle.config_grammar.specs.declared.token.Comparison.TheVariants as comparison
-use Rattle.config_grammar.specs.declared.token.Matching.TheVariants as matching
-use Rattle.config_grammar.specs.declared.token.Section.TheVariants as kind
-use Rattle.config_grammar.specs.declared.tree.Config.{Config}
-use Rattle.config_grammar.specs.declared.tree.Arm.{Arm}
-use Rattle.config_grammar.specs.declared.tree.Condition.{Condition}
-use Rattle.config_grammar.specs.declared.tree.SettingValue.TheVariants as v
-use Rattle.config_grammar.specs.declared.tree.Statement.TheVariants as s
-use Rattle.config_grammar.specs.declared.tree.Condition.TheVariants as c
-use Rattle.config_grammar.specs.declared.tree.Operand.TheVariants as o
-use Rattle.config_grammar.specs.declared.tree.Literal.TheVariants as l
-use Rattle.config_grammar.specs.declared.tree.MatchPattern.TheVariants as p
+use Rattle.config_tree.specs.Joining.{Entries, plugin_of}
+use Rattle.config_lex.specs.declared.token.Token.{Token}
+use Rattle.config_lex.specs.declared.token.Token.TheVariants as t
+use Rattle.config_lex.specs.declared.token.Word.TheVariants as w
+use Rattle.config_tree.specs.declared.operators.Conjunction.TheVariants as and
+use Rattle.config_tree.specs.declared.operators.Disjunction.TheVariants as or
+use Rattle.config_tree.specs.declared.operators.Comparison.TheVariants as comparison
+use Rattle.config_tree.specs.declared.operators.Matching.TheVariants as matching
+use Rattle.config_lex.specs.declared.token.Section.TheVariants as kind
+use Rattle.config_tree.specs.declared.tree.Config.{Config}
+use Rattle.config_tree.specs.declared.tree.Arm.{Arm}
+use Rattle.config_tree.specs.declared.tree.Condition.{Condition}
+use Rattle.config_tree.specs.declared.tree.SettingValue.TheVariants as v
+use Rattle.config_tree.specs.declared.tree.Statement.TheVariants as s
+use Rattle.config_tree.specs.declared.tree.Condition.TheVariants as c
+use Rattle.config_tree.specs.declared.tree.Operand.TheVariants as o
+use Rattle.config_tree.specs.declared.tree.Literal.TheVariants as l
+use Rattle.config_tree.specs.declared.tree.MatchPattern.TheVariants as p
 
 abbrev pub whole : ℕ → Num
 whole n = record { mantissa = pos n; scale = 0 }
@@ -62,13 +62,21 @@ branch_tokens =
     ∷ t.CloseBrace ∷ t.Word w.Else ∷ t.Word w.If ∷ t.Selector (codes "e" ∷ []) ∷ t.Word w.Not ∷ t.Word w.In ∷ t.OpenBracket ∷ t.CloseBracket ∷ t.OpenBrace ∷ t.CloseBrace ∷ t.Word w.Else
     ∷ t.OpenBrace ∷ t.CloseBrace ∷ t.CloseBrace ∷ []
 
-abbrev pub first_condition : Condition
-first_condition =
-    c.And (c.Equal (o.Field (way_of (codes "a" ∷ []))) (o.Number (whole 1)))
-    (c.Not (c.Or (c.Matches (o.Field (way_of (codes "b" ∷ []))) (p.Regexp (codes "x"))) (c.In (o.Text (codes "c")) (o.List (l.Text (codes "d") ∷ l.Number (whole 2) ∷ [])))))
+-- what the joints of the text stand between
+abbrev pub is_one : Condition
+is_one = c.Compared comparison.Equal (o.Field (way_of (codes "a" ∷ []))) (o.Number (whole 1))
 
-abbrev pub first_arm : Arm
-first_arm = record { condition = Some first_condition; block = s.Plugin (plugin_of (codes "y") []) ∷ [] }
+abbrev pub has_x : Condition
+has_x = c.Matched matching.Matches (o.Field (way_of (codes "b" ∷ []))) (p.Regexp (codes "x"))
+
+abbrev pub is_listed : Condition
+is_listed = c.In (o.Text (codes "c")) (o.List (l.Text (codes "d") ∷ l.Number (whole 2) ∷ []))
+
+abbrev pub first_condition : Condition
+first_condition = c.Conjoined is_one ((and.And, c.Not (c.Disjoined has_x ((or.Or, is_listed) ∷ []))) ∷ [])
+
+abbrev pub first_arm : Condition → Arm
+first_arm condition = record { condition = Some condition; block = s.Plugin (plugin_of (codes "y") []) ∷ [] }
 
 abbrev pub second_arm : Arm
 second_arm = record { condition = Some (c.NotIn (o.Field (way_of (codes "e" ∷ []))) (o.List [])); block = [] }
@@ -76,5 +84,8 @@ second_arm = record { condition = Some (c.NotIn (o.Field (way_of (codes "e" ∷ 
 abbrev pub third_arm : Arm
 third_arm = record { condition = None; block = [] }
 
+abbrev pub branch_with : Condition → Config
+branch_with condition = record { inputs = []; filters = s.Branch (first_arm condition ∷ second_arm ∷ third_arm ∷ []) ∷ []; outputs = [] }
+
 abbrev pub branch_config : Config
-branch_config = record { inputs = []; filters = s.Branch (first_arm ∷ second_arm ∷ third_arm ∷ []) ∷ []; outputs = [] }
+branch_config = branch_with first_condition

@@ -2,5 +2,4 @@ pub mod Examples
 pub mod Marks
 pub mod OpenLevels
 pub mod Outcomes
-pub mod Signs
 pub mod Written

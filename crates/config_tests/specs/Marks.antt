@@ -1,7 +1,7 @@
 -- A letter for each kind of token.
 use Rattle.std.specs.Prelude.{ℕ}
-use Rattle.config_grammar.specs.declared.token.Token.{Token}
-use Rattle.config_grammar.specs.declared.token.Token.TheVariants as t
+use Rattle.config_lex.specs.declared.token.Token.{Token}
+use Rattle.config_lex.specs.declared.token.Token.TheVariants as t
 
 abbrev pub mark : Token → ℕ
 mark (t.Word a) = 119

@@ -2,25 +2,26 @@
 -- each rule of the grammar.
 use Rattle.std.specs.Prelude.{ℕ, List, [], ◌∷◌, codes, Some, None}
 use Rattle.event_tree.specs.PathTexts.{way_of}
-use Rattle.config_grammar.specs.Joining.{Entries, plugin_of}
-use Rattle.config_grammar.specs.declared.token.Token.{Token}
-use Rattle.config_grammar.specs.declared.token.Token.TheVariants as t
-use Rattle.config_grammar.specs.declared.token.Word.TheVariants as w
-use Rattle.config_grammar.specs.declared.token.Conjunction.TheVariants as and
-use Rattle.config_grammar.specs.declared.token.Disjunction.TheVariants as or
-use Rattle.config_grammar.specs.declared.token.Comparison.TheVariants as comparison
-use Rattle.config_grammar.specs.declared.token.Matching.TheVariants as matching
-use Rattle.config_grammar.specs.declared.token.Section.TheVariants as kind
-use Rattle.config_grammar.specs.declared.tree.Config.{Config}
-use Rattle.config_grammar.specs.declared.tree.Arm.{Arm}
-use Rattle.config_grammar.specs.declared.tree.Condition.{Condition}
-use Rattle.config_grammar.specs.declared.tree.SettingValue.TheVariants as v
-use Rattle.config_grammar.specs.declared.tree.Statement.TheVariants as s
-use Rattle.config_grammar.specs.declared.tree.Condition.TheVariants as c
-use Rattle.config_grammar.specs.declared.tree.Operand.{Operand}
-use Rattle.config_grammar.specs.declared.tree.Operand.TheVariants as o
-use Rattle.config_grammar.specs.declared.tree.Literal.TheVariants as l
-use Rattle.config_grammar.specs.declared.tree.MatchPattern.TheVariants as p
+use Rattle.config_tree.specs.Joining.{Entries, plugin_of}
+use Rattle.config_lex.specs.declared.token.Token.{Token}
+use Rattle.config_lex.specs.declared.token.Token.TheVariants as t
+use Rattle.config_lex.specs.declared.token.Word.TheVariants as w
+use Rattle.config_tree.specs.declared.operators.Conjunction.TheVariants as and
+use Rattle.config_tree.specs.declared.operators.Disjunction.TheVariants as or
+use Rattle.config_tree.specs.declared.operators.Comparison.{Comparison}
+use Rattle.config_tree.specs.declared.operators.Comparison.TheVariants as comparison
+use Rattle.config_tree.specs.declared.operators.Matching.TheVariants as matching
+use Rattle.config_lex.specs.declared.token.Section.TheVariants as kind
+use Rattle.config_tree.specs.declared.tree.Config.{Config}
+use Rattle.config_tree.specs.declared.tree.Arm.{Arm}
+use Rattle.config_tree.specs.declared.tree.Condition.{Condition}
+use Rattle.config_tree.specs.declared.tree.SettingValue.TheVariants as v
+use Rattle.config_tree.specs.declared.tree.Statement.TheVariants as s
+use Rattle.config_tree.specs.declared.tree.Condition.TheVariants as c
+use Rattle.config_tree.specs.declared.tree.Operand.{Operand}
+use Rattle.config_tree.specs.declared.tree.Operand.TheVariants as o
+use Rattle.config_tree.specs.declared.tree.Literal.TheVariants as l
+use Rattle.config_tree.specs.declared.tree.MatchPattern.TheVariants as p
 use Rattle.config_tests.specs.Examples.{whole}
 
 abbrev pub word : List ℕ → Token
@@ -71,20 +72,26 @@ of_field part = o.Field (way_of (part ∷ []))
 abbrev pub of_number : ℕ → Operand
 of_number n = o.Number (whole n)
 
+abbrev pub compared : List ℕ → Comparison → ℕ → Condition
+compared part j n = c.Compared j (of_field part) (of_number n)
+
 abbrev pub left_of_or : Condition
-left_of_or = c.Nand (c.And (c.Equal (of_field (codes "a")) (of_number 1)) (c.Unequal (of_field (codes "b")) (of_number 2))) (c.Less (of_field (codes "c")) (of_number 3))
+left_of_or = c.Conjoined (compared (codes "a") comparison.Equal 1) ((and.And, compared (codes "b") comparison.Unequal 2) ∷ (and.Nand, compared (codes "c") comparison.Less 3) ∷ [])
 
 abbrev pub right_of_xor : Condition
-right_of_xor = c.Not (c.And (c.AtMost (of_field (codes "e")) (of_number 5)) (c.AtLeast (of_field (codes "f")) (of_number 6)))
+right_of_xor = c.Not (c.Conjoined (compared (codes "e") comparison.AtMost 5) ((and.And, compared (codes "f") comparison.AtLeast 6) ∷ []))
 
 abbrev pub joints_condition : Condition
-joints_condition = c.Xor (c.Or left_of_or (c.Greater (of_field (codes "d")) (of_number 4))) right_of_xor
+joints_condition = c.Disjoined left_of_or ((or.Or, compared (codes "d") comparison.Greater 4) ∷ (or.Xor, right_of_xor) ∷ [])
 
 abbrev pub arm_of : Condition → Arm
 arm_of condition = record { condition = Some condition; block = [] }
 
+abbrev pub joints_with : Condition → Config
+joints_with condition = record { inputs = []; filters = s.Branch (arm_of condition ∷ []) ∷ []; outputs = [] }
+
 abbrev pub joints_config : Config
-joints_config = record { inputs = []; filters = s.Branch (arm_of joints_condition ∷ []) ∷ []; outputs = [] }
+joints_config = joints_with joints_condition
 
 -- Each kind of arm, a branch in a block, and the operators that take no number. Two filter sections, which are joined.
 abbrev pub arms_text : List ℕ
@@ -106,15 +113,24 @@ in_arm = record { condition = Some (c.In (of_field (codes "a")) (o.List (l.Text 
 abbrev pub not_in_arm : Arm
 not_in_arm = record { condition = Some (c.NotIn (o.Text (codes "d")) (o.List [])); block = s.Branch (arm_of (c.Operand (of_number 1)) ∷ []) ∷ [] }
 
-abbrev pub matching_arm : Arm
-matching_arm = arm_of (c.And (c.Matches (of_field (codes "f")) (p.Regexp (codes "g"))) (c.MatchesNot (of_field (codes "h")) (p.Text (codes "i"))))
+abbrev pub has_g : Condition
+has_g = c.Matched matching.Matches (of_field (codes "f")) (p.Regexp (codes "g"))
+
+abbrev pub lacks_i : Condition
+lacks_i = c.Matched matching.MatchesNot (of_field (codes "h")) (p.Text (codes "i"))
+
+abbrev pub matching_condition : Condition
+matching_condition = c.Conjoined has_g ((and.And, lacks_i) ∷ [])
 
 abbrev pub last_arm : Arm
 last_arm = record { condition = None; block = s.Plugin (plugin_of (codes "k") []) ∷ [] }
 
-abbrev pub arms_config : Config
-arms_config = record {
+abbrev pub arms_with : Condition → Config
+arms_with condition = record {
   inputs = [];
-  filters = s.Branch (in_arm ∷ not_in_arm ∷ matching_arm ∷ last_arm ∷ []) ∷ s.Plugin (plugin_of (codes "l") []) ∷ [];
-  outputs = s.Branch (arm_of (c.Matches (of_field (codes "m")) (p.Text (codes "n"))) ∷ []) ∷ [];
+  filters = s.Branch (in_arm ∷ not_in_arm ∷ arm_of condition ∷ last_arm ∷ []) ∷ s.Plugin (plugin_of (codes "l") []) ∷ [];
+  outputs = s.Branch (arm_of (c.Matched matching.Matches (of_field (codes "m")) (p.Text (codes "n"))) ∷ []) ∷ [];
 }
+
+abbrev pub arms_config : Config
+arms_config = arms_with matching_condition

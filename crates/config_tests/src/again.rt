@@ -2,10 +2,10 @@
 
 ghost use Rattle.std.specs.Prelude.{IfOk, IsTrue};
 
-use config_grammar::Config;
 use config_parse::{ConfigFault, LENGTH, parse};
 use config_print::print;
 use config_print_laws::{print_and_parse, printed_text_reads};
+use config_tree::Config;
 use std::alloc::Global;
 
 /// Whether the configuration that a text reads as is printed to a text that reads as the same, and is printed as

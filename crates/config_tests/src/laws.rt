@@ -6,7 +6,7 @@ ghost use Rattle.config_tests.specs.Examples.{input_text, input_config, values_t
 ghost use Rattle.config_tests.specs.Written.{settings_text, settings_config, joints_text, joints_config, arms_text, arms_config};
 ghost use Rattle.config_tests.specs.OpenLevels.{Opens};
 
-use config_laws::machine_is_right;
+use config_grammar::machine_is_right;
 
 /// What three texts read as.
 pub fn examples()

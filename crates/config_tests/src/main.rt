@@ -11,12 +11,13 @@ mod laws;
 mod marks;
 mod printed;
 mod readers;
+mod rows;
 mod show;
 mod truths;
 
 use cases::cases_of;
-use config_grammar::{FromFault, Settings};
 use config_parse::ConfigFault;
+use config_tree::{FromFault, Settings};
 use event_tree::Event;
 use std::alloc::{AllocError, Global};
 use std::{fs, io};
@@ -42,9 +43,11 @@ enum Table {
     Refusals,
     /// Conditions, of which it is told what they say of the event.
     Truths,
+    /// Conditions with many joints in a row.
+    Rows,
 }
 
-const TABLES: [(&str, Table); 27] = [
+const TABLES: [(&str, Table); 28] = [
     ("tokens", Table::Tokens),
     ("sections", Table::Outcomes),
     ("names", Table::Outcomes),
@@ -72,6 +75,7 @@ const TABLES: [(&str, Table); 27] = [
     ("matches", Table::Truths),
     ("joints", Table::Truths),
     ("pairs", Table::Truths),
+    ("rows", Table::Rows),
 ];
 
 /// What tables speak of besides their cases.
@@ -134,5 +138,6 @@ fn answer(alloc: Global, given: &Given, table: Table, case: &str) -> Result<Stri
         Table::Readers => readers::answer(alloc, &given.settings, case),
         Table::Refusals => readers::refusal(alloc, case),
         Table::Truths => truths::answer(alloc, &given.event, case),
+        Table::Rows => rows::answer(alloc, &given.event, case),
     }
 }

@@ -1,7 +1,7 @@
 ghost use Rattle.std.specs.Prelude.{◌≡◌};
 ghost use Rattle.config_tests.specs.Marks as spec;
 
-use config_grammar::{Token, lexemes};
+use config_lex::{Token, lexemes};
 use std::alloc::{AllocError, Global};
 
 /// A letter for each kind of token.

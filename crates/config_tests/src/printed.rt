@@ -1,8 +1,8 @@
 use crate::again::again;
 use crate::show::add_config;
-use config_grammar::Config;
 use config_parse::{ConfigFault, parse};
 use config_print::print;
+use config_tree::Config;
 use plain_data::Text;
 use std::alloc::{AllocError, Global};
 

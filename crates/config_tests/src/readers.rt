@@ -1,7 +1,7 @@
 use crate::cases::first_word;
 use crate::show::{add_array, add_hash, add_number, add_text};
-use config_grammar::{FromFault, Plugin, SettingFault, SettingValue, Settings};
 use config_parse::parse;
+use config_tree::{FromFault, Plugin, SettingFault, SettingValue, Settings};
 use plain_data::{Items, Text};
 use std::alloc::{AllocError, Global};
 

@@ -4,11 +4,9 @@
 //! `<key=value,..>`. A branch is `?(condition){..}` for each arm, `(){..}` for an `else`. A condition is its
 //! sign with what it joins, as `&(x,y)`. A field is its parts, as `.a.b`, with `@` in front of those in `meta`.
 
-ghost use Rattle.std.specs.Prelude.{◌≡◌};
-ghost use Rattle.config_tests.specs.Signs as spec;
-
-use config_grammar::{
-    Arm, Condition, Config, Literal, MatchPattern, Operand, Plugin, SettingValue, Statement,
+use config_tree::{
+    Arm, Comparison, Condition, Config, Conjunction, Disjunction, Literal, MatchPattern, Matching,
+    Operand, Plugin, SettingValue, Statement,
 };
 use event_tree::{Number, Path};
 use plain_data::Text;
@@ -124,27 +122,35 @@ fn add_pattern(to: &mut String, found: &MatchPattern) -> Result<(), AllocError> 
     }
 }
 
-/// What a condition is shown by; an operand by nothing.
-fn sign(condition: &Condition) -> &str
-    ensures { result.now ≡ spec.sign condition.now }
-{
-    match condition {
-        Condition::Operand(_) => "",
-        Condition::Not(_) => "!",
-        Condition::And(_, _) => "and",
-        Condition::Nand(_, _) => "nand",
-        Condition::Or(_, _) => "or",
-        Condition::Xor(_, _) => "xor",
-        Condition::Equal(_, _) => "==",
-        Condition::Unequal(_, _) => "!=",
-        Condition::Less(_, _) => "<",
-        Condition::Greater(_, _) => ">",
-        Condition::AtMost(_, _) => "<=",
-        Condition::AtLeast(_, _) => ">=",
-        Condition::Matches(_, _) => "=~",
-        Condition::MatchesNot(_, _) => "!~",
-        Condition::In(_, _) => "in",
-        Condition::NotIn(_, _) => "not in",
+fn conjunction_sign(joint: Conjunction) -> &'static str {
+    match joint {
+        Conjunction::And => "and",
+        Conjunction::Nand => "nand",
+    }
+}
+
+fn disjunction_sign(joint: Disjunction) -> &'static str {
+    match joint {
+        Disjunction::Or => "or",
+        Disjunction::Xor => "xor",
+    }
+}
+
+fn comparison_sign(comparison: Comparison) -> &'static str {
+    match comparison {
+        Comparison::Equal => "==",
+        Comparison::Unequal => "!=",
+        Comparison::Less => "<",
+        Comparison::Greater => ">",
+        Comparison::AtMost => "<=",
+        Comparison::AtLeast => ">=",
+    }
+}
+
+fn matching_sign(matching: Matching) -> &'static str {
+    match matching {
+        Matching::Matches => "=~",
+        Matching::MatchesNot => "!~",
     }
 }
 
@@ -164,36 +170,58 @@ fn add_matching(to: &mut String, left: &Operand, right: &MatchPattern) -> Result
     to.push(')')
 }
 
+/// A row of joints is shown as they associate, to the left: `a and b nand c` as `nand(and(a,b),c)`.
+#[cycle(conditions)]
 fn add_condition(to: &mut String, found: &Condition) -> Result<(), AllocError> {
-    to.push_str(sign(found))?;
     match found {
         Condition::Operand(only) => add_operand(to, only),
         Condition::Not(inner) => {
-            to.push('(')?;
+            to.push_str("!(")?;
             add_condition(to, inner.get())?;
             to.push(')')
         }
-        Condition::And(left, right)
-        | Condition::Nand(left, right)
-        | Condition::Or(left, right)
-        | Condition::Xor(left, right) => {
-            to.push('(')?;
-            add_condition(to, left.get())?;
-            to.push(',')?;
-            add_condition(to, right.get())?;
-            to.push(')')
+        Condition::Conjoined(first, rest) => {
+            for part in rest.as_slice().iter().rev() {
+                to.push_str(conjunction_sign(part.0))?;
+                to.push('(')?;
+            }
+            add_condition(to, first.get())?;
+            for part in rest.as_slice() {
+                to.push(',')?;
+                add_condition(to, &part.1)?;
+                to.push(')')?;
+            }
+            Ok(())
         }
-        Condition::Matches(left, right) | Condition::MatchesNot(left, right) => {
+        Condition::Disjoined(first, rest) => {
+            for part in rest.as_slice().iter().rev() {
+                to.push_str(disjunction_sign(part.0))?;
+                to.push('(')?;
+            }
+            add_condition(to, first.get())?;
+            for part in rest.as_slice() {
+                to.push(',')?;
+                add_condition(to, &part.1)?;
+                to.push(')')?;
+            }
+            Ok(())
+        }
+        Condition::Compared(by, left, right) => {
+            to.push_str(comparison_sign(*by))?;
+            add_comparison(to, left, right)
+        }
+        Condition::Matched(by, left, right) => {
+            to.push_str(matching_sign(*by))?;
             add_matching(to, left, right)
         }
-        Condition::Equal(left, right)
-        | Condition::Unequal(left, right)
-        | Condition::Less(left, right)
-        | Condition::Greater(left, right)
-        | Condition::AtMost(left, right)
-        | Condition::AtLeast(left, right)
-        | Condition::In(left, right)
-        | Condition::NotIn(left, right) => add_comparison(to, left, right),
+        Condition::In(left, right) => {
+            to.push_str("in")?;
+            add_comparison(to, left, right)
+        }
+        Condition::NotIn(left, right) => {
+            to.push_str("not in")?;
+            add_comparison(to, left, right)
+        }
     }
 }
 

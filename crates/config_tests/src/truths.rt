@@ -4,8 +4,8 @@ ghost use Rattle.config_tests.specs.Outcomes.{IsOutcome};
 
 use crate::cases::{cases_of, first_word};
 use condition_eval::{Truth, eval, patterns_of};
-use config_grammar::{Condition, Statement};
 use config_parse::parse;
+use config_tree::{Condition, Statement};
 use event_json::{JsonFault, read_json};
 use event_tree::{Event, Instant, Path, Value};
 use pattern_box::PatternFault;

@@ -16,7 +16,7 @@ const NO_MEMORY: u8 = 8;
 /// The real outside.
 type RealWorld<'a> = ThinWorld<
     StdinSource<Stdin>,
-    WriteSink<StandardOutput>,
+    WriteSink<StandardOutput, &'a HostRuntime>,
     SystemClock<&'a HostRuntime>,
 >;
 
@@ -33,8 +33,8 @@ fn main(rt: HostRuntime) -> ExitCode {
 fn real_world(rt: &HostRuntime) -> io::Result<RealWorld<'_>> {
     Ok(ThinWorld {
         stdin: StdinSource::new(rt.stdin()),
-        stdout: WriteSink::new(StandardOutput::buffered(rt.alloc(), rt.stdout())?),
-        stderr: WriteSink::new(StandardOutput::Err(rt.stderr())),
+        stdout: WriteSink::new(rt, StandardOutput::buffered(rt.alloc(), rt.stdout())?),
+        stderr: WriteSink::new(rt, StandardOutput::Err(rt.stderr())),
         clock: SystemClock::new(rt),
     })
 }

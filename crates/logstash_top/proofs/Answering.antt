@@ -1,6 +1,6 @@
 -- What the answers of `parse` make of a text.
 use Rattle.std.proofs.Common.{◌≡◌, ◌≤◌, ◌<◌, ◌↔◌, ◌⊎◌, inl, inr, ℕ, Bool, true, false, List, length, Result, MatchResult, IfOk, Ok, Err, refl, ap, sym, subst}
-use Rattle.config_grammar.specs.declared.tree.Config.{Config}
+use Rattle.config_tree.specs.declared.tree.Config.{Config}
 use Rattle.config_grammar.specs.Texts.{Reads, IsSyntaxAt, IsDeepAt}
 use Rattle.config_parse.specs.declared.text.TheConstants.{LENGTH, LEVELS}
 use Rattle.config_parse.specs.declared.fault.ConfigFault.{ConfigFault}

@@ -1,9 +1,10 @@
 -- One poll after another.
-use Rattle.std.proofs.Common.{◌≡◌, ◌<◌, ℕ, ℤ, Bool, true, false, List, [], ◌∷◌, ◌++◌, map, length, take, drop, Result, Ok, Err, IsOk, IsErr, OnOk, refl, sym, ap, ◌∙◌, subst, arith, append-nil}
+use Rattle.std.proofs.Common.{◌≡◌, ◌⊎◌, inl, inr, ⊎_elim, ◌<◌, ◌≤◌, ◌+◌, ◌-◌, ◌^◌, ℕ, ℤ, Bool, true, false, List, [], ◌∷◌, ◌++◌, map, length, take, drop, Result, Ok, Err, IsOk, IsErr, OnOk, refl, sym, ap, ◌∙◌, subst, arith, append-nil}
 use Rattle.std.proofs.lemmas.List.{map-append}
 use Rattle.std.proofs.Math.Seq.{take-append_seam}
 use Rattle.std.proofs.lemmas.List.Concat.{flat_map-append}
 use Rattle.io_traits.specs.Pieces.{Piece, Came, End, Nothing, bytes_in, piece_list}
+use Rattle.io_traits.specs.Counts.{Rose}
 use Rattle.io_traits.specs.Telling.{Grows, GrowsInPart, Shrinks, IsAtEnd}
 use Rattle.io_traits.proofs.Growth.{grows_same, grows_by, grows_then, shrinks_same, shrinks_by, shrinks_then, in_part_none, in_part_then}
 use Rattle.io_traits.specs.declared.sources.Source.{Ghosts as SourceWords}
@@ -19,7 +20,7 @@ use Rattle.in_lines.specs.Rows.{out_bytes}
 use Rattle.in_lines.proofs.Receiving.{joined-append, is_ended-append, received-nil, received-lines, received-more, rest_through-nil, rest_through-more, rest_through-nothing}
 use Rattle.logstash_top.specs.declared.world.ThinWorld.{ThinWorld}
 use Rattle.logstash_top.specs.Rows.{rows_at}
-use Rattle.logstash_top.specs.Runs.{line_limit, pieces_in, StopsAtEnd, Polled, Ran}
+use Rattle.logstash_top.specs.Runs.{line_limit, pieces_in, empty_with, empty_in, AreCounted, StopsAtEnd, Polled, Ran}
 use Rattle.logstash_top.proofs.RowLemmas.{out_bytes-append}
 
 abbrev pub poll_of : ℤ → Piece → Poll
@@ -104,26 +105,64 @@ ended_lines polls reader is = ap (λ r. lines_left (unread r.limit r.bytes true)
 pieces_in-append : (xs ys : List Poll) → pieces_in (xs ++ ys) ≡ pieces_in xs ++ pieces_in ys
 pieces_in-append xs ys = flat_map-append (λ poll. piece_list poll.piece) xs ys
 
+-- so many empty polls, where no read failed
+abbrev pub Waited : ℕ → ℕ → ℕ → Type 0
+Waited empty before now = (2 ^ 64 - 1 ≤ now) ⊎ (empty + before ≤ now)
+
+with_one : (piece : Piece) (n : ℕ) → empty_with piece n ≡ n + empty_with piece 0
+with_one (Came bytes) n = omega arith
+with_one End n = omega arith
+with_one Nothing n = refl
+
+empty_in-one : (polls : List Poll) (moment : ℤ) (piece : Piece) → empty_in (polls ++ poll_of moment piece ∷ []) ≡ empty_in polls + empty_with piece 0
+empty_in-one [] moment piece = with_one piece 0
+empty_in-one (poll ∷ polls) moment piece =
+    let n = empty_with piece 0 in
+    with_one poll.piece (empty_in (polls ++ poll_of moment piece ∷ [])) ∙ ap (λ k. k + empty_with poll.piece 0) (empty_in-one polls moment piece) ∙ swap (empty_in polls) n (empty_with poll.piece 0) ∙ ap (λ k. k + n) (sym (with_one poll.piece (empty_in polls)))
+  where
+    swap : (a b c : ℕ) → a + b + c ≡ a + c + b
+    swap a b c = omega arith
+
+pub waited_none : (before : ℕ) → Waited 0 before before
+waited_none before = inr (omega arith)
+
+-- one more poll: of a piece, of which no count rises, or of nothing, of which the count of waits does
+pub waited_same : (polls : List Poll) (moment : ℤ) (piece : Piece) (before mid now : ℕ) → empty_with piece 0 ≡ 0 → now ≡ mid → Waited (empty_in polls) before mid → Waited (empty_in (polls ++ poll_of moment piece ∷ [])) before now
+waited_same polls moment piece before mid now some same so_far =
+    let one = empty_in-one polls moment piece in
+    ⊎_elim (λ last. inl (omega (arith, last, same))) (λ most. inr (omega (arith, one, some, most, same))) so_far
+
+pub waited_more : (polls : List Poll) (moment : ℤ) (before mid now : ℕ) → Rose mid now → Waited (empty_in polls) before mid → Waited (empty_in (polls ++ poll_of moment Nothing ∷ [])) before now
+waited_more polls moment before mid now (inr last) so_far = inl last
+waited_more polls moment before mid now (inl rose) so_far =
+    let one = empty_in-one polls moment Nothing in
+    ⊎_elim (λ last. inl (omega (arith, last, rose))) (λ most. inr (omega (arith, one, most, rose))) so_far
+
+-- and of a read that failed
+pub counted_failed : (polls : List Poll) (moment : ℤ) (before mid now : ℕ) (failed : Type 0) → now ≡ mid → failed → Waited (empty_in polls) before mid → AreCounted (empty_in (polls ++ poll_of moment Nothing ∷ [])) before now failed
+counted_failed polls moment before mid now failed same fault so_far =
+    let one = empty_in-one polls moment Nothing in
+    record { most = λ less. ⊎_elim (λ last. absurd (omega (arith, last, same, less))) (λ most. inr (fault, omega (arith, one, most, same))) so_far }
+
+pub counted : (empty before now : ℕ) (failed : Type 0) → Waited empty before now → AreCounted empty before now failed
+counted empty before now failed so_far = record { most = λ less. ⊎_elim (λ last. absurd (omega (arith, last, less))) (λ most. inl most) so_far }
+
 module _ {I O K : Type 0} (source : SourceWords I) (sink : SinkWords O) (clock : ClockWords K) where
   pub polled_none : (world : ThinWorld I O K) → Polled source sink clock world world []
-  polled_none world = record { asked = grows_same (clock.given world.clock); came = grows_same (source.given world.stdin); left = shrinks_same (source.left world.stdin) }
+  polled_none world = record { asked = grows_same (clock.given world.clock); came = grows_same (source.given world.stdin); left = shrinks_same (source.left world.stdin); counted = counted 0 (source.waits world.stdin) (source.waits world.stdin) _ (waited_none (source.waits world.stdin)) }
 
   pub polled_more : (old mid new : ThinWorld I O K) (polls : List Poll) (moment : ℤ) (piece : Piece) → is_ended polls ≡ false → Polled source sink clock old mid polls
       → Grows (clock.given mid.clock) (clock.given new.clock) (moment ∷ []) → Grows (source.given mid.stdin) (source.given new.stdin) (piece_list piece) → Shrinks (source.left mid.stdin) (source.left new.stdin) (bytes_in piece)
+      → AreCounted (empty_in (polls ++ poll_of moment piece ∷ [])) (source.waits old.stdin) (source.waits new.stdin) (Rose (source.faults old.stdin) (source.faults new.stdin))
       → Polled source sink clock old new (polls ++ poll_of moment piece ∷ [])
-  polled_more old mid new polls moment piece still so_far asked came left =
+  polled_more old mid new polls moment piece still so_far asked came left waits =
       let one : List Poll = poll_of moment piece ∷ [] in
       record {
         asked = grows_by (sym (map-append (λ poll. poll.moment) polls one)) (grows_then so_far.asked asked);
         came = grows_by (ap (λ t. pieces_in polls ++ t) (sym (append-nil (piece_list piece))) ∙ sym (pieces_in-append polls one)) (grows_then so_far.came came);
         left = shrinks_by (ap (λ t. joined polls ++ t) (sym (joined_one piece)) ∙ sym (joined-append polls one still)) (shrinks_then so_far.left left);
+        counted = waits;
       }
-
-  -- a poll that found nothing
-  pub polled_waited : (old mid new : ThinWorld I O K) (polls : List Poll) (moment : ℤ) → is_ended polls ≡ false → Polled source sink clock old mid polls
-      → Grows (clock.given mid.clock) (clock.given new.clock) (moment ∷ []) → Grows (source.given mid.stdin) (source.given new.stdin) [] → Shrinks (source.left mid.stdin) (source.left new.stdin) []
-      → Polled source sink clock old new (polls ++ poll_of moment Nothing ∷ [])
-  polled_waited old mid new polls moment still so_far asked came left = polled_more old mid new polls moment Nothing still so_far asked came left
 
   -- a run that isn't done
   pub stopped : (old new : ThinWorld I O K) (is_done is_cut_off : Type 0) (polls : List Poll) → Polled source sink clock old new polls → StopsAtEnd polls

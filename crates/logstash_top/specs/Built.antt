@@ -1,11 +1,11 @@
 -- The configurations that are built.
 use Rattle.std.specs.Prelude.{◌≡◌, ◌⊎◌, List, [], ◌∷◌, codes}
-use Rattle.config_grammar.specs.Joining.{Entries, plugin_of}
-use Rattle.config_grammar.specs.declared.tree.Config.{Config}
-use Rattle.config_grammar.specs.declared.tree.Plugin.{Plugin}
-use Rattle.config_grammar.specs.declared.tree.Statement.{Statement}
-use Rattle.config_grammar.specs.declared.tree.SettingValue.TheVariants as value
-use Rattle.config_grammar.specs.declared.tree.Statement.TheVariants as statement
+use Rattle.config_tree.specs.Joining.{Entries, plugin_of}
+use Rattle.config_tree.specs.declared.tree.Config.{Config}
+use Rattle.config_tree.specs.declared.tree.Plugin.{Plugin}
+use Rattle.config_tree.specs.declared.tree.Statement.{Statement}
+use Rattle.config_tree.specs.declared.tree.SettingValue.TheVariants as value
+use Rattle.config_tree.specs.declared.tree.Statement.TheVariants as statement
 
 -- `stdin {}`
 abbrev pub stdin : Plugin

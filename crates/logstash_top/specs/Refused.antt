@@ -1,7 +1,7 @@
 -- What becomes of the text of a configuration.
 use Rattle.std.specs.Prelude.{◌≡◌, ◌⊎◌, ◌≤◌, ◌<◌, ℕ, Bool, true, false, List, length, Result, Ok, Err}
 use Rattle.config_grammar.specs.Texts.{Reads, IsSyntaxAt, IsDeepAt}
-use Rattle.config_grammar.specs.declared.tree.Config.{Config}
+use Rattle.config_tree.specs.declared.tree.Config.{Config}
 use Rattle.config_parse.specs.declared.text.TheConstants.{LENGTH, LEVELS}
 use Rattle.config_parse.specs.declared.fault.ConfigFault.{ConfigFault}
 use Rattle.config_parse.specs.declared.fault.ConfigFault.TheVariants.{Long, Syntax, Deep, Memory}

@@ -1,8 +1,8 @@
 -- What a run does to the outside.
-use Rattle.std.specs.Prelude.{◌≡◌, ◌⊎◌, ℕ, List, [], ◌∷◌, true, map, Result, Err, IsOk}
+use Rattle.std.specs.Prelude.{◌≡◌, ◌⊎◌, ◌≤◌, ◌<◌, ℕ, ◌+◌, ◌-◌, ◌^◌, List, [], ◌∷◌, true, map, Result, Err, IsOk}
 use Rattle.std.specs.List.{flat_map}
-use Rattle.io_traits.specs.Counts.{HasCause, HasCauseUnless}
-use Rattle.io_traits.specs.Pieces.{Piece, End, piece_list}
+use Rattle.io_traits.specs.Counts.{HasCause, HasCauseUnless, Rose}
+use Rattle.io_traits.specs.Pieces.{Piece, Came, End, Nothing, piece_list}
 use Rattle.io_traits.specs.Telling.{Grows, GrowsInPart, Shrinks, IsAtEnd}
 use Rattle.io_traits.specs.declared.sources.Source.{Ghosts as SourceWords}
 use Rattle.io_traits.specs.declared.sinks.Sink.{Ghosts as SinkWords}
@@ -24,17 +24,33 @@ line_limit = 1048576
 abbrev pub pieces_in : List Poll → List Piece
 pieces_in polls = flat_map (λ poll. piece_list poll.piece) polls
 
+-- how many of the polls found nothing
+abbrev pub empty_with : Piece → ℕ → ℕ
+empty_with (Came bytes) later = later
+empty_with End later = later
+empty_with Nothing later = later + 1
+
+abbrev pub empty_in : List Poll → ℕ
+empty_in [] = 0
+empty_in (poll ∷ polls) = empty_with poll.piece (empty_in polls)
+
+-- so many empty polls: no more than the count of waits rose, and one more where a read failed, unless the count stands at the last
+-- number of 64 bits
+pub record AreCounted (empty before now : ℕ) (failed : Type 0) : Type 0 where
+  pub most : now < 2 ^ 64 - 1 → (empty + before ≤ now) ⊎ (failed × (empty + before ≤ now + 1))
+
 -- nothing was read behind the end
 abbrev pub StopsAtEnd : List Poll → Type 0
 StopsAtEnd [] = Unit {0}
 StopsAtEnd (poll ∷ polls) = (poll.piece ≡ End → polls ≡ []) × StopsAtEnd polls
 
 module _ {I O K : Type 0} (source : SourceWords I) (sink : SinkWords O) (clock : ClockWords K) where
-  -- these polls were made: each asked the clock, and took its piece from stdin
+  -- these polls were made: each asked the clock once, and took its piece from stdin; one that found nothing was counted
   pub record Polled (old new : ThinWorld I O K) (polls : List Poll) : Type 0 where
     pub asked : Grows (clock.given old.clock) (clock.given new.clock) (map (λ poll. poll.moment) polls)
     pub came : Grows (source.given old.stdin) (source.given new.stdin) (pieces_in polls)
     pub left : Shrinks (source.left old.stdin) (source.left new.stdin) (joined polls)
+    pub counted : AreCounted (empty_in polls) (source.waits old.stdin) (source.waits new.stdin) (Rose (source.faults old.stdin) (source.faults new.stdin))
 
   -- stdin is at its end, and all rows of the events of its bytes were written, in order
   pub record Finished (old new : ThinWorld I O K) (polls : List Poll) : Type 0 where

@@ -1,7 +1,7 @@
 ghost use Rattle.std.specs.Prelude.{◌≡◌, ◌↔◌, ◌⊎◌, [], ◌∷◌, IsTrue};
 ghost use Rattle.logstash_top.specs.Built.{stdin, json_lines, IsBuilt, IsStdout};
 
-use config_grammar::{Config, Plugin, SettingValue, Statement};
+use config_tree::{Config, Plugin, SettingValue, Statement};
 use plain_data::Text;
 
 /// Whether a configuration is one that the program runs: from stdin to stdout as JSON lines.

@@ -1,4 +1,5 @@
-use Rattle.std.proofs.Common.{◌≡◌, length, ℕ, ◌+◌, ◌*◌, ◌≤◌}
+use Rattle.std.proofs.Common.{◌≡◌, length, ◌+◌, ◌*◌}
+use Rattle.config_grammar.specs.Symbols as symbol
 use Rattle.config_parse.specs.Read as spec
 use Rattle.config_parse.specs.Seen.{tokens_of}
 use Rattle.config_parse.proofs.conditions.+conditions.Given as goal
@@ -19,15 +20,13 @@ abbrev pub decreases-condition : goal.decreases-condition
 decreases-condition l = 5 * l.depth + 4
 
 abbrev pub invariant-ands-loop-token : goal.invariant-ands-loop-token
-invariant-ands-loop-token l = (n : ℕ) × (length (tokens_of l.rest) ≤ n)
-    × (spec.ands (spec.unary l.depth) n l.left (tokens_of l.rest) ≡ spec.ands (spec.unary l.depth) (length (tokens_of l.fn.tokens)) l.fn.front (tokens_of l.fn.tokens))
+invariant-ands-loop-token l = spec.behind l.left (spec.read l.depth symbol.Ands) (tokens_of l.rest) ≡ spec.behind l.fn.front (spec.read l.depth symbol.Ands) (tokens_of l.fn.tokens)
 
 abbrev pub decreases-ands-loop-token : goal.decreases-ands-loop-token
 decreases-ands-loop-token l = length (tokens_of l.rest)
 
 abbrev pub invariant-ors-loop-token : goal.invariant-ors-loop-token
-invariant-ors-loop-token l = (n : ℕ) × (length (tokens_of l.rest) ≤ n)
-    × (spec.ors (spec.unary l.depth) n l.left (tokens_of l.rest) ≡ spec.ors (spec.unary l.depth) (length (tokens_of l.fn.tokens)) l.fn.front (tokens_of l.fn.tokens))
+invariant-ors-loop-token l = spec.behind l.left (spec.read l.depth symbol.Ors) (tokens_of l.rest) ≡ spec.behind l.fn.front (spec.read l.depth symbol.Ors) (tokens_of l.fn.tokens)
 
 abbrev pub decreases-ors-loop-token : goal.decreases-ors-loop-token
 decreases-ors-loop-token l = length (tokens_of l.rest)

@@ -1,4 +1,4 @@
-use Rattle.config_parse.proofs.Runs.{reads_made}
+use Rattle.config_parse.proofs.Reading.{reads_made}
 use Rattle.config_parse.proofs.laws.reading_is_right.Goals as goal
 
 pub returns : goal.returns

@@ -1,12 +1,18 @@
-use Rattle.config_parse.specs.Seen.{tokens_of}
-use Rattle.config_parse.proofs.Turns.{less_plugin, plugins_turn}
+use Rattle.std.proofs.Common.{◌++◌, ◌∷◌, []}
+use Rattle.config_grammar.specs.Symbols as symbol
+use Rattle.config_parse.specs.Read as spec
+use Rattle.config_parse.proofs.Turns.{turned, failed, plugin_short, plugins_turn}
 use Rattle.config_parse.proofs.statements.plugins.Goals as goal
 
-pub loop-token-smaller : goal.loop-token-smaller
-loop-token-smaller c = less_plugin c.args.depth (tokens_of c.loop-token.rest.now) (tokens_of c.in-Some.behind.now) (tokens_of c.in_ok-item-in_default-token.after.now) c.in-Some.token.now c.in_ok-item-in_default-token.item c.in-Some.ensures c.in_ok-item-in_default-token.ensures
+pub loop-found-smaller : goal.loop-found-smaller
+loop-found-smaller c = plugin_short c.args.depth c.in_ok-token.ensures c.in_ok-item-in_default.ensures
 
-pub loop-token-preserved : goal.loop-token-preserved
-loop-token-preserved c =
-    let i = c.loop-token.invariant in
-    rw c.in_ok-push-in_default-token.ensures.ok (plugins_turn c.args.depth i.0 c.loop-token.found c.in-Some.token.now (tokens_of c.loop-token.rest.now) (tokens_of c.in-Some.behind.now) (tokens_of c.in_ok-item-in_default-token.after.now) c.in_ok-item-in_default-token.item i.1 i.2
-    c.in-Some.ensures c.in_ok-item-in_default-token.ensures)
+pub loop-found-preserved : goal.loop-found-preserved
+loop-found-preserved c =
+    let plugins = spec.read c.args.depth symbol.Plugins in
+    rw c.in_ok-push-in_default.ensures.ok (turned plugins plugins (λ front x. front ++ x ∷ []) _ _ (plugins_turn c.args.depth c.in_ok-token.ensures c.in_default.not-CloseBrace) c.loop-found.invariant c.in_ok-item-in_default.ensures)
+
+pub returns-in_err-item-in_default : goal.returns-in_err-item-in_default
+returns-in_err-item-in_default c =
+    let plugins = spec.read c.args.depth symbol.Plugins in
+    failed (λ x. x) plugins plugins (λ front x. front ++ x ∷ []) c.loop-found.found _ _ _ c.from_residual-in_err-item-in_default.result c.from_residual-in_err-item-in_default.ensures.1 (plugins_turn c.args.depth c.in_ok-token.ensures c.in_default.not-CloseBrace) c.loop-found.invariant c.in_err-item-in_default.ensures

@@ -1,11 +1,11 @@
-use Rattle.std.proofs.Common.{◌≡◌, [], length, ℕ, ◌≤◌}
+use Rattle.std.proofs.Common.{◌≡◌, [], length}
+use Rattle.config_grammar.specs.Symbols as symbol
 use Rattle.config_parse.specs.Read as spec
 use Rattle.config_parse.specs.Seen.{tokens_of}
 use Rattle.config_parse.proofs.statements.plugins.Given as goal
 
-abbrev pub invariant-loop-token : goal.invariant-loop-token
-invariant-loop-token l = (n : ℕ) × (length (tokens_of l.rest) ≤ n)
-    × (spec.plugins (spec.plugin l.depth) n l.found (tokens_of l.rest) ≡ spec.plugins (spec.plugin l.depth) (length (tokens_of l.fn.tokens)) [] (tokens_of l.fn.tokens))
+abbrev pub invariant-loop-found : goal.invariant-loop-found
+invariant-loop-found l = spec.behind l.found (spec.read l.depth symbol.Plugins) (tokens_of l.rest) ≡ spec.behind [] (spec.read l.depth symbol.Plugins) (tokens_of l.fn.tokens)
 
-abbrev pub decreases-loop-token : goal.decreases-loop-token
-decreases-loop-token l = length (tokens_of l.rest)
+abbrev pub decreases-loop-found : goal.decreases-loop-found
+decreases-loop-found l = length (tokens_of l.rest)

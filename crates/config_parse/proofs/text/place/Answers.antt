@@ -1,5 +1,5 @@
 use Rattle.std.proofs.Common.{◌≡◌, ◌<◌, ◌≤◌, length, ap, sym, ◌∙◌, arith}
-use Rattle.config_grammar.specs.Lexemes.{place_in}
+use Rattle.config_lex.specs.Lexemes.{place_in}
 use Rattle.config_parse.proofs.Placing.{no_place, past_all, place_at}
 use Rattle.config_parse.proofs.text.place.Goals as goal
 

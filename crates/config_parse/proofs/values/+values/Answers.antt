@@ -1,40 +1,49 @@
-use Rattle.std.proofs.Common.{◌∷◌, ap, ◌∙◌, sym}
-use Rattle.config_grammar.specs.Words.{key}
-use Rattle.config_laws.specs.Machine.{fresh}
+use Rattle.std.proofs.Common.{[], ◌∷◌, ◌++◌, ap, sym, subst, ◌∙◌}
+use Rattle.config_grammar.specs.Symbols as symbol
+use Rattle.config_tree.specs.Joining.{with_setting}
+use Rattle.config_parse.specs.Gives.{GivesRead}
+use Rattle.config_parse.specs.Tables.{values_of}
+use Rattle.config_parse.proofs.Joined.{fresh_entry}
 use Rattle.config_parse.specs.Read as spec
 use Rattle.config_parse.specs.Seen.{tokens_of}
-use Rattle.config_parse.proofs.Short.{value_short, entry_short}
-use Rattle.config_parse.proofs.Turns.{less, more_turn, pairs_turn, settings_turn}
+use Rattle.config_parse.proofs.Reading.{read_short}
+use Rattle.config_parse.proofs.Turns.{fewer, turned, failed, entry_short, members_turn, pairs_turn, pairs_turned, settings_turn}
 use Rattle.config_parse.proofs.values.+values.Goals as goal
 
+pub members-returns-in_ok-push-in_default : goal.members-returns-in_ok-push-in_default
+members-returns-in_ok-push-in_default t_ c =
+    subst (GivesRead (λ x. x) c.more.result) (sym (members_turn c.args.depth c.in_ok-token.ensures c.in_default.not-CloseBracket c.in_ok-member-in_default.ensures
+    ∙ ap (λ front. spec.behind front (spec.read c.args.depth symbol.More) (tokens_of c.in_ok-member-in_default.rest.now)) (sym (c.in_ok-push-in_default.ensures.ok ∙ ap (λ l. l ++ c.in_ok-member-in_default.member ∷ []) c.new-found.ensures)))) c.more.ensures
+
 pub more-loop-token-smaller : goal.more-loop-token-smaller
-more-loop-token-smaller t_ c =
-    less (spec.value c.args.depth) (tokens_of c.loop-token.rest.now) (tokens_of c.in-Some.behind.now) (tokens_of c.in_ok-member-in-Comma.after.now) c.in-Some.token.now c.in_ok-member-in-Comma.member (value_short c.args.depth) c.in-Some.ensures c.in_ok-member-in-Comma.ensures
+more-loop-token-smaller t_ c = fewer (read_short c.args.depth symbol.Value (tokens_of c.in-Some.behind.now)) c.in-Some.ensures c.in_ok-member-in-Comma.ensures
 
-pub more-loop-token-preserved : goal.more-loop-token-preserved
-more-loop-token-preserved t_ c =
-    let i = c.loop-token.invariant in
-    rw c.in_ok-push-in-Comma.ensures.ok (more_turn (spec.value c.args.depth) (value_short c.args.depth) i.0 c.loop-token.found (tokens_of c.loop-token.rest.now) (tokens_of c.in-Some.behind.now) (tokens_of c.in_ok-member-in-Comma.after.now) c.in_ok-member-in-Comma.member i.1 i.2
-    (c.in-Some.ensures ∙ ap (λ y. y ∷ tokens_of c.in-Some.behind.now) c.in-Comma.is) c.in_ok-member-in-Comma.ensures)
+pub pairs-loop-found-smaller : goal.pairs-loop-found-smaller
+pairs-loop-found-smaller t_ c = fewer (entry_short c.args.depth (tokens_of c.in_ok-token.behind.now)) c.in_ok-token.ensures c.in_ok-item-in_default.ensures
 
-pub pairs-loop-token-smaller : goal.pairs-loop-token-smaller
-pairs-loop-token-smaller t_ c =
-    less (spec.entry (spec.value c.args.depth)) (tokens_of c.loop-token.rest.now) (tokens_of c.in-Some.behind.now) (tokens_of c.in_ok-item-in_default-token.after.now) c.in-Some.token.now c.in_ok-item-in_default-token.item (entry_short (spec.value c.args.depth) (value_short c.args.depth))
-    c.in-Some.ensures c.in_ok-item-in_default-token.ensures
+pub pairs-loop-found-preserved : goal.pairs-loop-found-preserved
+pairs-loop-found-preserved t_ c =
+    let new = sym c.in_ok-key-in_default.ensures ∙ c.in-Some.is in
+    rw (c.in_ok-found-in_default.ensures ∙ fresh_entry c.in-Some.key c.in_ok-item-in_default.item c.loop-found.found.entries _ new)
+    (pairs_turned c.args.depth c.loop-found.found.entries c.in-Some.key c.in_ok-item-in_default.item c.in_ok-token.ensures new c.loop-found.invariant c.in_ok-item-in_default.ensures)
 
-pub pairs-loop-token-preserved : goal.pairs-loop-token-preserved
-pairs-loop-token-preserved t_ c =
-    let i = c.loop-token.invariant in
-    rw c.in_ok-push-in_default-token.ensures.ok (pairs_turn (spec.value c.args.depth) (value_short c.args.depth) i.0 c.loop-token.found c.in-Some.token.now c.in-Some-2.key (tokens_of c.loop-token.rest.now) (tokens_of c.in-Some.behind.now) (tokens_of c.in_ok-item-in_default-token.after.now)
-    c.in_ok-item-in_default-token.item i.1 i.2 c.in-Some.ensures (ap (λ es. fresh (spec.keys_of es) (key c.in-Some.token.now)) (sym c.as_slice.ensures) ∙ sym c.in_ok-key-in_default-token.ensures ∙ c.in-Some-2.is) c.in_ok-item-in_default-token.ensures)
+pub pairs-returns-in_err-item-in_default : goal.pairs-returns-in_err-item-in_default
+pairs-returns-in_err-item-in_default t_ c =
+    let front = c.loop-found.found.entries in
+    let new = sym c.in_ok-key-in_default.ensures ∙ c.in-Some.is in
+    failed (λ table. table.entries) (spec.read c.args.depth (symbol.Pairs (spec.keys_of front))) _ _ front _ _ _ c.from_residual-in_err-item-in_default.result c.from_residual-in_err-item-in_default.ensures.1 (pairs_turn c.args.depth front c.in-Some.key c.in_ok-token.ensures new) c.loop-found.invariant
+    c.in_err-item-in_default.ensures
 
-pub settings-loop-token-smaller : goal.settings-loop-token-smaller
-settings-loop-token-smaller t_ c =
-    less (spec.entry (spec.value c.args.depth)) (tokens_of c.loop-token.rest.now) (tokens_of c.in-Some.behind.now) (tokens_of c.in_ok-item-in_default-token.after.now) c.in-Some.token.now c.in_ok-item-in_default-token.item (entry_short (spec.value c.args.depth) (value_short c.args.depth))
-    c.in-Some.ensures c.in_ok-item-in_default-token.ensures
+pub settings-loop-found-smaller : goal.settings-loop-found-smaller
+settings-loop-found-smaller t_ c = fewer (entry_short c.args.depth (tokens_of c.in_ok-token.behind.now)) c.in_ok-token.ensures c.in_ok-item-in_default.ensures
 
-pub settings-loop-token-preserved : goal.settings-loop-token-preserved
-settings-loop-token-preserved t_ c =
-    let i = c.loop-token.invariant in
-    rw c.in_ok-found-in_default-token.ensures (settings_turn (spec.value c.args.depth) (value_short c.args.depth) i.0 c.loop-token.found c.in-Some.token.now c.in-Some-2.name (tokens_of c.loop-token.rest.now) (tokens_of c.in-Some.behind.now) (tokens_of c.in_ok-item-in_default-token.after.now)
-    c.in_ok-item-in_default-token.item i.1 i.2 c.in-Some.ensures (sym c.in_ok-name-in_default-token.ensures ∙ c.in-Some-2.is) c.in_ok-item-in_default-token.ensures)
+pub settings-loop-found-preserved : goal.settings-loop-found-preserved
+settings-loop-found-preserved t_ c =
+    let settings = spec.read c.args.depth symbol.Settings in
+    rw c.in_ok-found-in_default.ensures (turned settings settings (λ front x. with_setting c.in-Some.name x front) _ _ (settings_turn c.args.depth c.in-Some.name c.in_ok-token.ensures (sym c.in_ok-name-in_default.ensures ∙ c.in-Some.is)) c.loop-found.invariant c.in_ok-item-in_default.ensures)
+
+pub settings-returns-in_err-item-in_default : goal.settings-returns-in_err-item-in_default
+settings-returns-in_err-item-in_default t_ c =
+    let settings = spec.read c.args.depth symbol.Settings in
+    failed (λ x. x) settings settings (λ front x. with_setting c.in-Some.name x front) (values_of c.loop-found.found.entries) _ _ _ c.from_residual-in_err-item-in_default.result c.from_residual-in_err-item-in_default.ensures.1
+    (settings_turn c.args.depth c.in-Some.name c.in_ok-token.ensures (sym c.in_ok-name-in_default.ensures ∙ c.in-Some.is)) c.loop-found.invariant c.in_err-item-in_default.ensures

@@ -1,42 +1,57 @@
-use Rattle.std.proofs.Common.{◌++◌, ap, subst, ◌∙◌, OnOk, ◌≡◌, string_bytes}
+use Rattle.std.proofs.Common.{◌≡◌, ◌++◌, ◌∷◌, sym, ap, subst, ◌∙◌, OnOk, string_bytes, arith}
 use Rattle.std.specs.Prelude.{codes}
 use Rattle.event_json.proofs.Written.{adds_two}
+use Rattle.config_lex.specs.declared.token.Word.TheVariants as w
+use Rattle.config_lex.specs.Spelling.{conjunction_text, disjunction_text}
 use Rattle.config_print.specs.declared.conditions.Place.TheVariants as at
-use Rattle.config_print.specs.Conditions.{condition, opened, closed}
-use Rattle.config_print.proofs.Equations.{condition-Not, condition-And, condition-Nand, condition-Or, condition-Xor}
-use Rattle.config_print.proofs.Adding.{adds_conjoined, adds_disjoined}
+use Rattle.config_print.specs.Layout.{text_of}
+use Rattle.config_print.specs.Conditions.{condition, conjunct, row, opened, closed, grouped}
+use Rattle.config_print.proofs.Equations.{condition-Not, condition-Conjoined, condition-Disjoined}
+use Rattle.config_print.proofs.Adding.{adds_four, added_two, text_grouped, turn_each}
 use Rattle.config_print.proofs.conditions.+conditions.Goals as goal
 
 pub add_condition-returns-in_ok-push_str-in-Not : goal.add_condition-returns-in_ok-push_str-in-Not
 add_condition-returns-in_ok-push_str-in-Not t c =
-    adds_two c.add_condition.result (codes "! ") (condition c.in-Not.inner at.Unary) _ (string_bytes c.args.to.now) (string_bytes c.push_str.new.self) (string_bytes c.add_condition.new.to)
-    (ap (λ x. condition x c.args.place) c.in-Not.is ∙ condition-Not c.in-Not.inner c.args.place) c.in_ok-push_str-in-Not.ensures.bytes
-    (subst (λ x. OnOk c.add_condition.result (string_bytes c.add_condition.new.to ≡ string_bytes c.push_str.new.self ++ condition x at.Unary)) c.get.ensures c.add_condition.ensures)
+    adds_two c.add_condition.result (codes " !") (text_of (condition c.in-Not.inner at.Unary)) _ (string_bytes c.args.to.now) (string_bytes c.push_str.new.self) (string_bytes c.add_condition.new.to)
+    (ap (λ x. text_of (condition x c.args.place)) c.in-Not.is ∙ ap text_of (condition-Not c.in-Not.inner c.args.place)) c.in_ok-push_str-in-Not.ensures.bytes
+    (subst (λ x. OnOk c.add_condition.result (string_bytes c.add_condition.new.to ≡ string_bytes c.push_str.new.self ++ text_of (condition x at.Unary))) c.get.ensures c.add_condition.ensures)
 
-pub add_condition-returns-in_ok-add_left-in-And : goal.add_condition-returns-in_ok-add_left-in-And
-add_condition-returns-in_ok-add_left-in-And t c =
-    adds_conjoined c.add_right.result (codes " and ") (condition c.in-And.left) (condition c.in-And.right) c.args.place c.parts_and-parens.result _ (string_bytes c.args.to.now) (string_bytes c.add_left.new.to) (string_bytes c.add_right.new.to)
-    (ap (λ x. condition x c.args.place) c.in-And.is ∙ condition-And c.in-And.left c.in-And.right c.args.place) c.parts_and-parens.ensures
-    (subst (λ x. string_bytes c.add_left.new.to ≡ string_bytes c.args.to.now ++ (opened c.parts_and-parens.result ++ (condition x at.Joined ++ codes " and "))) c.get-in-And.ensures c.in_ok-add_left-in-And.ensures)
-    (subst (λ x. OnOk c.add_right.result (string_bytes c.add_right.new.to ≡ string_bytes c.add_left.new.to ++ (condition x at.Unary ++ closed c.parts_and-parens.result))) c.get-in-And-2.ensures c.add_right.ensures)
+pub add_condition-returns-in_ok-add_conjuncts-in-Conjoined : goal.add_condition-returns-in_ok-add_conjuncts-in-Conjoined
+add_condition-returns-in_ok-add_conjuncts-in-Conjoined t c =
+    let x = c.in-Conjoined.first in
+    let rest = row w.Conjunction at.Unary c.in-Conjoined.rest in
+    let parens = c.parts_and-parens.result in
+    adds_four c.add_close.result (text_of (opened parens)) (text_of (condition x at.Joined)) (text_of rest) (text_of (closed parens)) _ (string_bytes c.args.to.now) (string_bytes c.add_open.new.to) (string_bytes c.add_condition-in-Conjoined.new.to) (string_bytes c.add_conjuncts.new.to) (string_bytes c.add_close.new.to)
+    (ap (λ z. text_of (condition z c.args.place)) c.in-Conjoined.is ∙ ap text_of (condition-Conjoined x c.in-Conjoined.rest c.args.place) ∙ ap (λ b. text_of (grouped b (condition x at.Joined ++ rest))) (sym c.parts_and-parens.ensures) ∙ text_grouped parens (condition x at.Joined) rest)
+    c.in_ok-add_open-in-Conjoined.ensures
+    (subst (λ z. string_bytes c.add_condition-in-Conjoined.new.to ≡ string_bytes c.add_open.new.to ++ text_of (condition z at.Joined)) c.get-in-Conjoined.ensures c.in_ok-add_condition-in-Conjoined.ensures)
+    (subst (λ l. string_bytes c.add_conjuncts.new.to ≡ string_bytes c.add_condition-in-Conjoined.new.to ++ text_of (row w.Conjunction at.Unary l)) c.as_slice.ensures c.in_ok-add_conjuncts-in-Conjoined.ensures)
+    c.add_close.ensures
 
-pub add_condition-returns-in_ok-add_left-in-Nand : goal.add_condition-returns-in_ok-add_left-in-Nand
-add_condition-returns-in_ok-add_left-in-Nand t c =
-    adds_conjoined c.add_right-in-Nand.result (codes " nand ") (condition c.in-Nand.left) (condition c.in-Nand.right) c.args.place c.parts_and-parens-in-Nand.result _ (string_bytes c.args.to.now) (string_bytes c.add_left-in-Nand.new.to) (string_bytes c.add_right-in-Nand.new.to)
-    (ap (λ x. condition x c.args.place) c.in-Nand.is ∙ condition-Nand c.in-Nand.left c.in-Nand.right c.args.place) c.parts_and-parens-in-Nand.ensures
-    (subst (λ x. string_bytes c.add_left-in-Nand.new.to ≡ string_bytes c.args.to.now ++ (opened c.parts_and-parens-in-Nand.result ++ (condition x at.Joined ++ codes " nand "))) c.get-in-Nand.ensures c.in_ok-add_left-in-Nand.ensures)
-    (subst (λ x. OnOk c.add_right-in-Nand.result (string_bytes c.add_right-in-Nand.new.to ≡ string_bytes c.add_left-in-Nand.new.to ++ (condition x at.Unary ++ closed c.parts_and-parens-in-Nand.result))) c.get-in-Nand-2.ensures c.add_right-in-Nand.ensures)
+pub add_condition-returns-in_ok-add_disjuncts-in-Disjoined : goal.add_condition-returns-in_ok-add_disjuncts-in-Disjoined
+add_condition-returns-in_ok-add_disjuncts-in-Disjoined t c =
+    let x = c.in-Disjoined.first in
+    let rest = row w.Disjunction at.Joined c.in-Disjoined.rest in
+    let parens = c.parts_or-parens.result in
+    adds_four c.add_close-in-Disjoined.result (text_of (opened parens)) (text_of (condition x at.Whole)) (text_of rest) (text_of (closed parens)) _ (string_bytes c.args.to.now) (string_bytes c.add_open-in-Disjoined.new.to) (string_bytes c.add_condition-in-Disjoined.new.to) (string_bytes c.add_disjuncts.new.to) (string_bytes c.add_close-in-Disjoined.new.to)
+    (ap (λ z. text_of (condition z c.args.place)) c.in-Disjoined.is ∙ ap text_of (condition-Disjoined x c.in-Disjoined.rest c.args.place) ∙ ap (λ b. text_of (grouped b (condition x at.Whole ++ rest))) (sym c.parts_or-parens.ensures) ∙ text_grouped parens (condition x at.Whole) rest)
+    c.in_ok-add_open-in-Disjoined.ensures
+    (subst (λ z. string_bytes c.add_condition-in-Disjoined.new.to ≡ string_bytes c.add_open-in-Disjoined.new.to ++ text_of (condition z at.Whole)) c.get-in-Disjoined.ensures c.in_ok-add_condition-in-Disjoined.ensures)
+    (subst (λ l. string_bytes c.add_disjuncts.new.to ≡ string_bytes c.add_condition-in-Disjoined.new.to ++ text_of (row w.Disjunction at.Joined l)) c.as_slice-in-Disjoined.ensures c.in_ok-add_disjuncts-in-Disjoined.ensures)
+    c.add_close-in-Disjoined.ensures
 
-pub add_condition-returns-in_ok-add_left-in-Or : goal.add_condition-returns-in_ok-add_left-in-Or
-add_condition-returns-in_ok-add_left-in-Or t c =
-    adds_disjoined c.add_right-in-Or.result (codes " or ") (condition c.in-Or.left) (condition c.in-Or.right) c.args.place c.parts_or-parens.result _ (string_bytes c.args.to.now) (string_bytes c.add_left-in-Or.new.to) (string_bytes c.add_right-in-Or.new.to)
-    (ap (λ x. condition x c.args.place) c.in-Or.is ∙ condition-Or c.in-Or.left c.in-Or.right c.args.place) c.parts_or-parens.ensures
-    (subst (λ x. string_bytes c.add_left-in-Or.new.to ≡ string_bytes c.args.to.now ++ (opened c.parts_or-parens.result ++ (condition x at.Whole ++ codes " or "))) c.get-in-Or.ensures c.in_ok-add_left-in-Or.ensures)
-    (subst (λ x. OnOk c.add_right-in-Or.result (string_bytes c.add_right-in-Or.new.to ≡ string_bytes c.add_left-in-Or.new.to ++ (condition x at.Joined ++ closed c.parts_or-parens.result))) c.get-in-Or-2.ensures c.add_right-in-Or.ensures)
+pub add_conjuncts-loop-part-preserved : goal.add_conjuncts-loop-part-preserved
+add_conjuncts-loop-part-preserved t c =
+    let e = c.part-item.result in
+    turn_each (conjunct w.Conjunction at.Unary) c.args.rest.now c.loop-part.part-index e (string_bytes c.loop-part.to) (string_bytes c.add_condition.new.to) _ (omega (arith, c.loop-part-test.true)) c.part-item.is
+    (added_two (32 ∷ conjunction_text e.0) (text_of (condition e.1 at.Unary)) (string_bytes c.loop-part.to) (string_bytes c.add_sign.new.to) (string_bytes c.add_condition.new.to)
+    (c.in_ok-add_sign.ensures ∙ ap (λ s. string_bytes c.loop-part.to ++ 32 ∷ s) c.conjunction_text.ensures) c.in_ok-add_condition.ensures)
+    c.loop-part.invariant
 
-pub add_condition-returns-in_ok-add_left-in-Xor : goal.add_condition-returns-in_ok-add_left-in-Xor
-add_condition-returns-in_ok-add_left-in-Xor t c =
-    adds_disjoined c.add_right-in-Xor.result (codes " xor ") (condition c.in-Xor.left) (condition c.in-Xor.right) c.args.place c.parts_or-parens-in-Xor.result _ (string_bytes c.args.to.now) (string_bytes c.add_left-in-Xor.new.to) (string_bytes c.add_right-in-Xor.new.to)
-    (ap (λ x. condition x c.args.place) c.in-Xor.is ∙ condition-Xor c.in-Xor.left c.in-Xor.right c.args.place) c.parts_or-parens-in-Xor.ensures
-    (subst (λ x. string_bytes c.add_left-in-Xor.new.to ≡ string_bytes c.args.to.now ++ (opened c.parts_or-parens-in-Xor.result ++ (condition x at.Whole ++ codes " xor "))) c.get-in-Xor.ensures c.in_ok-add_left-in-Xor.ensures)
-    (subst (λ x. OnOk c.add_right-in-Xor.result (string_bytes c.add_right-in-Xor.new.to ≡ string_bytes c.add_left-in-Xor.new.to ++ (condition x at.Joined ++ closed c.parts_or-parens-in-Xor.result))) c.get-in-Xor-2.ensures c.add_right-in-Xor.ensures)
+pub add_disjuncts-loop-part-preserved : goal.add_disjuncts-loop-part-preserved
+add_disjuncts-loop-part-preserved t c =
+    let e = c.part-item.result in
+    turn_each (conjunct w.Disjunction at.Joined) c.args.rest.now c.loop-part.part-index e (string_bytes c.loop-part.to) (string_bytes c.add_condition.new.to) _ (omega (arith, c.loop-part-test.true)) c.part-item.is
+    (added_two (32 ∷ disjunction_text e.0) (text_of (condition e.1 at.Joined)) (string_bytes c.loop-part.to) (string_bytes c.add_sign.new.to) (string_bytes c.add_condition.new.to)
+    (c.in_ok-add_sign.ensures ∙ ap (λ s. string_bytes c.loop-part.to ++ 32 ∷ s) c.disjunction_text.ensures) c.in_ok-add_condition.ensures)
+    c.loop-part.invariant

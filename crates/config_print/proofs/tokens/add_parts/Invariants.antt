@@ -1,5 +1,5 @@
 use Rattle.std.proofs.Common.{◌≡◌, ◌++◌, drop, string_bytes}
-use Rattle.config_print.specs.Tokens.{bracketed}
+use Rattle.event_tree.specs.PathTexts.{bracketed}
 use Rattle.config_print.proofs.tokens.add_parts.Given as goal
 
 abbrev pub invariant-loop-part : goal.invariant-loop-part

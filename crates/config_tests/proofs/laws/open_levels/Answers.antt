@@ -1,6 +1,6 @@
 use Rattle.std.proofs.Common.{refl}
-use Rattle.config_grammar.specs.Bytes.{passing, skip, closing, unescaped}
-use Rattle.config_grammar.specs.Lexemes.{parts_at, token_at, lexed}
+use Rattle.config_lex.specs.Bytes.{passing, skip, closing, unescaped}
+use Rattle.config_lex.specs.Lexemes.{parts_at, token_at, lexed}
 use Rattle.config_tests.proofs.laws.open_levels.Goals as goal
 
 pub returns-clause-nothing : goal.returns-clause-nothing

@@ -9,7 +9,7 @@ use Rattle.byte_lines.specs.Unread.{lines_left}
 use Rattle.byte_lines.proofs.Giving.{unread}
 use Rattle.logstash_top.specs.Rows.{rows_at}
 use Rattle.logstash_top.specs.Runs.{line_limit}
-use Rattle.logstash_top.proofs.PumpLemmas.{poll_of, whole_room, no_rows, no_rest, not_both, ended, still_more, rows_more, fed_lines, fed_rest, waited_rest, ended_lines, polled_none, polled_more, polled_waited, stopped, stopped_in_part}
+use Rattle.logstash_top.proofs.PumpLemmas.{poll_of, whole_room, no_rows, no_rest, not_both, ended, still_more, rows_more, fed_lines, fed_rest, waited_rest, ended_lines, polled_none, polled_more, waited_none, waited_same, waited_more, counted, counted_failed, stopped, stopped_in_part}
 use Rattle.logstash_top.proofs.pump.pump.Goals as goal
 
 pub returns-in_err-room-clause-ran : goal.returns-in_err-room-clause-ran
@@ -22,6 +22,7 @@ loop-init g c = record {
   ends = tt;
   polls = [];
   polled = polled_none g.I.Source g.O.Sink g.K.Clock _;
+  waited = waited_none _;
   still = refl;
   wrote = grows_by (sym no_rows) (grows_same _);
   reader = c.new-reader.ensures ∙ ap (λ b. unread line_limit b false) (sym no_rest);
@@ -37,7 +38,7 @@ returns-in-Err-clause-ran g c =
     let e = c.in-Err.ensures in
     let m = c.now-moment.result in
     stopped_in_part g.I.Source g.O.Sink g.K.Clock _ c.loop.world _ _ _ i.polls m Nothing [] i.still
-    (polled_more g.I.Source g.O.Sink g.K.Clock _ c.loop.world _ i.polls m Nothing i.still i.polled c.now-moment.ensures e.given e.left) refl i.wrote (in_part_none [] (grows_same _)) (λ is. grows_same _) (λ is. cc)
+    (polled_more g.I.Source g.O.Sink g.K.Clock _ c.loop.world _ i.polls m Nothing i.still i.polled c.now-moment.ensures e.given e.left (counted_failed i.polls m _ _ _ _ (e.waits.same (λ is. cc)) ((cause_from i.read_same e.cause).rose refl) i.waited)) refl i.wrote (in_part_none [] (grows_same _)) (λ is. grows_same _) (λ is. cc)
 
 pub returns-in-Err-clause-read_cause : goal.returns-in-Err-clause-read_cause
 returns-in-Err-clause-read_cause g c = cause_from c.loop.invariant.read_same (cause_of (λ _. refl) (λ _. refl) c.in-Err.ensures.cause)
@@ -50,11 +51,13 @@ loop-preserved g c =
     let i = c.loop.invariant in
     let e = rw c.in-Ok-NotYet.field-0-is at c.in-Ok-NotYet.ensures in
     let m = c.now-moment.result in
+    let waits = waited_more i.polls m _ _ _ (e.waits.rose refl) i.waited in
     record {
       can = tt;
       ends = tt;
       polls = i.polls ++ poll_of m Nothing ∷ [];
-      polled = polled_waited g.I.Source g.O.Sink g.K.Clock _ c.loop.world _ i.polls m i.still i.polled (grows_still c.now-moment.ensures c.pause.ensures) e.given e.left;
+      polled = polled_more g.I.Source g.O.Sink g.K.Clock _ c.loop.world _ i.polls m Nothing i.still i.polled (grows_still c.now-moment.ensures c.pause.ensures) e.given e.left (counted _ _ _ _ waits);
+      waited = waits;
       still = still_more i.polls m Nothing i.still refl;
       wrote = grows_by (sym (rows_more i.polls m Nothing i.still ∙ append-nil _)) i.wrote;
       reader = waited_rest i.polls m _ i.still i.reader;
@@ -72,11 +75,13 @@ loop-preserved-in-Ok g c =
     let same : c.read.new.into ≡ c.deref.result.now = sym (c.deref.ensures.value ∙ whole_room _ _ _ (omega (arith, c.read.auto.into, c.deref_mut.ensures.len))) in
     let bytes = take c.in-Ok-Bytes.count c.deref.result.now in
     let lines = fed_lines (rest_through line_limit i.polls) bytes c.loop.reader i.reader in
+    let waits = waited_same i.polls m (Came bytes) _ _ _ refl (e.waits.same (λ is. cc)) i.waited in
     record {
       can = tt;
       ends = tt;
       polls = i.polls ++ poll_of m (Came bytes) ∷ [];
-      polled = polled_more g.I.Source g.O.Sink g.K.Clock _ c.loop.world _ i.polls m (Came bytes) i.still i.polled c.now-moment.ensures (grows_by (ap (λ t. Came (take c.in-Ok-Bytes.count t) ∷ []) same) e.given) (shrinks_by (ap (take c.in-Ok-Bytes.count) same) e.left);
+      polled = polled_more g.I.Source g.O.Sink g.K.Clock _ c.loop.world _ i.polls m (Came bytes) i.still i.polled c.now-moment.ensures (grows_by (ap (λ t. Came (take c.in-Ok-Bytes.count t) ∷ []) same) e.given) (shrinks_by (ap (take c.in-Ok-Bytes.count) same) e.left) (counted _ _ _ _ waits);
+      waited = waits;
       still = still_more i.polls m (Came bytes) i.still refl;
       wrote = grows_by (ap (λ l. out_bytes (events_of line_limit i.polls) ++ rows_at m l) lines ∙ sym (rows_more i.polls m (Came bytes) i.still)) (grows_then i.wrote c.in-Ok.ensures.ok);
       reader = fed_rest i.polls m bytes c.loop.reader c.take_piece.new.reader i.still i.reader c.in-Ok.ensures.left c.in-Ok.ensures.rest c.in-Ok.ensures.ended c.in-Ok.ensures.limit;
@@ -93,7 +98,7 @@ returns-in-Err-take_piece-clause-ran g c =
     let same : c.read.new.into ≡ c.deref.result.now = sym (c.deref.ensures.value ∙ whole_room _ _ _ (omega (arith, c.read.auto.into, c.deref_mut.ensures.len))) in
     let bytes = take c.in-Ok-Bytes.count c.deref.result.now in
     stopped_in_part g.I.Source g.O.Sink g.K.Clock _ c.loop.world _ _ _ i.polls m (Came bytes) _ i.still
-    (polled_more g.I.Source g.O.Sink g.K.Clock _ c.loop.world _ i.polls m (Came bytes) i.still i.polled c.now-moment.ensures (grows_by (ap (λ t. Came (take c.in-Ok-Bytes.count t) ∷ []) same) e.given) (shrinks_by (ap (take c.in-Ok-Bytes.count) same) e.left))
+    (polled_more g.I.Source g.O.Sink g.K.Clock _ c.loop.world _ i.polls m (Came bytes) i.still i.polled c.now-moment.ensures (grows_by (ap (λ t. Came (take c.in-Ok-Bytes.count t) ∷ []) same) e.given) (shrinks_by (ap (take c.in-Ok-Bytes.count) same) e.left) (counted _ _ _ _ (waited_same i.polls m (Came bytes) _ _ _ refl (e.waits.same (λ is. cc)) i.waited)))
     (fed_lines (rest_through line_limit i.polls) bytes c.loop.reader i.reader) i.wrote c.in-Err-take_piece.ensures.part (λ is. absurd (c.in-Err-take_piece.ensures.not_input is)) (λ is. cc)
 
 pub returns-in-Err-take_piece-clause-read_cause : goal.returns-in-Err-take_piece-clause-read_cause
@@ -112,7 +117,7 @@ returns-in-Ok-End-clause-ran g c =
     let m = c.now-moment.result in
     let lines = ap lines_left c.end.ensures ∙ ended_lines i.polls c.loop.reader i.reader in
     ended g.I.Source g.O.Sink g.K.Clock _ c.loop.world _ c.write_lines.result _ i.polls m _ i.still
-    (polled_more g.I.Source g.O.Sink g.K.Clock _ c.loop.world _ i.polls m End i.still i.polled c.now-moment.ensures e.given e.left)
+    (polled_more g.I.Source g.O.Sink g.K.Clock _ c.loop.world _ i.polls m End i.still i.polled c.now-moment.ensures e.given e.left (counted _ _ _ _ (waited_same i.polls m End _ _ _ refl (e.waits.same (λ is. cc)) i.waited)))
     (e.end refl) lines i.wrote c.write_lines.ensures.ok c.write_lines.ensures.part c.write_lines.ensures.not_input
 
 pub returns-in-Ok-End-clause-read_cause : goal.returns-in-Ok-End-clause-read_cause

@@ -3,7 +3,8 @@ use Rattle.io_traits.specs.Telling.{Grows}
 use Rattle.in_lines.specs.Polls.{Poll, is_ended, rest_through}
 use Rattle.in_lines.specs.Events.{events_of}
 use Rattle.in_lines.specs.Rows.{out_bytes}
-use Rattle.logstash_top.specs.Runs.{Polled, line_limit}
+use Rattle.logstash_top.specs.Runs.{Polled, empty_in, line_limit}
+use Rattle.logstash_top.proofs.PumpLemmas.{Waited}
 use Rattle.logstash_top.proofs.pump.pump.Given as goal
 
 abbrev pub invariant-loop : goal.invariant-loop
@@ -13,6 +14,7 @@ invariant-loop g l = record {
   polls : List Poll;
   polled : Polled g.I.Source g.O.Sink g.K.Clock l.fn.world l.world polls;
   still : is_ended polls ≡ false;
+  waited : Waited (empty_in polls) (g.I.Source.waits l.fn.world.stdin) (g.I.Source.waits l.world.stdin);
   wrote : Grows (g.O.Sink.taken l.fn.world.stdout) (g.O.Sink.taken l.world.stdout) (out_bytes (events_of line_limit polls));
   reader : l.reader ≡ record { limit = line_limit; bytes = rest_through line_limit polls; ended = false };
   stderr : l.world.stderr ≡ l.fn.world.stderr;

@@ -1,8 +1,0 @@
-use Rattle.std.proofs.Common.{◌≡◌, take}
-use Rattle.config_grammar.proofs.copies.+copy_settings.Given as goal
-
-abbrev pub invariant-copy_entries-loop-entry : goal.invariant-copy_entries-loop-entry
-invariant-copy_entries-loop-entry l = l.copies ≡ take l.entry-index l.entries
-
-abbrev pub invariant-copy_values-loop-value : goal.invariant-copy_values-loop-value
-invariant-copy_values-loop-value l = l.copies ≡ take l.value-index l.values

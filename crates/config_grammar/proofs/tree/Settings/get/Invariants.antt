@@ -1,6 +1,0 @@
-use Rattle.std.proofs.Common.{◌≡◌, drop}
-use Rattle.config_grammar.specs.Readers.{value_at}
-use Rattle.config_grammar.proofs.tree.Settings.get.Given as goal
-
-abbrev pub invariant-loop-entry : goal.invariant-loop-entry
-invariant-loop-entry l = value_at l.name (drop l.entry-index l.self.list) ≡ value_at l.name l.self.list

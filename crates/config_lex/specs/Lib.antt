@@ -1,0 +1,4 @@
+pub mod Bytes
+pub mod Lexemes
+pub mod Spelling
+pub mod Laws
