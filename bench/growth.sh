@@ -21,10 +21,10 @@ hashes() {
 
 # An object whose keys fall, and one whose keys rise; and openings of a template that nothing closes.
 falling() {
-    awk -v n="$1" 'BEGIN { printf "{"; for (i = n; i > 0; i--) printf "%s\"k%07d\":1", i < n ? "," : "", i; print "}" }'
+    awk -v n="$1" 'BEGIN { printf "{"; for (i = n; i > 0; i--) printf "%s\"k%07d\":1", (i < n ? "," : ""), i; print "}" }'
 }
 rising() {
-    awk -v n="$1" 'BEGIN { printf "{"; for (i = 0; i < n; i++) printf "%s\"k%07d\":1", i > 0 ? "," : "", i; print "}" }'
+    awk -v n="$1" 'BEGIN { printf "{"; for (i = 0; i < n; i++) printf "%s\"k%07d\":1", (i > 0 ? "," : ""), i; print "}" }'
 }
 openings() {
     awk -v n="$1" 'BEGIN { for (i = 0; i < n; i++) printf "%%{x" }'
