@@ -1,7 +1,7 @@
 -- What a stop may leave of a file whose front is settled, and of a slot that says how much of another file is.
 use Rattle.std.specs.Prelude.{◌≡◌, ◌≢◌, ◌⊎◌, ◌≤◌, ◌<◌, ℕ, ◌+◌, ◌-◌, ◌++◌, Bool, IsTrue, List, length, take, Option, Some}
 use Rattle.io_traits.specs.Reads.{bytes_of}
-use Rattle.store_trait.specs.Images.{Image, FileImage, Among, at_rest}
+use Rattle.store_trait.specs.Images.{Image, FileImage, Among, at_rest, overlaid}
 use Rattle.store_trait.specs.Chance.{NoChance, StandsAt}
 use Rattle.store_trait.specs.Moments.{MayLeaveNow, EachMoment}
 use Rattle.store_trait.specs.declared.stores.Store.{Ghosts as StoreWords}
@@ -69,6 +69,10 @@ module _ {S : Type 0} (store : StoreWords S) where
   -- the front is settled, and nothing is behind it
   abbrev pub SettlesFront : List ℕ → ℕ → S → S → Type 0
   SettlesFront name len old new = (front tail : List ℕ) → HasTail old name front tail → len ≡ length front → IsSettled new name front
+
+  -- the slot stands in its file, which is at rest
+  abbrev pub SettlesSlot : List ℕ → ℕ → List ℕ → S → S → Type 0
+  SettlesSlot head at slot old new = IsSettled new head (overlaid at slot (bytes_of (store.seen old head)))
 
   -- a slot that stands whole at any moment of a run stood there before, or what another file read as when the run began is at rest
   abbrev pub SlotFollows : List ℕ → ℕ → List ℕ → S → S → Type 0

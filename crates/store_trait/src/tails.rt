@@ -4,7 +4,7 @@ ghost use Rattle.std.specs.Prelude.{◌≡◌, ◌≤◌, IsTrue, IsErr, OnOk};
 ghost use Rattle.io_traits.specs.Counts.{HasCause};
 ghost use Rattle.io_traits.specs.Reads.{file_length};
 ghost use Rattle.store_trait.specs.Moments.{EachMoment, LeavesBeside};
-ghost use Rattle.store_trait.specs.Tails.{HoldsAppended, AddsToTail, SettlesAppended, HoldsCut, SettlesFront, SlotFollows};
+ghost use Rattle.store_trait.specs.Tails.{HoldsAppended, AddsToTail, SettlesAppended, HoldsCut, SettlesFront, SettlesSlot, SlotFollows};
 
 use crate::stores::Store;
 use io_traits::Failed;
@@ -59,6 +59,8 @@ pub fn settle_and_mark<S: Store>(
     slot: &[u8],
 ) -> Result<(), Failed>
     requires { IsTrue S.tells → at ≤ file_length (S.seen store.old head.now) }
+    ensures settled { OnOk result
+        (SettlesSlot S.Store head.now at slot.now store.old store.new) }
     ensures any_moment { SlotFollows S.Store head.now at slot.now store.old store.new }
     ensures beside { EachMoment S.Store store.old store.new
         (LeavesBeside S.Store (λ n. n ≡ head.now) store.old) }
