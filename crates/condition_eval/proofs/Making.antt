@@ -1,5 +1,5 @@
 -- The patterns that are made of a condition, part by part.
-use Rattle.std.proofs.Common.{◌≡◌, ℕ, suc, zero, ◌+◌, ◌-◌, ◌<◌, ◌≤◌, get_or, List, [], ◌∷◌, ◌++◌, length, drop, refl, sym, ap, subst, ◌∙◌, append_assoc, length-append, slice_set, take, arith}
+use Rattle.std.proofs.Common.{◌≡◌, ℕ, suc, zero, ◌+◌, ◌-◌, ◌<◌, ◌≤◌, get_or, List, [], ◌∷◌, ◌++◌, length, drop, refl, sym, ap, subst, ◌∙◌, append_assoc, slice_set, take, arith}
 use Rattle.std.specs.Prelude.{Result, Ok, Err, OnOk, IfErr}
 use Rattle.std.proofs.lemmas.List.{append-nil, drop-drop, length-drop, length-map}
 use Rattle.std.proofs.Math.Seq.{take-append_seam}
@@ -11,9 +11,6 @@ use Rattle.condition_eval.specs.Made.{AreReadFrom, Added, FirstIsRefused, BeginW
 
 pub added_none : (ps : List box.Pattern) → Added [] ps ps
 added_none ps = record { more = []; whole = sym (append-nil ps); read = tt }
-
-pub none_added : (ss : List (List ℕ)) (ps : List box.Pattern) → ss ≡ [] → Added ss ps ps
-none_added ss ps e = subst (λ t. Added t ps ps) (sym e) (added_none ps)
 
 pub added_one : (s : List ℕ) (p : box.Pattern) (ps : List box.Pattern) → IsReadFrom s p → Added (s ∷ []) ps (ps ++ p ∷ [])
 added_one s p ps h = record { more = p ∷ []; whole = refl; read = (h, tt) }
@@ -68,9 +65,6 @@ added_as a b x ps qs rs e h k = subst (λ s. Added s ps rs) (sym e) (added_both 
 -- what is refused in the middle, behind texts from which patterns were made
 pub refused_within : (fault : PatternFault) (a b d x : List (List ℕ)) (ps qs : List box.Pattern) → x ≡ a ++ (b ++ d) → Added a ps qs → FirstIsRefused fault b → FirstIsRefused fault x
 refused_within fault a b d x ps qs e k h = subst (FirstIsRefused fault) (sym e) (refused_right fault a (b ++ d) k.more k.read (refused_left fault b d h))
-
-pub joint_refused : (fault : PatternFault) (a b x : List (List ℕ)) → x ≡ a ++ b → FirstIsRefused fault a → FirstIsRefused fault x
-joint_refused fault a b x e h = subst (FirstIsRefused fault) (sym e) (refused_left fault a b h)
 
 -- where two lists joined are empty, so is each
 pub none_left : (a b : List (List ℕ)) → a ++ b ≡ [] → a ≡ []
@@ -147,9 +141,6 @@ begins_length (s ∷ ss) (p ∷ ps) h = omega (arith, begins_length ss ps h.1)
 -- the place behind the patterns is a place
 pub past_fits : (ss : List (List ℕ)) (at bound : ℕ) (ps : List box.Pattern) → BeginWith ss (drop at ps) → at < bound → length ps < bound → at + length ss < bound
 past_fits ss at bound ps h a l = let n : length ss ≤ length ps - at = subst (λ k. length ss ≤ k) (length-drop at ps) (begins_length ss (drop at ps) h) in omega (arith, n)
-
-pub past_next : (a b : List (List ℕ)) (at next bound : ℕ) (ps : List box.Pattern) → BeginWith (a ++ b) (drop at ps) → at < bound → length ps < bound → next ≡ at + length a → next + length b < bound
-past_next a b at next bound ps h l k n = omega (arith, past_fits (a ++ b) at bound ps h l k, length-append a b)
 
 pub set_same : (ps : List box.Pattern) (at : ℕ) (p q d : box.Pattern) → p ≡ get_or ps at d → meaning_of q ≡ meaning_of p → meanings (slice_set ps at q) ≡ meanings ps
 set_same [] at p q d e f = refl
