@@ -2,7 +2,7 @@
 # What does it cost a FileStore to open a folder of 1,000 files? It lists the folder, and opens and syncs each file
 # before it is first relied on. The program io_tests makes the calls on files of 4 KiB: where all is at rest, and right
 # after the files were written, the least of five runs each. The time of a run without calls is taken off. Then the
-# system calls per file. Needs strace.
+# system calls per file, where strace is there.
 . "$(dirname "$0")/common.sh"
 
 (cd "$root/crates/io_tests" && rt run <stdin) >"$work/build.log" 2>&1 || {
@@ -46,5 +46,6 @@ awk -v start="$start" -v rest="$rest" -v new="$new" 'BEGIN {
     printf "a folder of 1,000 files is opened in %.1f ms where all is at rest, ", (rest - start) / 1e6
     printf "and in %.1f ms right after they were written\n", (new - start) / 1e6
 }'
+command -v strace >/dev/null || { echo "strace is missing, so system calls are not counted"; exit 0; }
 strace -f -c -U calls,name -o "$work/calls.txt" "$program" "$data" <"$work/calls" >"$work/output"
 awk '$2 == "total" { printf "%.1f system calls per file\n", $1 / 1000 }' "$work/calls.txt"
