@@ -15,3 +15,4 @@ pub mod TakeGets
 pub mod EventGets
 pub mod ValueLemmas
 pub mod TemplateLaws
+pub mod Going

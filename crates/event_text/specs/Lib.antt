@@ -6,3 +6,4 @@ pub mod PathLaws
 pub mod TextLaws
 pub mod Adds
 pub mod ValueLaws
+pub mod Options

@@ -2,14 +2,22 @@
 //! once for each level of lists.
 #![tactic(auto)]
 
+mod applied;
+mod changes;
 mod date_format;
 pub mod laws;
+mod options;
 pub mod path_laws;
+mod path_text;
 mod shown;
 mod template;
 pub mod value_laws;
 
+pub use applied::Applied;
+pub use changes::{add_tag, remove_tag, try_put};
 pub use date_format::DatePart;
 pub use event_json::{JsonFault, read_json, time_text, write_json};
+pub use options::Options;
+pub use path_text::path_in;
 pub use shown::value_text;
 pub use template::{Template, TemplatePart};

@@ -4,8 +4,9 @@ ghost use Rattle.event_text.specs.Adds.{AddsText};
 ghost use Rattle.event_text.specs.Template.{text, template_parts, template_part_of, date_part_of, field_part_of, IsNextClose, Encloses, opens, placeholder, plain_parts, IsPlaced, template_part_text, as_written, moment_of, time_in};
 
 use crate::date_format::{DatePart, add_date, read_format};
+use crate::path_text::path_in;
 use crate::shown::add_shown;
-use event_tree::{Event, Path, PathFault, Value};
+use event_tree::{Event, Path, Value};
 use plain_data::{Items, Text};
 use std::alloc::{AllocError, Global};
 use std::marker::Model;
@@ -267,11 +268,8 @@ fn read_date(alloc: Global, inner: &str) -> Result<Option<TemplatePart>, AllocEr
 fn read_field(alloc: Global, inner: &str) -> Result<Option<TemplatePart>, AllocError>
     ensures { IfOk result (λ piece. piece ≡ field_part_of inner.now) }
 {
-    match Path::read(alloc, inner) {
-        Ok(path) => Ok(Some(TemplatePart::Field(path, Text::of(alloc, inner)?))),
-        Err(PathFault::Memory) => Err(AllocError),
-        Err(PathFault::Empty) => Ok(None),
-        Err(PathFault::Unclosed(_)) => Ok(None),
-        Err(PathFault::Stray(_)) => Ok(None),
+    match path_in(alloc, inner)? {
+        Some(path) => Ok(Some(TemplatePart::Field(path, Text::of(alloc, inner)?))),
+        None => Ok(None),
     }
 }

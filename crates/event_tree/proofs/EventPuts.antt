@@ -1,17 +1,19 @@
 -- A put into one of the two objects of an event, where there is room for so many more bytes, and what is taken from one of them.
-use Rattle.std.proofs.Common.{◌≡◌, ℕ, ◌+◌, ◌-◌, ◌<◌, ◌≤◌, max, List, [], ◌∷◌, length, Bool, true, false, cond, Option, Some, None, option_map, option_and_then, Ok, Err, nat_lt, refl, sym, ap, subst, ◌∙◌, arith, rules}
-use Rattle.std.specs.Prelude.{is_some, not, ◌==◌, ◌&&◌}
+use Rattle.std.proofs.Common.{◌≡◌, ℕ, ◌+◌, ◌-◌, ◌<◌, ◌≤◌, max, List, [], ◌∷◌, length, Bool, true, false, cond, Option, Some, None, IsSome, option_map, option_and_then, Ok, Err, nat_lt, refl, sym, ap, subst, ◌∙◌, arith, rules}
+use Rattle.std.specs.Prelude.{is_some, not}
 use Rattle.std.proofs.lemmas.Bool.Decides.{nat_tests}
 use Rattle.event_tree.specs.Values.{depth}
 use Rattle.event_tree.specs.Sizes.{size, less}
 use Rattle.event_tree.specs.Sound.{are_texts, sound}
-use Rattle.event_tree.specs.Paths.{put, take}
+use Rattle.event_tree.specs.Paths.{put, append, take}
 use Rattle.event_tree.specs.Growth.{room_at_end}
 use Rattle.event_tree.specs.Events.{Ev, IsObject, IsEvent, both, object_in, object, object_put, with_fields, with_meta, event_size, event_depth, limited}
-use Rattle.event_tree.specs.Outcomes.{Puts, PutsWithin, PutsEvent, Takes}
+use Rattle.event_tree.specs.Outcomes.{ends_as_no_object, Passes, Puts, PutsWithin, PutsEvent, Takes, changed}
 use Rattle.event_tree.specs.declared.value.Value.{Value, out-Value, roll-Value, roll-out-Value}
 use Rattle.event_tree.specs.declared.value.Value.TheOpen.{Value-F}
 use Rattle.event_tree.specs.declared.value.Value.TheVariants as v
+use Rattle.event_tree.specs.declared.within.How.{How}
+use Rattle.event_tree.specs.declared.within.How.TheVariants as how
 use Rattle.event_tree.specs.declared.fault.PutFault.{PutFault}
 use Rattle.event_tree.specs.declared.fault.PutFault.TheVariants.{ThroughScalar, Deep, Large, Memory}
 use Rattle.event_tree.proofs.PutLaws.{Grown, refused, done, put_cases}
@@ -38,7 +40,7 @@ lt_true a b h = grind (arith, nat_tests)
 lt_false : (a b : ℕ) → b ≤ a → nat_lt a b ≡ false
 lt_false a b h = grind (arith, nat_tests)
 
-object-some : (x : Value) → IsObject x → object x ≡ Some x
+pub object-some : (x : Value) → IsObject x → object x ≡ Some x
 object-some x o = ap object o.1 ∙ ap object_in (v.outs-Object o.0) ∙ ap Some (sym o.1)
 
 object-is : (d : Value) → is_some (object d) ≡ true → IsObject d
@@ -52,10 +54,6 @@ object-is d h = by (out-Value d) (roll-out-Value d) h
     by (Value-F.Time t) r h = absurd (search (h, rules))
     by (Value-F.List vs) r h = absurd (search (h, rules))
     by (Value-F.Object ms) r h = (ms, sym r ∙ v.rolls-Object ms)
-
--- one of the two objects of an event would become a value that is no object
-abbrev ends_as_no_object : List (List ℕ) → Value → Bool
-ends_as_no_object ps d = (length ps == 0) && not (is_some (object d))
 
 object_from : (d : Value) → ends_as_no_object [] d ≡ false → is_some (object d) ≡ true
 object_from d h = by (is_some (object d)) h
@@ -123,6 +121,24 @@ module _ (ps : List (List ℕ)) (d old : Value) (room : ℕ) where
           | done m x a b k ↦ let f = fits x b in ((x, f.0, f.1, omega (arith, f.2)), r.1)
         ]
 
+-- what may stand at the end of the parts
+module _ (found : Option (Option ℕ)) (ps : List (List ℕ)) (d : Value) (left : ℕ) (p : Passes found ps d left) (room : ℕ) (old : Value) (is : found ≡ room_at_end room ps old) (o : IsObject old) (flat : depth old ≤ 128) where
+  abbrev there : room_at_end room ps old ≡ Some (Some p.free)
+  there = sym is ∙ p.found_is
+
+  pub passes_fits : (new : Value) → put ps d old ≡ Some new → (object_put ps d old ≡ Some new) × (depth new ≤ 128) × (size new + left ≡ size old + room) × (are_texts ps ≡ true → sound d ≡ true → sound old ≡ true → sound new ≡ true)
+  passes_fits = fits ps d old room o p.whole flat p.shallow p.free left there p.left_is
+
+  pub passes_refusal : (fault : PutFault) (new : Value) → Puts (Err fault) (put ps d old) old new → PutsWithin (Err fault) (object_put ps d old) room old new
+  passes_refusal = refusal ps d old room o p.whole flat p.shallow p.free left there p.left_is
+
+  -- nothing but want of memory can refuse it
+  pub passes_all : PutsWithin (Err Memory) (object_put ps d old) room old old
+  passes_all = elim (put_cases ps d old) [
+    | refused a b ↦ absurd (search (rw a at there, rules))
+    | done m x a b k ↦ passes_refusal Memory old (subst IsSome (sym b) refl, refl)
+  ]
+
 -- an object and its size
 pub object-gives : (x new : Value) → object x ≡ Some new → IsObject new
 object-gives x new h = by (out-Value x) h
@@ -136,12 +152,9 @@ object-gives x new h = by (out-Value x) h
     by (Value-F.List vs) h = absurd (search (h, rules))
     by (Value-F.Object ms) h = let e : v.Object ms ≡ new = search (h, rules) in (ms, sym e)
 
-pub object_put-gives : (ps : List (List ℕ)) (d old new : Value) → object_put ps d old ≡ Some new → IsObject new
-object_put-gives ps d old new h = by (put ps d old) h
-  where
-    by : (o : Option Value) → option_and_then object o ≡ Some new → IsObject new
-    by None h = absurd (search (h, rules))
-    by (Some x) h = object-gives x new h
+object-of : (said : Option Value) (new : Value) → option_and_then object said ≡ Some new → IsObject new
+object-of None new h = absurd (search (h, rules))
+object-of (Some x) new h = object-gives x new h
 
 pub size-object : (x : Value) → IsObject x → 5 ≤ size x
 size-object x o = let e : size x ≡ size (v.Object o.0) = ap size o.1 in omega (arith, e, size-Object o.0)
@@ -185,11 +198,20 @@ turned f m is = record {
   meta_sound = is.fields_sound;
 }
 
+-- what becomes of the object is one, however the value is put there
+abbrev made_by : How → List (List ℕ) → Value → Value → Option Value
+made_by how.Put ps d old = put ps d old
+made_by how.Append ps d old = append ps d old
+
+changed_is : (how : How) (ps : List (List ℕ)) (d old : Value) → changed how ps d old ≡ option_and_then object (made_by how ps d old)
+changed_is how.Put ps d old = refl
+changed_is how.Append ps d old = refl
+
 -- an event of so many bytes, one object of which becomes another
 module _ (old other : Value) (was : IsEvent (both old other)) (whole : ℕ) (e : whole ≡ event_size (both old other)) (ps : List (List ℕ)) (new : Value) where
-  pub put_kept : (d : Value) (left : ℕ) → PutsWithin (Ok left) (object_put ps d old) (16777216 - whole) old new → IsEvent (both new other) × (event_size (both new other) + left ≡ 16777216)
-  put_kept d left p =
-      let o = object_put-gives ps d old new p.0 in
+  put_kept : (said : Option Value) (left : ℕ) → PutsWithin (Ok left) (option_and_then object said) (16777216 - whole) old new → IsEvent (both new other) × (event_size (both new other) + left ≡ 16777216)
+  put_kept said left p =
+      let o = object-of said new p.0 in
       let s : event_size (both new other) + left ≡ 16777216 = omega (arith, e, was.small, p.2, size-object new o, size-object old was.fields_object) in (
         record {
           fields_object = o;
@@ -201,6 +223,9 @@ module _ (old other : Value) (was : IsEvent (both old other)) (whole : ℕ) (e :
         },
         s,
       )
+
+  pub change_kept : (how : How) (d : Value) (left : ℕ) → PutsWithin (Ok left) (changed how ps d old) (16777216 - whole) old new → IsEvent (both new other) × (event_size (both new other) + left ≡ 16777216)
+  change_kept how d left p = put_kept (made_by how ps d old) left (subst (λ said. PutsWithin (Ok left) said (16777216 - whole) old new) (changed_is how ps d old) p)
 
   pub take_kept : (x : Value) (key : ℕ) → Takes (Some x) (take ps old) old new → size new + size x + key ≡ size old → IsEvent (both new other) × (event_size (both new other) + size x + key ≡ whole)
   take_kept x key taken s =

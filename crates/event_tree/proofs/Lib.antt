@@ -10,7 +10,12 @@ pub mod Puts
 pub mod TakeSteps
 pub mod PutLaws
 pub mod TakeLaws
+pub mod Overs
+pub mod Appends
 pub mod EventPuts
+pub mod TakenAway
+pub mod Moves
+pub mod EventMoves
 pub mod PathLemmas
 pub mod DigitRuns
 pub mod Tens

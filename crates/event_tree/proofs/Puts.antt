@@ -15,7 +15,7 @@ some_mapped f None h = h
 some_mapped f (Some x) h = h
 
 -- what is said of a part, said of the whole
-puts_part : (r : Result (Unit {0}) PutFault) (f : Value → Value) (said : Option Value) (a a' : Value) (whole : Option Value) (b b' : Value) → Puts r said a a' → whole ≡ option_map f said → f a' ≡ b' → f a ≡ b → Puts r whole b b'
+pub puts_part : (r : Result (Unit {0}) PutFault) (f : Value → Value) (said : Option Value) (a a' : Value) (whole : Option Value) (b b' : Value) → Puts r said a a' → whole ≡ option_map f said → f a' ≡ b' → f a ≡ b → Puts r whole b b'
 puts_part (Ok u) f said a a' whole b b' h is new same = is ∙ ap (option_map f) h ∙ ap Some new
 puts_part (Err ThroughScalar) f said a a' whole b b' h is new same = (is ∙ ap (option_map f) h.0, sym new ∙ ap f h.1 ∙ same)
 puts_part (Err Deep) f said a a' whole b b' h is new same = h

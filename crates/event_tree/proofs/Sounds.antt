@@ -1,5 +1,5 @@
 -- The equations of sound, what it says of each part, and that each change of a list or of an object keeps it.
-use Rattle.std.proofs.Common.{◌≡◌, ℕ, zero, suc, ◌+◌, ◌<◌, ◌≤◌, ◌⊎◌, inl, inr, List, [], ◌∷◌, ◌++◌, Bool, true, false, ◌&&◌, ◌==◌, ℤ, pos, negsuc, ◌≤ℤ◌, Some, refl, sym, ap, subst, ◌∙◌, rules, arith, slice_get, slice_set, remove, length, drop, get_or}
+use Rattle.std.proofs.Common.{◌≡◌, ℕ, zero, suc, ◌+◌, ◌<◌, ◌⊎◌, inl, inr, List, [], ◌∷◌, ◌++◌, Bool, true, false, ◌&&◌, ◌==◌, ℤ, pos, negsuc, ◌≤ℤ◌, Some, refl, sym, ap, subst, ◌∙◌, rules, arith, slice_get, slice_set, remove, length, drop, get_or}
 use Rattle.std.proofs.lemmas.List.{at_drop_more}
 use Rattle.std.specs.Prelude.{◌||◌, not, nat_le, int_le, int_rem}
 use Rattle.std.specs.Str.{IsUtf8}

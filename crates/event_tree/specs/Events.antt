@@ -3,7 +3,7 @@ use Rattle.std.specs.Prelude.{◌≡◌, ℕ, max, ◌+◌, ◌-◌, ◌≤◌, 
 use Rattle.event_tree.specs.Values.{Members, depth}
 use Rattle.event_tree.specs.Sizes.{size}
 use Rattle.event_tree.specs.Sound.{sound}
-use Rattle.event_tree.specs.Paths.{at, put, take}
+use Rattle.event_tree.specs.Paths.{at, put, append, take}
 use Rattle.event_tree.specs.declared.value.Value.{Value, out-Value}
 use Rattle.event_tree.specs.declared.value.Value.TheOpen.{Value-F}
 use Rattle.event_tree.specs.declared.value.Value.TheVariants as v
@@ -85,7 +85,23 @@ take_meta (p ∷ ps) d = take (p ∷ ps) d
 abbrev pub event_take : Way → Ev → Option (Value × Ev)
 event_take w e = if w.meta then option_map (λ r. (r.0, with_meta e r.1)) (take_meta w.parts e.meta) else option_map (λ r. (r.0, with_fields e r.1)) (take w.parts e.fields)
 
+-- append, where an object comes of it
+abbrev pub object_append : List (List ℕ) → Value → Value → Option Value
+object_append ps d old = option_and_then object (append ps d old)
+
+-- none where no list stands there
+abbrev pub event_append : Way → Value → Ev → Option Ev
+event_append w d e = if w.meta then option_map (with_meta e) (object_append w.parts d e.meta) else option_map (with_fields e) (object_append w.parts d e.fields)
+
 -- the event that there will be, or the first of the reasons why not
 abbrev pub limited : Option Ev → Result Ev PutFault
 limited None = Err ThroughScalar
 limited (Some e) = if nat_lt 128 (event_depth e) then Err Deep else (if nat_lt 16777216 (event_size e) then Err Large else Ok e)
+
+-- the event once what stands at a path was taken and put at another, or why it can't be; none where nothing stands there
+abbrev pub event_move : Way → Way → Ev → Option (Result Ev PutFault)
+event_move from target e = option_map (λ r. limited (event_put target r.0 r.1)) (event_take from e)
+
+-- the one of the two objects that a path leads into
+abbrev pub object_of : Way → Ev → Value
+object_of w e = if w.meta then e.meta else e.fields

@@ -56,10 +56,17 @@ abbrev pub exponent_of : List ℕ → Option (Bool × List ℕ)
 exponent_of [] = Some (false, [])
 exponent_of (b ∷ bs) = if b == small_e || b == capital_e then only_digits (split_sign bs).0 (digits_front (split_sign bs).1) (digits_behind (split_sign bs).1) else None
 
--- the parts of a text that is a number
-abbrev pub decimal_behind : Bool → List ℕ → Option Decimal
-decimal_behind negative bs = if is_whole (digits_front bs) then option_and_then (λ f. option_map (λ e. record { negative = negative; whole = digits_front bs; fraction = f.0; lower = e.0; exponent = e.1 }) (exponent_of f.1)) (fraction_of (digits_behind bs)) else None
+-- the parts, where the digits before the point and those behind it are known: an exponent is the rest
+abbrev pub decimal_with : Bool → List ℕ → List ℕ → List ℕ → Option Decimal
+decimal_with negative whole fraction rest = option_map (λ e. record { negative = negative; whole = whole; fraction = fraction; lower = e.0; exponent = e.1 }) (exponent_of rest)
 
+-- the parts of what stands behind the sign: a whole number, then a fraction, then an exponent
+abbrev pub decimal_behind : Bool → List ℕ → Option Decimal
+decimal_behind negative bs =
+    if is_whole (digits_front bs) then option_and_then (λ f. decimal_with negative (digits_front bs) f.0 f.1) (fraction_of (digits_behind bs))
+    else None
+
+-- the parts of a text that is a number
 abbrev pub decimal_of : List ℕ → Option Decimal
 decimal_of text = decimal_behind (split_minus text).0 (split_minus text).1
 

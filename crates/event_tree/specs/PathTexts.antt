@@ -34,9 +34,15 @@ IsPathText ps text = (IsName text × (ps ≡ text ∷ [])) ⊎ ((0 < length ps) 
 abbrev pub IsEmptyFault : List ℕ → Type 0
 IsEmptyFault text = (text ≡ []) ⊎ ((ps : List (List ℕ)) × (more : List ℕ) × AreNames ps × (text ≡ bracketed ps ++ opening_bracket ∷ closing_bracket ∷ more))
 
+-- the text ends here, or another `[` stands here
+abbrev pub EndsOrOpens : List ℕ → Type 0
+EndsOrOpens rest = (rest ≡ []) ⊎ ((more : List ℕ) × (rest ≡ opening_bracket ∷ more))
+
 -- behind parts that are in order stands a `[`, and behind it and a name another `[` or the end
 abbrev pub IsUnclosed : ℕ → List ℕ → Type 0
-IsUnclosed at text = (ps : List (List ℕ)) × (name : List ℕ) × (rest : List ℕ) × AreNames ps × NoBracket name × (text ≡ bracketed ps ++ opening_bracket ∷ (name ++ rest)) × ((rest ≡ []) ⊎ ((more : List ℕ) × (rest ≡ opening_bracket ∷ more))) × (at ≡ length (bracketed ps))
+IsUnclosed at text = (ps : List (List ℕ)) × (name : List ℕ) × (rest : List ℕ)
+    × AreNames ps × NoBracket name × (text ≡ bracketed ps ++ opening_bracket ∷ (name ++ rest))
+    × EndsOrOpens rest × (at ≡ length (bracketed ps))
 
 -- behind one part or more that are in order stands a byte that is no `[`
 abbrev pub IsStrayOutside : ℕ → List ℕ → Type 0

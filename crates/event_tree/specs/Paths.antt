@@ -72,6 +72,27 @@ abbrev pub put : List (List ℕ) → Value → Value → Option Value
 put [] d old = Some d
 put (p ∷ ps) d old = change_in p (put ps d) (wrap ps d) (out-Value old)
 
+abbrev pub list_in : Value-F Value → Option (List Value)
+list_in Value-F.Null = None
+list_in (Value-F.Bool b) = None
+list_in (Value-F.Num n) = None
+list_in (Value-F.Text s) = None
+list_in (Value-F.Time t) = None
+list_in (Value-F.List vs) = Some vs
+list_in (Value-F.Object ms) = None
+
+-- its items, where the value is a list
+abbrev pub items_of : Value → Option (List Value)
+items_of x = list_in (out-Value x)
+
+-- a list with d at its end
+abbrev pub longer : Value → Value → Option Value
+longer d x = option_map (λ vs. v.List (vs ++ d ∷ [])) (items_of x)
+
+-- old with d at the end of the list that stands at the end of the parts; none where no list stands there
+abbrev pub append : List (List ℕ) → Value → Value → Option Value
+append ps d old = option_and_then (λ x. put ps x old) (option_and_then (longer d) (at ps old))
+
 -- the value at a part, and the list or object without it: a list closes up
 abbrev pub cut_in : List ℕ → Value-F Value → Option (Value × Value)
 cut_in p Value-F.Null = None

@@ -1,18 +1,19 @@
-ghost use Rattle.std.specs.Prelude.{◌≡◌, ◌≤◌, ◌<◌, ◌+◌, ◌^◌, [], IfOk, IsTrue, ◌↔◌, is_some, length, ◌==◌, ◌&&◌, not, true, false};
+ghost use Rattle.std.specs.Prelude.{◌≡◌, ◌≤◌, ◌+◌, ◌==◌, ◌&&◌, length, [], Some, IfOk, IsTrue, ◌↔◌};
+ghost use Rattle.event_tree.specs.Growth.{room_at_end};
+ghost use Rattle.event_tree.specs.declared.value.Value.{Value as Tree};
 ghost use Rattle.std.specs.Option.{option_copied};
-ghost use Rattle.event_tree.specs.Events.{Ev, IsEvent, IsObject, both, object, event_size, object_put, with_fields, with_meta, to, event_at, event_take};
-ghost use Rattle.event_tree.specs.Outcomes.{PutEventAt, PutsWithin, Takes, TakesFrom};
-ghost use Rattle.event_tree.specs.Values.{depth};
-ghost use Rattle.event_tree.specs.Sizes.{size};
-ghost use Rattle.event_tree.specs.Sound.{sound};
+ghost use Rattle.event_tree.specs.Events.{Ev, IsEvent, both, event_size, with_fields, with_meta, event_at, event_take, event_move, object_of};
+ghost use Rattle.event_tree.specs.Outcomes.{MovesEvent, Foretells, FindsAt, PutEventAt, AppendEventAt, ChangesEvent, Takes, TakesFrom, changed};
 ghost use Rattle.event_tree.specs.declared.value.Value.TheVariants as v;
 
-use crate::change::{get_in, put_in};
+use crate::change::get_in;
 use crate::cut::take_in;
 use crate::fault::PutFault;
-use crate::measure::{is_too_deep, room_after, room_at, size_without};
+use crate::measure::{room_at, size_of, size_without};
+use crate::moving::{Found, find, room_behind};
 use crate::path::Path;
 use crate::value::Value;
+use crate::within::{How, change_within, room_left};
 use plain_data::{Fields, Text};
 use std::alloc::{AllocError, Global};
 use std::marker::Model;
@@ -141,17 +142,33 @@ impl Event {
         ensures { PutEventAt result path.now value self.old self.new }
     {
         if path.is_meta() {
-            self.put_meta(path.parts(), value)
+            self.change_meta(path.parts(), value, How::Put)
         } else {
-            self.put_fields(path.parts(), value)
+            self.change_fields(path.parts(), value, How::Put)
         }
     }
 
-    fn put_fields(&mut self, parts: &[Text], value: Value) -> Result<(), PutFault>
-        ensures { PutEventAt result (to false parts.now) value self.old self.new }
+    /// Adds a value at the end of the list that stands at the path, as a `put` of the longer list
+    /// would, but without a copy of it. Where no list stands there, the answer is `ThroughScalar`. A
+    /// refusal changes nothing. Where several reasons hold, the answer is the first of
+    /// `ThroughScalar`, `Deep`, `Large` and `Memory`.
+    ///
+    /// It takes time for the way, and for a walk through the new value.
+    pub fn append(&mut self, path: &Path, value: Value) -> Result<(), PutFault>
+        ensures { AppendEventAt result path.now value self.old self.new }
+    {
+        if path.is_meta() {
+            self.change_meta(path.parts(), value, How::Append)
+        } else {
+            self.change_fields(path.parts(), value, How::Append)
+        }
+    }
+
+    fn change_fields(&mut self, parts: &[Text], value: Value, how: How) -> Result<(), PutFault>
+        ensures { ChangesEvent result with_fields (changed how parts.now value self.old.fields) self.old self.new }
     {
         let room = MOST_BYTES - self.size;
-        match put_within(self.alloc, &mut self.fields, parts, value, room) {
+        match change_within(self.alloc, &mut self.fields, parts, value, how, room) {
             Ok(left) => {
                 self.size = MOST_BYTES - left;
                 Ok(())
@@ -160,11 +177,11 @@ impl Event {
         }
     }
 
-    fn put_meta(&mut self, parts: &[Text], value: Value) -> Result<(), PutFault>
-        ensures { PutEventAt result (to true parts.now) value self.old self.new }
+    fn change_meta(&mut self, parts: &[Text], value: Value, how: How) -> Result<(), PutFault>
+        ensures { ChangesEvent result with_meta (changed how parts.now value self.old.meta) self.old self.new }
     {
         let room = MOST_BYTES - self.size;
-        match put_within(self.alloc, &mut self.meta, parts, value, room) {
+        match change_within(self.alloc, &mut self.meta, parts, value, how, room) {
             Ok(left) => {
                 self.size = MOST_BYTES - left;
                 Ok(())
@@ -186,6 +203,89 @@ impl Event {
         } else {
             self.take_meta(path.parts())
         }
+    }
+
+    /// Moves what stands at one path to another, without a copy of it: as `take` and then `put` of
+    /// what was taken. `Ok(false)` where nothing stands there. A refusal is the one that the `put`
+    /// would give, and changes nothing; it comes before anything is taken. Where memory runs out for
+    /// the keys and objects of the new way, what was taken is gone, as after that `put`.
+    ///
+    /// It takes time for the ways, and for three walks through what moves and one through what is
+    /// replaced.
+    pub fn rename(&mut self, from: &Path, to: &Path) -> Result<bool, PutFault>
+        ensures { MovesEvent result from.now to.now self.old self.new }
+    {
+        match self.foretell_move(from, to) {
+            None => return Ok(false),
+            Some(Err(fault)) => return Err(fault),
+            Some(Ok(())) => {}
+        }
+        let Some(value) = self.take(from) else {
+            return Ok(false);
+        };
+        match self.put(to, value) {
+            Ok(()) => Ok(true),
+            Err(fault) => Err(fault),
+        }
+    }
+
+    // What a move from one path to another would answer, but for want of memory. `None` where
+    // nothing stands there.
+    fn foretell_move(&self, from: &Path, to: &Path) -> Option<Result<(), PutFault>>
+        ensures { Foretells result (event_move from.now to.now self.now) }
+    {
+        let found = self.find(from)?;
+        let room = MOST_BYTES - self.size + found.bytes;
+        let free = self.room_behind(from, to, room, found.bytes);
+        match room_left(free, to.parts(), found.value) {
+            Ok(_) => Some(Ok(())),
+            Err(fault) => Some(Err(fault)),
+        }
+    }
+
+    fn find(&self, path: &Path) -> Option<Found<'_>>
+        ensures { FindsAt result (event_take path.now self.now) self.now }
+    {
+        if is_whole_meta(path) {
+            let bytes = size_of(&self.meta) - 5;
+            return Some(Found {
+                value: &self.meta,
+                bytes,
+            });
+        }
+        find(self.object_at(path), path.parts())
+    }
+
+    // The one of the two objects that the path leads into.
+    fn object_at(&self, path: &Path) -> &Value
+        ensures same { result.now ≡ object_of path.now self.now }
+        ensures valid { IsEvent self.now }
+    {
+        if path.is_meta() {
+            &self.meta
+        } else {
+            &self.fields
+        }
+    }
+
+    // The room at one path once what stands at another was taken, which frees so many bytes: there
+    // is then `room` beside all that is left.
+    fn room_behind(&self, from: &Path, to: &Path, room: u64, freed: u64) -> Option<Option<u64>>
+        requires room { room ≤ 16777220 }
+        requires freed { freed ≤ room }
+        ensures { (taken : Tree) (left : Ev) → event_take from.now self.now ≡ Some (taken, left)
+            → event_size left + freed ≡ event_size self.now
+            → result ≡ room_at_end room to.now.parts (object_of to.now left) }
+    {
+        let target = self.object_at(to);
+        if from.is_meta() != to.is_meta() {
+            return room_at(target, to.parts(), room);
+        }
+        if is_whole_meta(from) {
+            let empty = Value::Object(Fields::new(self.alloc));
+            return room_at(&empty, to.parts(), room);
+        }
+        room_behind(target, from.parts(), to.parts(), room, freed)
     }
 
     fn take_fields(&mut self, parts: &[Text]) -> Option<Value>
@@ -244,59 +344,8 @@ impl Event {
     }
 }
 
-// Puts a value into one of the two objects of an event that has `room` for that many more bytes, and
-// says how many it still has room for.
-fn put_within(
-    alloc: Global,
-    target: &mut Value,
-    parts: &[Text],
-    value: Value,
-    room: u64,
-) -> Result<u64, PutFault>
-    requires room { room + size target.old < 2 ^ 64 }
-    requires object { IsObject target.old }
-    requires shallow { depth target.old ≤ 128 }
-    requires sound { sound target.old ≡ true }
-    ensures { PutsWithin result (object_put parts.now value target.old) room target.old target.new }
+fn is_whole_meta(path: &Path) -> bool
+    ensures { result ≡ (path.now.meta && (length path.now.parts == 0)) }
 {
-    let Some(found) = room_at(target, parts, room) else {
-        return Err(PutFault::ThroughScalar);
-    };
-    if ends_as_no_object(parts, &value) {
-        return Err(PutFault::ThroughScalar);
-    }
-    if is_too_deep(&value, parts.len()) {
-        return Err(PutFault::Deep);
-    }
-    let Some(free) = found else {
-        return Err(PutFault::Large);
-    };
-    let Some(left) = room_after(&value, free) else {
-        return Err(PutFault::Large);
-    };
-    match put_in(alloc, target, parts, value) {
-        Ok(()) => Ok(left),
-        Err(fault) => Err(fault),
-    }
-}
-
-// Whether one of the two objects of an event would become a value that is no object.
-fn ends_as_no_object(parts: &[Text], value: &Value) -> bool
-    ensures { result ≡ ((length parts.now == 0) && not (is_some (object value.now))) }
-{
-    parts.is_empty() && !is_object(value)
-}
-
-fn is_object(value: &Value) -> bool
-    ensures { result ≡ is_some (object value.now) }
-{
-    match value {
-        Value::Object(_) => true,
-        Value::Null
-        | Value::Bool(_)
-        | Value::Num(_)
-        | Value::Text(_)
-        | Value::Time(_)
-        | Value::List(_) => false,
-    }
+    path.is_meta() && path.parts().is_empty()
 }

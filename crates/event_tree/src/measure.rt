@@ -77,7 +77,7 @@ fn room_after_items(items: &[Value], room: u64) -> Option<u64>
 
 #[tactic(auto, using(crate::proofs::Depths::falls, crate::proofs::Sizes::sizes, crate::proofs::Sounds::sounds))]
 #[cycle(room)]
-fn room_after_members(members: &[(Text, Value)], room: u64) -> Option<u64>
+pub(crate) fn room_after_members(members: &[(Text, Value)], room: u64) -> Option<u64>
     requires { Rises members.now }
     ensures room { result ≡ less room (members_size members.now) }
     ensures sound { IfSome result (λ _. members_sound members.now ≡ true) }
@@ -99,6 +99,14 @@ pub(crate) fn size_without(value: &Value, whole: u64) -> u64
         Some(left) => left,
         None => unreachable!(),
     }
+}
+
+/// How many bytes the encoding of a value has.
+pub(crate) fn size_of(value: &Value) -> u64
+    requires { size value.now < 2 ^ 64 }
+    ensures { result ≡ size value.now }
+{
+    u64::MAX - size_without(value, u64::MAX)
 }
 
 /// Whether a value nests at most so many levels deep.
@@ -152,7 +160,7 @@ pub(crate) fn is_too_deep(value: &Value, levels: usize) -> bool
 
 /// The room that new objects leave, one for each part, without the value in the innermost.
 #[tactic(auto, using(crate::proofs::Sounds::texts))]
-fn room_after_parts(parts: &[Text], room: u64) -> Option<u64>
+pub(crate) fn room_after_parts(parts: &[Text], room: u64) -> Option<u64>
     ensures room { result ≡ less room (wrap_size parts.now) }
     ensures texts { IfSome result (λ _. are_texts parts.now ≡ true) }
 {
@@ -189,7 +197,7 @@ pub(crate) fn room_at(target: &Value, parts: &[Text], room: u64) -> Option<Optio
 }
 
 /// The room where a value is taken away.
-fn room_without(value: &Value, room: u64) -> Option<u64>
+pub(crate) fn room_without(value: &Value, room: u64) -> Option<u64>
     requires { room + size value.now < 2 ^ 64 }
     ensures { result ≡ less (room + size value.now) 0 }
 {
@@ -198,7 +206,7 @@ fn room_without(value: &Value, room: u64) -> Option<u64>
 }
 
 /// The room that a new member leaves, without the value in the innermost of its objects.
-fn room_after_member(part: &Text, rest: &[Text], room: u64) -> Option<u64>
+pub(crate) fn room_after_member(part: &Text, rest: &[Text], room: u64) -> Option<u64>
     ensures room { result ≡ less room (4 + length part.now + wrap_size rest.now) }
     ensures texts { IfSome result (λ _. are_texts rest.now ≡ true) }
 {
