@@ -1,0 +1,4 @@
+pub mod Settings
+pub mod Readers
+pub mod Options
+pub mod Pieces

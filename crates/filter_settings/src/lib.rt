@@ -1,0 +1,23 @@
+//! What all filters share: their settings, read once and in the order of the text.
+//!
+//! A filter is a struct with its settings. It says what one setting makes of it (`SetByName`), and
+//! `read_settings` goes through all. The readers take the value of a setting as one kind, and refuse it as
+//! `WrongKind` of its name otherwise. `Options` are the settings that every filter has.
+#![tactic(auto)]
+
+mod faults;
+mod hashes;
+mod lists;
+mod options;
+mod pieces;
+mod reading;
+mod values;
+
+pub use config_tree::{FromFault, SettingFault, SettingValue, Settings};
+pub use event_text::{Applied, Options, add_tag, try_put};
+pub use hashes::{read_field_paths, read_field_templates, read_field_texts};
+pub use lists::{read_paths, read_templates, read_texts};
+pub use options::set_option;
+pub use pieces::split_text;
+pub use reading::{SetByName, read_settings, require};
+pub use values::{read_flag, read_id, read_path, read_template, read_text};

@@ -1,0 +1,12 @@
+use Rattle.std.proofs.Common.{◌≡◌, ◌++◌, map, length}
+use Rattle.std.specs.List.{filter}
+use Rattle.std.specs.Vec.Iter.{into_iter_len}
+use Rattle.event_tree.specs.declared.value.Value.TheVariants as v
+use Rattle.filters_shape.specs.Split.{is_some_text}
+use Rattle.filters_shape.proofs.split_filter.some_texts.Given as goal
+
+abbrev pub invariant-loop-text : goal.invariant-loop-text
+invariant-loop-text l = record {
+  rest : l.values ++ map v.Text (filter is_some_text l.text-iterator.rest.items) ≡ map v.Text (filter is_some_text l.fn.texts);
+  counted : into_iter_len l.text-iterator ≡ length l.text-iterator.rest.items;
+}

@@ -1,0 +1,3 @@
+pub mod Clone
+pub mod Split
+pub mod Drops

@@ -1,0 +1,224 @@
+ghost use Rattle.std.specs.Prelude.{◌≡◌, ◌∷◌, [], map, IfOk};
+ghost use Rattle.std.specs.List.{filter};
+ghost use Rattle.std.specs.Option.{option_and_then, option_copied};
+ghost use Rattle.event_tree.specs.declared.value.Value.TheVariants as v;
+ghost use Rattle.filter_settings.specs.Settings.{Gives};
+ghost use Rattle.filters_shape.specs.Split as spec;
+
+use event_tree::{Event, Events, Items, Names, Path, Text, Value};
+use filter_settings::{
+    Applied, FromFault, Options, SetByName, SettingValue, Settings, add_tag, read_path,
+    read_settings, read_text, set_option, split_text, try_put,
+};
+use std::alloc::{AllocError, Global};
+
+/// The filter `split`: an event for each item of a list, or for each piece of a text.
+pub struct SplitFilter {
+    /// The field whose value is split.
+    pub field: Path,
+    /// What ends a piece of a text; an empty one gives the characters.
+    pub terminator: Text,
+    /// Where a piece is put, in the place of the field if nowhere else.
+    pub target: Option<Path>,
+    /// They act on each new event.
+    pub options: Options,
+}
+
+// Written out, so that it is one call wherever an error is handed on while a filter is held.
+impl Drop for SplitFilter {
+    fn drop(self) {
+        let SplitFilter {
+            field: _field,
+            terminator: _terminator,
+            target: _target,
+            options: _options,
+        } = self;
+    }
+}
+
+impl SetByName for SplitFilter {
+    ghost use Rattle.filters_shape.specs.Split.{split_set};
+
+    ghost setting = { split_set };
+
+    fn set(&mut self, alloc: Global, name: &str, value: &SettingValue) -> Result<(), FromFault> {
+        match name {
+            "field" => self.field = read_path(alloc, name, value)?,
+            "terminator" => self.terminator = read_text(alloc, name, value)?,
+            "target" => self.target = Some(read_path(alloc, name, value)?),
+            _ => set_option(&mut self.options, alloc, name, value)?,
+        }
+        Ok(())
+    }
+}
+
+impl SplitFilter {
+    /// Reads the settings. The fault is that of the first setting, in the order of the text, that is
+    /// unknown or of another kind.
+    pub fn from_settings(settings: &Settings) -> Result<SplitFilter, FromFault>
+        ensures { Gives result (spec.split_of settings.now.list) }
+    {
+        let start = SplitFilter::new(settings.list.allocator())?;
+        read_settings(settings, start)
+    }
+
+    fn new(alloc: Global) -> Result<SplitFilter, AllocError>
+        ensures { IfOk result (λ filter. filter ≡ spec.split_start) }
+    {
+        let field = message_path(alloc)?;
+        Ok(SplitFilter {
+            field,
+            terminator: Text::of(alloc, "\n")?,
+            target: None,
+            options: Options::none(alloc),
+        })
+    }
+
+    /// An event for each item of the list, or for each piece of the text that is not empty, with the
+    /// piece at the target and with the options. Fewer than two leave the event as it is, and it counts
+    /// as matched. A field that is missing or holds a value of another kind adds the tag
+    /// `_split_type_failure`, and is not matched.
+    pub fn apply(&self, event: Event) -> Result<Applied, AllocError>
+        ensures { IfOk result (λ applied. applied ≡ spec.split self.now event) }
+    {
+        match self.pieces(event.get(&self.field))? {
+            Some(pieces) => self.split_into(event, pieces),
+            None => self.not_split(event),
+        }
+    }
+
+    fn pieces(&self, value: Option<&Value>) -> Result<Option<Items<Value>>, AllocError>
+        ensures { IfOk result (λ pieces. pieces
+            ≡ option_and_then (spec.pieces_of self.now.terminator) (option_copied value.entry)) }
+    {
+        match value {
+            Some(Value::List(items)) => Ok(Some(copies(items)?)),
+            Some(Value::Text(text)) => Ok(Some(self.text_pieces(text.as_str())?)),
+            _ => Ok(None),
+        }
+    }
+
+    // The pieces of a text that are not empty.
+    fn text_pieces(&self, text: &str) -> Result<Items<Value>, AllocError>
+        ensures { IfOk result (λ pieces. pieces ≡ spec.text_pieces self.now.terminator text.now) }
+    {
+        let texts = split_text(self.terminator.allocator(), text, self.terminator.as_str())?;
+        some_texts(texts)
+    }
+
+    fn split_into(&self, event: Event, pieces: Items<Value>) -> Result<Applied, AllocError>
+        ensures { IfOk result (λ applied. applied ≡ spec.split_into self.now event pieces) }
+    {
+        let events = if pieces.len() < 2 {
+            one(self.terminator.allocator(), event)?
+        } else {
+            self.events(event, pieces)?
+        };
+        Ok(Applied {
+            events,
+            matched: true,
+        })
+    }
+
+    // An event for each piece. The last is the event itself, and the others are copies of what is left of it.
+    fn events(&self, event: Event, pieces: Items<Value>) -> Result<Events, AllocError>
+        ensures { IfOk result (λ events. events ≡ map (spec.split_event self.now event) pieces) }
+    {
+        let mut pieces = pieces;
+        let Some(last) = pieces.pop() else {
+            return Ok(Events::new(self.terminator.allocator()));
+        };
+        let rest = self.emptied(event)?;
+        let mut events = self.copies(&rest, pieces)?;
+        events.push(self.with_piece(rest, last)?)?;
+        Ok(events)
+    }
+
+    fn emptied(&self, event: Event) -> Result<Event, AllocError>
+        ensures { IfOk result (λ rest. rest ≡ spec.emptied self.now event) }
+    {
+        let mut event = event;
+        if self.target.is_none() {
+            try_put(&mut event, &self.field, Value::Null)?;
+        }
+        Ok(event)
+    }
+
+    fn copies(&self, rest: &Event, pieces: Items<Value>) -> Result<Events, AllocError>
+        ensures { IfOk result (λ events. events ≡ map (spec.event_of self.now rest.now) pieces) }
+    {
+        let mut events = Events::with_capacity(pieces.allocator(), pieces.len())?;
+        for piece in pieces.into_vec() {
+            events.push(self.with_piece(rest.copy()?, piece)?)?;
+        }
+        Ok(events)
+    }
+
+    fn with_piece(&self, rest: Event, piece: Value) -> Result<Event, AllocError>
+        ensures { IfOk result (λ event. event ≡ spec.event_of self.now rest piece) }
+    {
+        let mut event = rest;
+        try_put(&mut event, self.target(), piece)?;
+        self.options.apply(event)
+    }
+
+    fn target(&self) -> &Path
+        ensures { result.now ≡ spec.target_of self.now }
+    {
+        match &self.target {
+            Some(target) => target,
+            None => &self.field,
+        }
+    }
+
+    fn not_split(&self, event: Event) -> Result<Applied, AllocError>
+        ensures { IfOk result (λ applied. applied ≡ spec.not_split event) }
+    {
+        let alloc = self.terminator.allocator();
+        let mut event = event;
+        add_tag(&mut event, Text::of(alloc, "_split_type_failure")?)?;
+        Ok(Applied {
+            events: one(alloc, event)?,
+            matched: false,
+        })
+    }
+}
+
+fn message_path(alloc: Global) -> Result<Path, AllocError>
+    ensures { IfOk result (λ path. path ≡ spec.message) }
+{
+    let mut parts = Names::new(alloc);
+    parts.push(Text::of(alloc, "message")?)?;
+    Ok(Path::of_parts(parts))
+}
+
+fn one(alloc: Global, event: Event) -> Result<Events, AllocError>
+    ensures { IfOk result (λ events. events ≡ event ∷ []) }
+{
+    let mut events = Events::new(alloc);
+    events.push(event)?;
+    Ok(events)
+}
+
+// The texts that are not empty, as values.
+fn some_texts(texts: Names) -> Result<Items<Value>, AllocError>
+    ensures { IfOk result (λ values. values ≡ map v.Text (filter spec.is_some_text texts)) }
+{
+    let mut values = Items::with_capacity(texts.allocator(), texts.len())?;
+    for text in texts.into_vec() {
+        if !text.is_empty() {
+            values.push(Value::Text(text))?;
+        }
+    }
+    Ok(values)
+}
+
+fn copies(values: &Items<Value>) -> Result<Items<Value>, AllocError>
+    ensures { IfOk result (λ copies. copies ≡ values.now) }
+{
+    let mut copies = Items::with_capacity(values.allocator(), values.len())?;
+    for value in values.as_slice() {
+        copies.push(value.copy()?)?;
+    }
+    Ok(copies)
+}
