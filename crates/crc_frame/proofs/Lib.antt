@@ -2,6 +2,8 @@ pub mod Chunks
 pub mod CrcLemmas
 pub mod Division
 pub mod FrameLemmas
+pub mod FramesAgain
 pub mod Numbers
 pub mod SlotLemmas
 pub mod TablesCheck
+pub mod TornSlots

@@ -137,7 +137,7 @@ found width place file s e = elim (cases_Bool (is_intact width place file)) [
 ]
 
 -- the newest slot is one of the two
-one_of_two : (a b : Option Slot) (s : Slot) → newest_of a b ≡ Some s → (a ≡ Some s) ⊎ (b ≡ Some s)
+pub one_of_two : (a b : Option Slot) (s : Slot) → newest_of a b ≡ Some s → (a ≡ Some s) ⊎ (b ≡ Some s)
 one_of_two None b s e = inr e
 one_of_two (Some x) None s e = inl e
 one_of_two (Some x) (Some y) s e = elim (cases_Bool (is_newer y.turn x.turn)) [

@@ -1,5 +1,5 @@
 -- The frame in which an element stands in a page of the queue. All numbers are big endian.
-use Rattle.std.specs.Prelude.{◌≡◌, ℕ, ◌^◌, ◌<◌, List, ◌++◌, length, take, drop, Option, Some, None, nat_eq, if◌then◌else◌}
+use Rattle.std.specs.Prelude.{◌≡◌, ℕ, ◌+◌, ◌^◌, ◌<◌, List, ◌++◌, length, take, drop, Option, Some, None, nat_eq, if◌then◌else◌}
 use Rattle.std.specs.List.{starts_with}
 use Rattle.byteorder.specs.Endian.{big_bytes, big_number}
 use Rattle.crc_frame.specs.Crc.{crc32}
@@ -43,3 +43,13 @@ FramesDiffer =
     → other_number < 2 ^ 64 → length other_body < 2 ^ 32
     → frame_of number body ++ rest ≡ frame_of other_number other_body ++ other_rest
     → (number ≡ other_number) × (body ≡ other_body) × (rest ≡ other_rest)
+
+-- What is read stands in front as its frame, which has 16 bytes more than the body.
+abbrev pub FramesAreRead : Type 0
+FramesAreRead = (bytes : List ℕ) (e : Element) → unframed bytes ≡ Some e → take (length e.body + 16) bytes ≡ frame_of e.number e.body
+
+-- Reading goes by the bytes of the frame alone: it reads the same wherever they stand in front.
+abbrev pub FramesAreReadAgain : Type 0
+FramesAreReadAgain =
+    (bytes other : List ℕ) (e : Element) → unframed bytes ≡ Some e → take (length e.body + 16) other ≡ take (length e.body + 16) bytes
+    → unframed other ≡ Some e

@@ -18,3 +18,4 @@ pub mod MemberPlaces
 pub mod EventPlaces
 pub mod NextParts
 pub mod OnePlace
+pub mod RowReads

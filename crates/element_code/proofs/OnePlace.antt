@@ -1,9 +1,11 @@
 -- Bytes are refused at one place at most.
-use Rattle.std.proofs.Common.{◌≡◌, ℕ, ◌+◌, ◌<◌, ◌^◌, ◌⊎◌, inl, inr, List, [], ◌∷◌, ◌++◌, length, refl, sym, ap, subst, ◌∙◌, append_assoc, length-append, arith, rules}
-use Rattle.std.proofs.lemmas.List.{append-nil}
+use Rattle.std.proofs.Common.{◌≡◌, ℕ, ◌+◌, ◌<◌, ◌≤◌, ◌^◌, ◌⊎◌, inl, inr, List, [], ◌∷◌, ◌++◌, length, refl, sym, ap, subst, ◌∙◌, append_assoc, length-append, arith, rules}
+use Rattle.std.proofs.lemmas.List.{append-nil, nil_from_length}
 use Rattle.byte_reader.specs.Fronts.{count_bytes, run_at}
 use Rattle.byte_reader.proofs.Fronts.{run_again, length-count_bytes, ok_is}
 use Rattle.element_code.specs.Parts.{Part, plain, text, many, count, key, part_bytes, bytes_of, event_parts, event_spelling}
+use Rattle.event_tree.specs.Events.{Ev}
+use Rattle.element_code.specs.Values.{IsWhole}
 use Rattle.element_code.specs.Faults.{EndWithin, CanBe, MayFollow, Stops, cut, misfit, place_in, AreEventParts, IsRefusedAt, long, stops, behind}
 use Rattle.element_code.proofs.PartsOf.{bytes_of-append}
 use Rattle.element_code.proofs.Sound.{none_begins}
@@ -219,3 +221,12 @@ one_place bytes a b (stops h s) (behind k ps rest m is some f) = absurd (stops_o
 one_place bytes a b (behind h ps rest m is some e) (long k f) = absurd (omega (arith, h, k))
 one_place bytes a b (behind h ps rest m is some e) (stops k t) = absurd (stops_or_behind bytes b ps rest (at_of bytes b t) m is)
 one_place bytes a b (behind h ps rest m is some e) (behind k qs other n are more f) = e ∙ behind_once ps qs rest other m n (sym is ∙ are) ∙ sym f
+
+-- and what is spelled at none
+pub spelled_at_none : (bytes : List ℕ) (a : ℕ) (e : Ev) → IsWhole e → event_spelling e ≡ bytes → length bytes ≤ 16777216 → IsRefusedAt bytes a → ⊥
+unfolding event_spelling
+spelled_at_none bytes a e w spelled short (long h f) = omega (arith, h, short)
+spelled_at_none bytes a e w spelled short (stops h s) = stops_or_behind bytes a (event_parts e) [] (at_of bytes a s) (e, w, refl) (sym spelled ∙ sym (append-nil (bytes_of (event_parts e))))
+spelled_at_none bytes a e w spelled short (behind h ps rest m is some f) =
+    let same = behind_once ps (event_parts e) rest [] m (e, w, refl) (sym is ∙ sym spelled ∙ sym (append-nil (bytes_of (event_parts e)))) in
+    some (nil_from_length rest (omega (arith, same, ap length is, ap length spelled, length-append (bytes_of ps) rest)))

@@ -1,5 +1,5 @@
 -- What each event holds is what its spelling needs.
-use Rattle.std.proofs.Common.{◌≡◌, ℕ, ℤ, zero, suc, ◌+◌, ◌<◌, ◌≤◌, ◌^◌, List, [], ◌∷◌, length, true, Option, Some, None, sym, ap, subst, ◌∙◌, arith, SFits, w64}
+use Rattle.std.proofs.Common.{◌≡◌, ℕ, ℤ, zero, suc, ◌<◌, ◌≤◌, ◌^◌, List, [], ◌∷◌, length, true, Option, Some, None, sym, ap, ◌∙◌, arith, SFits, w64}
 use Rattle.std.proofs.lemmas.Int.{ints}
 use Rattle.std.specs.Bool.{⊤}
 use Rattle.std.specs.Map.{keys_of}
@@ -16,7 +16,7 @@ use Rattle.event_tree.proofs.Depths.{depth-List, depth-Object}
 use Rattle.event_tree.proofs.Shapes.{Shape, is_null, is_bool, is_number, is_text, is_time, is_list, is_object, shape_of}
 use Rattle.event_tree.proofs.Sizes.{size-Null, size-Bool, size-Num, size-Text, size-Time, size-List, size-Object}
 use Rattle.event_tree.proofs.EachSound.{EachItem, EachMember, GoesUp, each_sound}
-use Rattle.element_code.specs.Values.{IsText, IsAbove, IsValue, AreValues, AreMembers, AreMembersOf, IsEventObject, IsWhole}
+use Rattle.element_code.specs.Values.{IsAbove, IsValue, AreValues, AreMembers, AreMembersOf, IsEventObject, IsWhole}
 use Rattle.element_code.specs.Parts.{event_spelling}
 use Rattle.element_code.proofs.Lengths.{length-event_spelling}
 use Rattle.element_code.proofs.PartsOf.{null_value, bool_value, number_value, text_value, time_value, list_value, object_value, members_of_value}

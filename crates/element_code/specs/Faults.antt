@@ -2,7 +2,7 @@
 use Rattle.std.specs.Prelude.{◌≡◌, ◌≢◌, ℕ, ◌+◌, ◌<◌, ◌≤◌, ◌^◌, ◌⊎◌, List, [], ◌∷◌, ◌++◌, length}
 use Rattle.event_tree.specs.Events.{Ev}
 use Rattle.byte_reader.specs.Fronts.{EndIn}
-use Rattle.element_code.specs.Parts.{Part, plain, text, many, count, key, part_bytes, bytes_of, event_parts}
+use Rattle.element_code.specs.Parts.{Part, plain, text, many, count, key, part_bytes, bytes_of, event_parts, event_spelling}
 use Rattle.element_code.specs.Values.{IsWhole}
 
 -- The bytes end within a part like this one. Its tag and its length say how far it goes, and what it says doesn't count.
@@ -47,3 +47,7 @@ pub data IsRefusedAt (bytes : List ℕ) (at : ℕ) : Type 0 where
 -- bytes are refused at one place at most
 abbrev pub HasOnePlace : (List ℕ → ℕ → Type 0) → Type 0
 HasOnePlace IsRefused = (bytes : List ℕ) (at other : ℕ) → IsRefused bytes at → IsRefused bytes other → at ≡ other
+
+-- bytes that spell an event are refused nowhere
+abbrev pub SpelledAreNotRefused : Type 0
+SpelledAreNotRefused = (bytes : List ℕ) (at : ℕ) (event : Ev) → IsWhole event → event_spelling event ≡ bytes → length bytes ≤ 16777216 → IsRefusedAt bytes at → ⊥

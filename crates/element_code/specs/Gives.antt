@@ -1,4 +1,4 @@
--- What `decode` answers.
+-- What `decode` and `decode_row` answer.
 use Rattle.std.specs.Prelude.{◌≡◌, ℕ, ◌≤◌, List, length, Result, Ok, Err, ⊤}
 use Rattle.event_tree.specs.Events.{Ev, IsEvent}
 use Rattle.element_code.specs.Parts.{event_spelling}
@@ -7,14 +7,14 @@ use Rattle.element_code.specs.declared.fault.ElementFault.{ElementFault}
 use Rattle.element_code.specs.declared.fault.ElementFault.TheVariants.{At}
 use Rattle.element_code.specs.declared.fault.ElementFault.TheVariants.{Memory as OutOfMemory}
 
--- what was read is this event, unless memory ran out
-abbrev pub ReadsAs : Result Ev ElementFault → Ev → Type 0
-ReadsAs (Ok read) event = read ≡ event
-ReadsAs (Err OutOfMemory) event = ⊤
-ReadsAs (Err (At at)) event = ⊥
+-- what was read is this, unless memory ran out
+abbrev pub ReadsAs : {X : Type 0} → Result X ElementFault → X → Type 0
+ReadsAs (Ok read) x = read ≡ x
+ReadsAs (Err OutOfMemory) x = ⊤
+ReadsAs (Err (At at)) x = ⊥
 
 -- the fault, if there is one, stands at such a place
-abbrev pub IsAt : Result Ev ElementFault → (ℕ → Type 0) → Type 0
+abbrev pub IsAt : {X : Type 0} → Result X ElementFault → (ℕ → Type 0) → Type 0
 IsAt (Ok read) is = ⊤
 IsAt (Err OutOfMemory) is = ⊤
 IsAt (Err (At at)) is = is at

@@ -4,3 +4,4 @@ pub mod Reading
 pub mod Faults
 pub mod Gives
 pub mod Adds
+pub mod RowBodies

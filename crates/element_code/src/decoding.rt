@@ -12,7 +12,7 @@ use event_tree::Event;
 use std::alloc::Global;
 
 /// How many bytes the encoding of an event may have.
-const MOST_BYTES: usize = 16_777_216;
+pub(crate) const MOST_BYTES: usize = 16_777_216;
 
 /// The event of which these bytes are the one spelling.
 ///

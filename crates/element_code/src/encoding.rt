@@ -31,7 +31,7 @@ pub fn encode(event: &Event, to: &mut Vec<u8>) -> Result<(), AllocError>
 }
 
 #[tactic(auto, unfolding(crate::specs::Parts::event_spelling))]
-fn add_event(to: &mut Vec<u8>, event: &Event) -> Result<(), AllocError>
+pub(crate) fn add_event(to: &mut Vec<u8>, event: &Event) -> Result<(), AllocError>
     ensures { Writes result (event_spelling event.now) to.old.items to.new.items }
 {
     add_object(to, event.fields())?;
@@ -104,7 +104,7 @@ fn add_text(to: &mut Vec<u8>, text: &str) -> Result<(), AllocError>
     add(to, text.as_bytes())
 }
 
-fn add_key(to: &mut Vec<u8>, key: &str) -> Result<(), AllocError>
+pub(crate) fn add_key(to: &mut Vec<u8>, key: &str) -> Result<(), AllocError>
     ensures { Writes result (run_bytes key.now) to.old.items to.new.items }
 {
     add(to, &count_of(key.len()))?;

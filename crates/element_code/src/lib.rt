@@ -1,4 +1,4 @@
-//! Events as bytes, one spelling each.
+//! Events and rows as bytes, one spelling each.
 #![tactic(auto)]
 
 mod decoding;
@@ -6,8 +6,10 @@ mod encoding;
 mod fault;
 pub mod laws;
 mod reading;
+mod row;
 mod tags;
 
 pub use decoding::decode;
 pub use encoding::encode;
 pub use fault::ElementFault;
+pub use row::{Origin, Row, decode_row, encode_row};

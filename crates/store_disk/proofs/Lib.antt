@@ -3,3 +3,5 @@ pub use Rattle.io_traits.proofs.Growth
 pub use Rattle.io_traits.proofs.Causes
 pub use Rattle.store_trait.proofs.Moments
 pub use Rattle.store_trait.proofs.Beside
+pub mod Looking
+pub mod TornFrames
