@@ -1,0 +1,146 @@
+ghost use Rattle.std.specs.Prelude.{◌≡◌, ◌≤◌, ◌<◌, ◌+◌, [], length, IsTrue, IsFalse, vec_len, vec_capacity, IfOk, IfSome, IfNone, OnOk, OnErr};
+ghost use Rattle.batch_shop.specs.Desks.{job_out};
+ghost use Rattle.batch_shop.specs.Adding.{AddsResult};
+
+use crate::desk::Desk;
+use crate::task::{Shop, Task};
+use crate::worker::Worker;
+use plain_data::Items;
+use std::alloc::{AllocError, Global};
+use std::sync::Wait;
+
+/// Results that came home.
+pub type Dones<T> = Items<<T as Task>::Done>;
+
+/// Hands each job to a worker in a thread.
+#[derive(Drop)]
+pub struct ThreadShop<T: Task> {
+    /// One for each worker that was hired.
+    desks: Vec<Desk<T>>,
+    /// Room for the results that `close` gives.
+    dones: Vec<T::Done>,
+    ghost empty: { dones.items ≡ [] },
+    ghost room: { length desks.items ≤ vec_capacity dones },
+}
+
+impl<T: Task> ThreadShop<T> {
+    ghost use Rattle.batch_shop.specs.Started.{jobs_of, started_of, AreResults, IsFree};
+
+    /// A shop with room for so many workers, which has none yet.
+    pub fn new(alloc: Global, workers: u32) -> Result<ThreadShop<T>, AllocError>
+        ensures out { IfOk result (λ shop. jobs_of shop ≡ []) }
+        ensures started { IfOk result (λ shop. started_of shop ≡ 0) }
+    {
+        Ok(ThreadShop {
+            desks: Vec::new(alloc),
+            dones: Vec::with_capacity(alloc, workers as usize)?,
+        })
+    }
+
+    /// One worker more, who has no job. Its caller has it serve in a thread of its own:
+    /// `thread::spawn(&rt, move || worker.serve(&rt))`; where no thread can be started, [`ThreadShop::dismiss`] is
+    /// called before anything else. Where memory runs out, or the shop has no room for another, there is none, and the
+    /// shop is as it was.
+    pub fn hire(&mut self) -> Result<Worker<T>, AllocError>
+        ensures out { jobs_of self.new ≡ jobs_of self.old }
+        ensures started { OnOk result (started_of self.new ≡ started_of self.old + 1) }
+        ensures same { OnErr result (started_of self.new ≡ started_of self.old) }
+    {
+        if self.desks.len() >= self.dones.capacity() {
+            return Err(AllocError);
+        }
+        let (desk, worker) = Desk::open(*self.dones.allocator())?;
+        match self.desks.push(desk) {
+            Ok(()) => Ok(worker),
+            Err(_) => Err(AllocError),
+        }
+    }
+
+    /// Takes back the last worker that was hired, if it has no job; false where it has one, or where there is none.
+    pub fn dismiss(&mut self) -> bool
+        ensures out { jobs_of self.new ≡ jobs_of self.old }
+        ensures dismissed { IsTrue result → started_of self.new + 1 ≡ started_of self.old }
+        ensures kept { IsFalse result → started_of self.new ≡ started_of self.old }
+    {
+        match self.desks.pop() {
+            None => false,
+            Some(desk) => {
+                if desk.has_job() {
+                    self.desks.push_reserved(desk);
+                    return false;
+                }
+                desk.close();
+                true
+            }
+        }
+    }
+
+    /// Waits for each job that is out, ends the workers, and gives the results, one for each job.
+    pub fn close<R: Wait>(self, rt: &R) -> Dones<T>
+        ensures { AreResults T.gives (jobs_of self) result }
+    {
+        let ThreadShop {
+            mut desks,
+            mut dones,
+        } = self;
+        while let Some(desk) = desks.pop() {
+            settle(rt, desk, &mut dones);
+        }
+        Items::from_vec(dones)
+    }
+
+    /// The first desk from this one on that has no job out; none where each has.
+    fn free_desk(&self) -> Option<usize>
+        ensures some { IfSome result (IsFree self.now.desks.items) }
+        ensures none { IfNone result (length self.now.desks.items ≤ length (jobs_of self.now)) }
+    {
+        for at in 0..self.desks.len() {
+            if !self.desks[at].has_job() {
+                return Some(at);
+            }
+        }
+        None
+    }
+}
+
+/// Waits for the job of a desk, if one is out, adds its result, and ends the worker.
+fn settle<T: Task, R: Wait>(rt: &R, mut desk: Desk<T>, dones: &mut Vec<T::Done>)
+    requires { vec_len dones.old < vec_capacity dones.old }
+    ensures capacity { vec_capacity dones.new ≡ vec_capacity dones.old }
+    ensures adds { AddsResult T.gives (job_out desk) dones.old.items dones.new.items }
+{
+    if let Some(done) = desk.wait(rt) {
+        dones.push_reserved(done);
+    }
+    desk.close();
+}
+
+impl<T: Task> Shop<T> for ThreadShop<T> {
+    ghost use Rattle.batch_shop.specs.Started.{jobs_of, started_of, looks_of};
+
+    ghost out = { jobs_of };
+
+    ghost started = { started_of };
+
+    ghost looks = { looks_of };
+
+    fn give(&mut self, job: T) -> Option<T> {
+        match self.free_desk() {
+            Some(at) => {
+                self.desks[at].give(job);
+                None
+            }
+            None => Some(job),
+        }
+    }
+
+    fn take(&mut self) -> Option<T::Done> {
+        for at in 0..self.desks.len() {
+            match self.desks[at].take() {
+                Some(done) => return Some(done),
+                None => {}
+            }
+        }
+        None
+    }
+}

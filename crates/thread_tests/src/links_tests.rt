@@ -1,0 +1,110 @@
+ghost use Rattle.std.specs.Prelude.{◌≡◌, IfOk, length};
+
+use event_tree::Event;
+use pipeline_bus::{Answer, Heard, Link, LinkSender, LinkTaker, Parcel};
+use plain_data::{Items, Text};
+use std::alloc::{AllocError, Global};
+use std::test::Fail;
+
+fn needs_send<T: Send>(_it: &T) {}
+
+/// A parcel with one empty event.
+fn full(alloc: Global, number: u64) -> Result<Parcel, AllocError>
+    ensures number { IfOk result (λ made. made.number ≡ number) }
+    ensures events { IfOk result (λ made. length made.events ≡ 1) }
+{
+    let mut events = Items::new(alloc);
+    events.push(Event::new(alloc))?;
+    Ok(Parcel {
+        number,
+        address: Text::of(alloc, "q")?,
+        events,
+    })
+}
+
+/// A parcel without events.
+fn last(alloc: Global) -> Result<Parcel, AllocError>
+    ensures number { IfOk result (λ made. made.number ≡ 0) }
+    ensures events { IfOk result (λ made. length made.events ≡ 0) }
+{
+    Ok(Parcel {
+        number: 0,
+        address: Text::of(alloc, "q")?,
+        events: Items::new(alloc),
+    })
+}
+
+fn is_full_one(parcel: &Option<Parcel>) -> bool {
+    matches!(parcel, Some(it) if it.number == 1 && it.events.len() == 1)
+}
+
+#[test]
+#[tactic(auto, unfolding(pipeline_bus::specs::Parcels::with_events))]
+fn a_parcel_and_its_answer(rt: HostRuntime) -> Result<(), Fail> {
+    let (mut sender, mut taker) = Link::pair(rt.alloc())?;
+    let pushed = sender.push(full(rt.alloc(), 1)?);
+    let taken = taker.take();
+    let none = taker.take();
+    let told = taker.tell(Answer {
+        number: 1,
+        answer: Heard::Assured,
+    });
+    let heard = sender.answer();
+    let right = pushed.is_none()
+        && is_full_one(&taken)
+        && none.is_none()
+        && told.is_none()
+        && heard
+            == Some(Answer {
+                number: 1,
+                answer: Heard::Assured,
+            })
+        && taker.take_misses() == 1
+        && sender.push_misses() == 0;
+    assert!(rt; right);
+    Ok(())
+}
+
+#[test]
+fn a_full_ring_hands_the_parcel_back(rt: HostRuntime) -> Result<(), Fail> {
+    let (mut sender, mut taker) = Link::pair(rt.alloc())?;
+    let mut came_back = false;
+    for _ in 0..17u32 {
+        came_back = sender.push(last(rt.alloc())?).is_some();
+    }
+    let taken = taker.take().is_some() && taker.ended();
+    let pushed = sender.push(last(rt.alloc())?);
+    assert!(rt; came_back && taken && pushed.is_none() && sender.push_misses() == 1);
+    Ok(())
+}
+
+#[test]
+#[tactic(auto, unfolding(pipeline_bus::specs::Parcels::with_events))]
+fn what_waits_is_counted_and_stays(rt: HostRuntime) -> Result<(), Fail> {
+    let (mut sender, mut taker) = Link::pair(rt.alloc())?;
+    let _first = sender.push(full(rt.alloc(), 1)?);
+    let _second = sender.push(last(rt.alloc())?);
+    let waiting = taker.waiting() == 1 && taker.waiting() == 1 && !taker.ended();
+    Link::beside(&mut sender, &mut taker);
+    let first = is_full_one(&taker.take()) && taker.waiting() == 0;
+    let second = taker.take().is_some() && taker.ended();
+    assert!(rt; waiting && first && second && taker.take().is_none());
+    Ok(())
+}
+
+/// Ends of links may move to other threads.
+fn sends(sender: &LinkSender) {
+    needs_send(sender);
+}
+
+fn takes(taker: &LinkTaker) {
+    needs_send(taker);
+}
+
+#[test]
+fn ends_may_move_to_other_threads(rt: HostRuntime) -> Result<(), Fail> {
+    let (sender, taker) = Link::pair(rt.alloc())?;
+    sends(&sender);
+    takes(&taker);
+    Ok(())
+}

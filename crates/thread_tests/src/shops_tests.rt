@@ -1,0 +1,92 @@
+ghost use Rattle.std.specs.Prelude.{◌≡◌, ◌+◌, ◌%◌, ◌^◌, ⊤};
+
+use batch_shop::{InlineShop, Shop, Task, ThreadShop};
+use std::alloc::Global;
+use std::sync::Arc;
+use std::sync::atomic::{AtomicU64, Ordering};
+use std::test::Fail;
+use std::thread;
+
+/// A number whose successor is wanted.
+#[derive(Drop)]
+struct Next(u64);
+
+impl Task for Next {
+    type Done = u64;
+
+    ghost gives = { λ job done. done ≡ (job.0 + 1) % 2 ^ 64 };
+
+    fn work(self) -> u64 {
+        self.0.wrapping_add(1)
+    }
+}
+
+/// Waits, for some turns, until another job has begun too.
+#[derive(Drop)]
+struct Meets(Arc<AtomicU64, Global>);
+
+impl Task for Meets {
+    type Done = bool;
+
+    ghost gives = { λ _ _. ⊤ };
+
+    fn work(self) -> bool {
+        let _ = self.0.fetch_add(1, Ordering::SeqCst);
+        for _ in 0..1_000_000u32 {
+            if self.0.load(Ordering::SeqCst) >= 2 {
+                return true;
+            }
+            thread::yield_now();
+        }
+        false
+    }
+}
+
+#[test]
+fn a_shop_does_its_jobs_itself(rt: HostRuntime) -> Result<(), Fail> {
+    let mut shop = InlineShop::new(rt.alloc(), 2)?;
+    let given = shop.give(Next(1)).is_none() && shop.give(Next(2)).is_none();
+    let back = shop.give(Next(3));
+    let first = shop.take();
+    let second = shop.take();
+    assert!(rt;
+        given && back.is_some() && first == Some(2) && second == Some(3) && shop.take().is_none()
+    );
+    Ok(())
+}
+
+#[test]
+fn workers_do_the_jobs(rt: HostRuntime) -> Result<(), Fail> {
+    let mut shop = ThreadShop::new(rt.alloc(), 4)?;
+    for _ in 0..4u32 {
+        let worker = shop.hire()?;
+        let _ = thread::spawn(&rt, move || worker.serve(&rt))?;
+    }
+    let given = shop.give(Next(1)).is_none() && shop.give(Next(2)).is_none();
+    let mut sum = 0u64;
+    for done in shop.close(&rt).as_slice() {
+        sum = sum.wrapping_add(*done);
+    }
+    assert!(rt; given && sum == 5);
+    Ok(())
+}
+
+#[test]
+fn two_workers_work_at_once(rt: HostRuntime) -> Result<(), Fail> {
+    let begun = Arc::new(rt.alloc(), AtomicU64::new(0))?;
+    let mut shop = ThreadShop::new(rt.alloc(), 2)?;
+    for _ in 0..2u32 {
+        let worker = shop.hire()?;
+        let _ = thread::spawn(&rt, move || worker.serve(&rt))?;
+    }
+    let first = shop.give(Meets(Arc::try_clone(&begun)?)).is_none();
+    let second = shop.give(Meets(begun)).is_none();
+    let mut met = 0u32;
+    for done in shop.close(&rt).as_slice() {
+        if *done {
+            met = met.saturating_add(1);
+        }
+    }
+    assert!(rt; first && second && met == 2);
+    Ok(())
+}
