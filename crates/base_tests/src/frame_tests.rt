@@ -24,8 +24,10 @@ const KNOWN: [(&[u8], u32); 8] = [
 #[test]
 fn computes_known_crcs(rt: HostRuntime) {
     for (bytes, crc) in &KNOWN {
-        assert_eq!(rt; crc32(bytes), *crc, "of {bytes:?}");
-        assert_eq!(rt; crc32_bitwise(bytes), *crc, "of {bytes:?}");
+        assert!(rt;
+            crc32(bytes) == *crc && crc32_bitwise(bytes) == *crc,
+            "of {bytes:?}"
+        );
     }
 }
 
@@ -52,10 +54,14 @@ fn two_frames(alloc: Global) -> Result<Vec<u8>, AllocError> {
 #[test]
 fn reads_frames_back(rt: HostRuntime) -> Result<(), Fail> {
     let bytes = two_frames(rt.alloc())?;
-    assert_eq!(rt; bytes.get(..17), Some(SMALL.as_slice()));
-    assert!(rt; has_frame(&bytes, 0, 5, b"k", 17) && has_frame(&bytes, 17, u64::MAX, b"", 16));
-    assert!(rt; unframe(b"and more").is_none());
+    assert!(rt; are_two_frames(&bytes) && unframe(b"and more").is_none());
     Ok(())
+}
+
+fn are_two_frames(bytes: &[u8]) -> bool {
+    bytes.get(..17) == Some(SMALL.as_slice())
+        && has_frame(bytes, 0, 5, b"k", 17)
+        && has_frame(bytes, 17, u64::MAX, b"", 16)
 }
 
 #[test]
@@ -120,6 +126,6 @@ fn finds_the_newest_slot(rt: HostRuntime) {
         let file = file_of(*first, *second);
         assert_eq!(rt; newest(&file, 14), *slot, "of {first:?} and {second:?}");
     }
-    assert_eq!(rt; newest(&TURN_0, 14), Some(Slot { turn: 0, place: 0 }));
-    assert_eq!(rt; newest(&TURN_0[..13], 14), None);
+    let alone = newest(&TURN_0, 14) == Some(Slot { turn: 0, place: 0 });
+    assert!(rt; alone && newest(&TURN_0[..13], 14).is_none());
 }

@@ -1,5 +1,4 @@
 use pattern_box::{Pattern, PatternFault, Patterns};
-use plain_data::Text;
 use std::alloc::{AllocError, Global};
 use std::test::Fail;
 
@@ -36,14 +35,25 @@ const REPLACED: [(&str, &str, &str, &str); 7] = [
     ("b$", "abb", "", "ab"),
 ];
 
-// A pattern of five bytes and so many spaces, which its flag `x` passes over.
-fn padded(alloc: Global, spaces: usize) -> Result<String, AllocError> {
-    format!(in alloc; "(?x)a{}", " ".repeat(alloc, spaces)?)
+// A part of a pattern, so many times each of two others around it, and what stands in front.
+fn around(
+    alloc: Global,
+    front: &str,
+    (open, part, close): (&str, &str, &str),
+    count: usize,
+) -> Result<String, AllocError> {
+    let mut text = String::from_str(alloc, front)?;
+    add_times(&mut text, open, count)?;
+    text.push_str(part)?;
+    add_times(&mut text, close, count)?;
+    Ok(text)
 }
 
-fn nested(alloc: Global, depth: usize) -> Result<String, AllocError> {
-    let (open, close) = ("(".repeat(alloc, depth)?, ")".repeat(alloc, depth)?);
-    format!(in alloc; "{open}a{close}")
+fn add_times(text: &mut String, part: &str, count: usize) -> Result<(), AllocError> {
+    for _ in 0..count {
+        text.push_str(part)?;
+    }
+    Ok(())
 }
 
 fn sent<T: Send>(value: T) -> T {
@@ -78,45 +88,55 @@ fn spans_are_those_of_the_first_match(rt: HostRuntime) -> Result<(), Fail> {
     Ok(())
 }
 
-// The text with each match of a pattern replaced.
-fn replaced(alloc: Global, pattern: &str, text: &str, with: &str) -> Result<Text, PatternFault> {
+// Whether a pattern's matches in a text are replaced so.
+fn is_replaced(
+    alloc: Global,
+    pattern: &str,
+    text: &str,
+    (with, wanted): (&str, &str),
+) -> Result<bool, PatternFault> {
     let mut pattern = Pattern::new(alloc, pattern)?;
-    Ok(pattern.replace_all(text, with)?)
+    Ok(pattern.replace_all(text, with)?.as_str() == wanted)
 }
 
 #[test]
 fn each_match_is_replaced(rt: HostRuntime) -> Result<(), Fail> {
-    for (pattern, text, with, wanted) in REPLACED {
-        assert_eq!(rt; replaced(rt.alloc(), pattern, text, with)?.as_str(), wanted);
+    for (pattern, text, with, wanted) in &REPLACED {
+        let is_replaced = is_replaced(rt.alloc(), pattern, text, (*with, *wanted))?;
+        assert!(rt; is_replaced, "{text}");
     }
     Ok(())
 }
 
+// How the compiler of patterns ends with a text.
+fn outcome(alloc: Global, text: &str) -> Option<PatternFault> {
+    Pattern::new(alloc, text).err()
+}
+
+// Spaces are passed over by the flag `x`, so these patterns have five bytes and so many more, and so many levels.
 #[test]
 fn long_and_deep_texts_are_refused(rt: HostRuntime) -> Result<(), Fail> {
-    let alloc = rt.alloc();
-    let texts = [
-        (String::from_str(alloc, "(")?, true),
-        (padded(alloc, 65_531)?, false),
-        (padded(alloc, 65_532)?, true),
-        (nested(alloc, 250)?, false),
-        (nested(alloc, 251)?, true),
-    ];
-    for (text, is_refused) in &texts {
-        match Pattern::new(alloc, text) {
-            Ok(_) => assert!(rt; !is_refused),
-            Err(fault) => assert!(rt; *is_refused && fault == PatternFault::BadPattern),
-        }
+    for (front, around_it, count, is_refused) in &[
+        ("(", ("", "", ""), 0, true),
+        ("(?x)a", ("", "", " "), 65_531, false),
+        ("(?x)a", ("", "", " "), 65_532, true),
+        ("", ("(", "a", ")"), 250, false),
+        ("", ("(", "a", ")"), 251, true),
+    ] {
+        let text = around(rt.alloc(), front, *around_it, *count)?;
+        let wanted = if *is_refused {
+            Some(PatternFault::BadPattern)
+        } else {
+            None
+        };
+        assert!(rt; outcome(rt.alloc(), &text) == wanted, "{count}");
     }
     Ok(())
 }
 
 // A count is written out in the compiled form: ten thousand states here, and then a million.
 #[test]
-fn a_compiled_form_past_the_limit_is_want_of_memory(rt: HostRuntime) -> Result<(), Fail> {
-    let small = Pattern::new(rt.alloc(), "(a{100}){100}");
-    assert!(rt; small.is_ok());
-    let large = Pattern::new(rt.alloc(), "(a{1000}){1000}");
-    assert!(rt; large.err() == Some(PatternFault::Memory));
-    Ok(())
+fn a_compiled_form_past_the_limit_is_want_of_memory(rt: HostRuntime) {
+    assert!(rt; outcome(rt.alloc(), "(a{100}){100}").is_none());
+    assert!(rt; outcome(rt.alloc(), "(a{1000}){1000}") == Some(PatternFault::Memory));
 }

@@ -40,13 +40,10 @@ fn texts_are_ordered_by_their_bytes(rt: HostRuntime) -> Result<(), Fail> {
 #[test]
 fn texts_are_written_as_strings_are(rt: HostRuntime) -> Result<(), Fail> {
     let text = Text::from_string(String::from_str(rt.alloc(), "é\"")?).copy()?;
-    assert_eq!(rt; text.len(), 3);
-    assert!(rt; !text.is_empty());
-    assert_eq!(rt;
-        format!(in rt.alloc(); "{text}|{text:?}|{text:>4}")?.as_str(),
-        "é\"|\"é\\\"\"|  é\""
-    );
-    assert_eq!(rt; text.into_string().as_str(), "é\"");
+    let is_long = text.len() == 3 && !text.is_empty();
+    let shown = format!(in rt.alloc(); "{text}|{text:?}|{text:>4}")?;
+    let is_shown = shown.as_str() == "é\"|\"é\\\"\"|  é\"";
+    assert!(rt; is_long && is_shown && text.into_string().as_str() == "é\"");
     Ok(())
 }
 
@@ -60,9 +57,8 @@ fn items_are_changed_in_place(rt: HostRuntime) -> Result<(), Fail> {
         *last = 8;
     }
     items.as_mut_slice().swap(0, 1);
-    assert_eq!(rt; items.as_slice(), [9, 7, 2, 3, 8].as_slice());
-    assert_eq!(rt; items.get(1), Some(&7));
-    assert_eq!(rt; items.last(), Some(&8));
+    let is_changed = items.as_slice() == [9, 7, 2, 3, 8].as_slice();
+    assert!(rt; is_changed && items.get(1) == Some(&7) && items.last() == Some(&8));
     Ok(())
 }
 
@@ -71,24 +67,32 @@ fn items_are_taken_away(rt: HostRuntime) -> Result<(), Fail> {
     let mut items = Items::with_capacity(rt.alloc(), 2)?;
     items.append(Items::from_vec(vec![in rt.alloc(); 1, 2, 3, 4]?))?;
     let copy = items.clone()?;
-    assert_eq!(rt; items.remove(1), 2);
-    assert_eq!(rt; items.pop(), Some(4));
+    let taken = (items.remove(1), items.pop());
     items.truncate(1);
-    assert_eq!(rt; items.into_vec().as_slice(), [1].as_slice());
-    assert_eq!(rt; copy.as_slice(), [1, 2, 3, 4].as_slice());
+    let is_cut = items.into_vec().as_slice() == [1].as_slice();
+    assert!(rt; taken == (2, Some(4)) && is_cut && copy.as_slice() == [1, 2, 3, 4].as_slice());
     Ok(())
 }
 
 #[test]
 fn fields_are_ordered_by_their_keys(rt: HostRuntime) -> Result<(), Fail> {
     let mut fields = fields_of(rt.alloc(), &[("b", 1), ("é", 2), ("a", 3), ("b", 4)])?;
-    assert!(rt; has_members(&fields, &[("a", 3), ("b", 4), ("é", 2)]));
-    let last = Text::of(rt.alloc(), "日")?;
-    assert!(rt; !fields.is_below("é"));
-    assert!(rt; fields.is_below("日"));
-    fields.push(last, 5)?;
-    assert!(rt; has_members(&fields, &[("a", 3), ("b", 4), ("é", 2), ("日", 5)]));
+    let has_three = has_members(&fields, &[("a", 3), ("b", 4), ("é", 2)]);
+    let has_four = has_one_more(rt.alloc(), &mut fields)?;
+    assert!(rt; has_three && has_four);
     Ok(())
+}
+
+// Pushes a member whose key is above those, and is not `é`.
+fn has_one_more(alloc: Global, fields: &mut Fields<u32>) -> Result<bool, AllocError> {
+    if fields.is_below("é") {
+        return Ok(false);
+    }
+    if !fields.is_below("日") {
+        return Ok(false);
+    }
+    fields.push(Text::of(alloc, "日")?, 5)?;
+    Ok(has_members(fields, &[("a", 3), ("b", 4), ("é", 2), ("日", 5)]))
 }
 
 #[test]
@@ -97,10 +101,8 @@ fn fields_are_read_and_written_by_their_keys(rt: HostRuntime) -> Result<(), Fail
     if let Some(value) = fields.get_mut("a") {
         *value = 3;
     }
-    assert_eq!(rt; fields.get("a"), Some(&3));
-    assert_eq!(rt; fields.get("aa"), None);
-    assert_eq!(rt; fields.remove("b"), Some(1));
-    assert!(rt; !fields.contains_key("b"));
+    let is_read = fields.get("a") == Some(&3) && fields.get("aa").is_none();
+    assert!(rt; is_read && fields.remove("b") == Some(1) && !fields.contains_key("b"));
     Ok(())
 }
 
@@ -108,9 +110,8 @@ fn fields_are_read_and_written_by_their_keys(rt: HostRuntime) -> Result<(), Fail
 fn fields_are_copied(rt: HostRuntime) -> Result<(), Fail> {
     let mut fields = fields_of(rt.alloc(), &[("b", 1), ("a", 2)])?;
     let copy = Fields::from_vec(fields.clone()?.into_vec());
-    assert!(rt; copy == fields);
+    let is_same = copy == fields;
     fields.clear();
-    assert!(rt; fields.is_empty());
-    assert!(rt; has_members(&copy, &[("a", 2), ("b", 1)]));
+    assert!(rt; is_same && fields.is_empty() && has_members(&copy, &[("a", 2), ("b", 1)]));
     Ok(())
 }

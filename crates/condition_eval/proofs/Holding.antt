@@ -1,43 +1,22 @@
 -- Texts that hold others.
-use Rattle.std.proofs.Common.{◌≡◌, ◌↔◌, ℕ, ◌==◌, List, [], ◌∷◌, ◌++◌, Bool, true, false, refl, sym, ap, subst, true≢false, ◌||◌, ◌&&◌, eqb-true, arith}
+use Rattle.std.proofs.Common.{◌≡◌, ◌↔◌, ℕ, ◌==◌, List, [], ◌∷◌, ◌++◌, Bool, true, false, refl, sym, ap, subst, true≢false, ◌||◌, eqb-true, arith}
+use Rattle.std.proofs.lemmas.Bool.{and_from, and_parts, or_left, or_right, false_from_ne_true}
 use Rattle.std.proofs.lemmas.Bool.Decides.{nat_tests}
 use Rattle.std.specs.Str.Iter.{HasSubslice}
 use Rattle.condition_eval.specs.Values.{is_prefix, holds}
 
-or_left : (a b : Bool) → a ≡ true → (a || b) ≡ true
-or_left true b e = refl
-or_left false b e = absurd (true≢false (sym e))
-
-or_right : (a b : Bool) → b ≡ true → (a || b) ≡ true
-or_right true b e = refl
-or_right false b e = e
-
-and_both : (a b : Bool) → a ≡ true → b ≡ true → (a && b) ≡ true
-and_both true b e f = f
-and_both false b e f = absurd (true≢false (sym e))
-
-and_first : (a b : Bool) → (a && b) ≡ true → a ≡ true
-and_first true b e = refl
-and_first false b e = e
-
-and_second : (a b : Bool) → (a && b) ≡ true → b ≡ true
-and_second true b e = e
-and_second false b e = absurd (true≢false (sym e))
-
-same_byte : (p : ℕ) → (p == p) ≡ true
-same_byte p = grind (arith, nat_tests)
-
 begins_front : (part rest : List ℕ) → is_prefix part (part ++ rest) ≡ true
 begins_front [] rest = refl
-begins_front (p ∷ part) rest = and_both (p == p) _ (same_byte p) (begins_front part rest)
+begins_front (p ∷ part) rest = and_from (p == p) _ (grind (arith, nat_tests)) (begins_front part rest)
 
 -- what is behind a part that a text begins with
 begins_behind : (part text : List ℕ) → is_prefix part text ≡ true → (rest : List ℕ) × (text ≡ part ++ rest)
 begins_behind [] text e = (text, refl)
 begins_behind (p ∷ part) [] e = absurd (true≢false (sym e))
 begins_behind (p ∷ part) (b ∷ text) e =
-    let r = begins_behind part text (and_second (p == b) (is_prefix part text) e) in
-    let q : p ≡ b = eqb-true p b (and_first (p == b) (is_prefix part text) e) in
+    let both = and_parts (p == b) (is_prefix part text) e in
+    let r = begins_behind part text both.1 in
+    let q : p ≡ b = eqb-true p b both.0 in
     (r.0, λ i. sym q i ∷ r.1 i)
 
 holds_behind : (part front rest : List ℕ) → holds part (front ++ (part ++ rest)) ≡ true
@@ -64,8 +43,4 @@ holds_where part text s = subst (λ t. holds part t ≡ true) (sym s.2) (holds_b
 -- a test that is true where the text holds the part is this one
 pub is_holding : (r : Bool) (part text : List ℕ) → ((r ≡ true) ↔ HasSubslice text part) → r ≡ holds part text
 is_holding true part text h = sym (holds_where part text (h.0 refl))
-is_holding false part text h = not_true (holds part text) (λ e. true≢false (sym (h.1 (held_where part text e))))
-  where
-    not_true : (b : Bool) → (b ≡ true → ⊥) → false ≡ b
-    not_true true f = absurd (f refl)
-    not_true false f = refl
+is_holding false part text h = sym (false_from_ne_true (holds part text) (λ e. true≢false (sym (h.1 (held_where part text e)))))

@@ -17,7 +17,8 @@ use Rattle.config_tree.specs.declared.tree.Statement.{Statement}
 use Rattle.config_tree.specs.declared.tree.Statement.TheVariants as s
 use Rattle.config_tree.specs.Joints.{disjoined}
 use Rattle.config_tree.specs.Joining.{Entries, with_setting, plugin_of}
-use Rattle.config_grammar.specs.Words.{spelling, setting_name, plugin_name, key}
+use Rattle.config_lex.specs.Spelling.{spelling}
+use Rattle.config_grammar.specs.Words.{setting_name, plugin_name, key}
 use Rattle.config_grammar.specs.Symbols.{Symbol}
 use Rattle.config_grammar.specs.Symbols as y
 use Rattle.config_grammar.specs.Machine.{Sems, on_some, fresh, next, arm_of}
@@ -27,7 +28,8 @@ use Rattle.config_parse.specs.declared.error.ReadError.TheVariants as errors
 use Rattle.config_lex.specs.declared.token.Lexeme.{Lexeme}
 use Rattle.std.specs.Borrow.{Bor}
 use Rattle.std.proofs.lemmas.Result.{err_from_is_err_and}
-use Rattle.config_parse.specs.Gives.{Fails, GivesRead}
+use Rattle.config_parse.specs.Gives.{Fails, Fills, GivesRead}
+use Rattle.config_parse.specs.Seen.{tokens_of}
 use Rattle.config_parse.specs.Read as r
 use Rattle.config_parse.specs.Read.{Read, Reader, ◌>>=◌, moved, behind, told, one}
 use Rattle.config_parse.proofs.Reading.{Short, Shrinks, bound, ok, none, read_short, read_front, read_end, assoc}
@@ -59,13 +61,22 @@ pub turned : {A B C : Type 0} (here on : Reader (B → C)) (add : B → A → B)
 turned here on add front ts {q} {x} {after} {all} is all_is v =
     sym (ap (λ p. p >>= λ f. Ok (f.0 front, f.1)) (is ∙ bind_is (λ x. on x.1 >>= λ f. Ok ((λ front. f.0 (add front x.0)), f.1)) v refl) ∙ assoc (on after) (λ f. Ok ((λ front. f.0 (add front x)), f.1)) (λ f. Ok (f.0 front, f.1))) ∙ all_is
 
+-- the fault of an item is that of all
+item_fails : {A B C : Type 0} (here on : Reader (B → C)) (add : B → A → B) (front : B) (ts : List Token) (q : Read A) {all : Read C} (e : ReadError) → here ts ≡ turn q on add → behind front here ts ≡ all → Fails e q → Fails e all
+item_fails here on add front ts q e is all_is h =
+    subst (Fails e) (ap (λ p. p >>= λ f. Ok (f.0 front, f.1)) (sym is) ∙ all_is) (fails_bind e (turn q on add) (λ f. Ok (f.0 front, f.1)) (fails_bind e q (λ x. on x.1 >>= λ f. Ok ((λ front. f.0 (add front x.0)), f.1)) h))
+
 -- what a `?` behind the item's fault returns
 pub failed : {A B C D : Type 0} (stands : D → C) (here on : Reader (B → C)) (add : B → A → B) (front : B) (ts : List Token) (q : Read A) {all : Read C} (e : ReadError) (result : Result (D × Bor (List Lexeme)) ReadError)
     → IsErrAnd result (λ y. y ≡ e) → here ts ≡ turn q on add → behind front here ts ≡ all → Fails e q → GivesRead stands result all
 failed stands here on add front ts q {all} e result err is all_is h =
-    let p = err_from_is_err_and result err in
-    subst (λ r. GivesRead stands r all) (sym (p.1 ∙ ap (λ y. Err y) p.2))
-    (subst (Fails e) (ap (λ p. p >>= λ f. Ok (f.0 front, f.1)) (sym is) ∙ all_is) (fails_bind e (turn q on add) (λ f. Ok (f.0 front, f.1)) (fails_bind e q (λ x. on x.1 >>= λ f. Ok ((λ front. f.0 (add front x.0)), f.1)) h)))
+    let p = err_from_is_err_and result err in subst (λ r. GivesRead stands r all) (sym (p.1 ∙ ap (λ y. Err y) p.2)) (item_fails here on add front ts q e is all_is h)
+
+-- and where it is made in place
+pub failed_in : {A C : Type 0} (made : C) (reader : Reader C) (found : List Lexeme) (here on : Reader (C → C)) (add : C → A → C) (front : C) (ts : List Token) (q : Read A) (e : ReadError) (result : Result (Bor (List Lexeme)) ReadError)
+    → IsErrAnd result (λ y. y ≡ e) → here ts ≡ turn q on add → behind front here ts ≡ reader (tokens_of found) → Fails e q → Fills made result reader found
+failed_in made reader found here on add front ts q e result err is all_is h =
+    let p = err_from_is_err_and result err in subst (λ r. Fills made r reader found) (sym (p.1 ∙ ap (λ y. Err y) p.2)) (item_fails here on add front ts q e is all_is h)
 
 -- what is made of two parts, and goes on
 joins : {A B C D : Type 0} (q : Read A) (f : A × List Token → Read B) (made : A → B → C) (k : C × List Token → Read D) → ((q >>= λ x. f x >>= λ g. Ok (made x.0 g.0, g.1)) >>= k) ≡ (q >>= λ x. f x >>= λ g. k (made x.0 g.0, g.1))

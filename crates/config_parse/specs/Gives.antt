@@ -25,10 +25,14 @@ GivesAs stands result reader found = GivesRead stands result (reader (tokens_of 
 abbrev pub Gives : {A : Type 0} → Result (A × Bor (List Lexeme)) ReadError → Reader A → List Lexeme → Type 0
 Gives result reader found = GivesRead (λ x. x) result (reader (tokens_of found))
 
--- the same of a token of which nothing is made
+-- the same of what was made in place
+abbrev pub Fills : {A : Type 0} → A → Result (Bor (List Lexeme)) ReadError → Reader A → List Lexeme → Type 0
+Fills made (Ok behind) reader found = reader (tokens_of found) ≡ Ok (made, tokens_of behind.now)
+Fills made (Err e) reader found = Fails e (reader (tokens_of found))
+
+-- and of a token of which nothing is made
 abbrev pub Skips : Result (Bor (List Lexeme)) ReadError → Reader (Unit {0}) → List Lexeme → Type 0
-Skips (Ok behind) read found = read (tokens_of found) ≡ Ok (tt, tokens_of behind.now)
-Skips (Err e) read found = Fails e (read (tokens_of found))
+Skips result reader found = Fills tt result reader found
 
 -- the first token, and those behind it
 abbrev pub IsFront : List Lexeme → Bor Token × Bor (List Lexeme) → Type 0

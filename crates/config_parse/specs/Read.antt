@@ -97,6 +97,13 @@ keys_of front = map (λ e. e.0) front
 abbrev pub fresh_key : Entries → Token → Option (List ℕ)
 fresh_key front z = fresh (keys_of front) (key z)
 
+-- the entries of a hash behind these, and the settings of a plugin
+abbrev pub pairs : ℕ → Entries → Reader Entries
+pairs d front ts = behind front (read d (y.Pairs (keys_of front))) ts
+
+abbrev pub settings : ℕ → Entries → Reader Entries
+settings d front ts = behind front (read d y.Settings) ts
+
 unfoldable pub entry : ℕ → Reader SettingValue
 entry d ts = one is_arrow ts >>= λ a. read d y.Value a.1
 

@@ -64,13 +64,12 @@ pub fn finished_settings(alloc: Global, settings: ReadSettings) -> Result<Entrie
     Ok(entries)
 }
 
-/// The entries with this one: in the place of the one with this key, or at the end.
-pub fn with_entry(table: Table, key: Text, value: SettingValue) -> Result<Table, AllocError>
-    ensures { IfOk result (λ made. made.entries ≡ joining.with_entry key value table.entries) }
+/// Puts an entry in the place of the one with this key, or at the end.
+pub fn put_entry(table: &mut Table, key: Text, value: SettingValue) -> Result<(), AllocError>
+    ensures { OnOk result (table.new.entries ≡ joining.with_entry key value table.old.entries) }
 {
-    let mut table = table;
     table.insert(key, value)?;
-    Ok(table)
+    Ok(())
 }
 
 /// Two hashes as one: of a key that both have, the later value in the place of the first.
@@ -79,7 +78,7 @@ fn with_entries(table: Table, later: Table) -> Result<Table, AllocError>
 {
     let mut table = table;
     for (key, value) in later {
-        table = with_entry(table, key, value)?;
+        put_entry(&mut table, key, value)?;
     }
     Ok(table)
 }
@@ -117,17 +116,16 @@ fn taken(
     }
 }
 
-/// The settings with this one: in the place of the one with this name, joined with it, or at the end.
-pub fn with_setting(
+/// Puts a setting in the place of the one with this name, joined with it, or at the end.
+pub fn put_setting(
     alloc: Global,
-    settings: ReadSettings,
+    settings: &mut ReadSettings,
     name: Text,
     value: ReadValue,
-) -> Result<ReadSettings, AllocError>
-    ensures { IfOk result (λ made. HasSetting name value settings.entries made.entries) }
+) -> Result<(), AllocError>
+    ensures { OnOk result (HasSetting name value settings.old.entries settings.new.entries) }
 {
-    let mut settings = settings;
-    let earlier = taken(alloc, &mut settings, &name)?;
+    let earlier = taken(alloc, settings, &name)?;
     settings.insert(name, joined(earlier, value)?)?;
-    Ok(settings)
+    Ok(())
 }

@@ -2,6 +2,7 @@
 
 ghost use Rattle.std.specs.Prelude.{◌≡◌, IfOk};
 ghost use Rattle.config_grammar.specs.Words as words;
+ghost use Rattle.config_lex.specs.Spelling as texts;
 ghost use Rattle.config_tree.specs.Joints as joints;
 ghost use Rattle.std.specs.Option.{option_map};
 ghost use Rattle.config_parse.specs.Gives.{Finds};
@@ -16,7 +17,7 @@ use std::alloc::{AllocError, Global};
 
 /// How a word is written.
 pub fn spelling(word: &Word) -> &str
-    ensures { result.now ≡ words.spelling word.now }
+    ensures { result.now ≡ texts.spelling word.now }
 {
     match word {
         Word::If => "if",

@@ -3,13 +3,13 @@
 ghost use Rattle.std.specs.Prelude.{◌≡◌, [], IfOk};
 ghost use Rattle.config_grammar.specs.Words as words;
 ghost use Rattle.config_grammar.specs.Symbols as symbol;
-ghost use Rattle.config_parse.specs.Gives.{Gives, GivesAs, Skips};
+ghost use Rattle.config_parse.specs.Gives.{Fills, Gives, GivesAs, Skips};
 ghost use Rattle.config_parse.specs.Read as spec;
-ghost use Rattle.config_parse.specs.Tables.{value_of};
+ghost use Rattle.config_parse.specs.Tables.{value_of, values_of};
 
 use crate::error::ReadError;
 use crate::joining::{
-    Entries, ReadSettings, ReadValue, Table, finished, finished_settings, with_entry, with_setting,
+    Entries, ReadSettings, ReadValue, Table, finished, finished_settings, put_entry, put_setting,
 };
 use crate::names::{key, plugin_name, scalar, setting_name, spelling};
 use crate::tokens::{below, first, next, refuse};
@@ -190,23 +190,37 @@ fn single_entry(
 }
 
 /// Behind the `{` of a hash.
-#[tactic(auto, using(crate::proofs::Turns::turns))]
 #[cycle(values)]
 fn pairs(alloc: Global, depth: usize, tokens: &[Lexeme]) -> Result<(Table, &[Lexeme]), ReadError>
     ensures { GivesAs (λ table. table.entries) result (spec.behind [] (spec.read depth (symbol.Pairs []))) tokens.now }
 {
     let mut found: Table = IndexMap::new(alloc);
+    let rest = put_pairs(alloc, depth, &mut found, tokens)?;
+    Ok((found, rest))
+}
+
+/// Behind these entries of a hash, to which it adds the others. No table is dropped at its faults.
+#[tactic(auto, using(crate::proofs::Turns::turns))]
+#[cycle(values)]
+fn put_pairs<'a>(
+    alloc: Global,
+    depth: usize,
+    found: &mut Table,
+    tokens: &'a [Lexeme],
+) -> Result<&'a [Lexeme], ReadError>
+    ensures { Fills found.new.entries result (spec.pairs depth found.old.entries) tokens.now }
+{
     let mut rest = tokens;
     loop {
         let (token, behind) = next(rest)?;
         match token {
-            Token::CloseBrace => return Ok((found, behind)),
+            Token::CloseBrace => return Ok(behind),
             other => {
-                let Some(key) = fresh(alloc, &found, other)? else {
+                let Some(key) = fresh(alloc, found, other)? else {
                     return Err(refuse(rest));
                 };
                 let (item, after) = single_entry(alloc, depth, behind)?;
-                found = with_entry(found, key, item)?;
+                put_entry(found, key, item)?;
                 rest = after;
             }
         }
@@ -224,7 +238,6 @@ fn own_setting_name(alloc: Global, token: &Token) -> Result<Option<Text>, AllocE
 }
 
 /// Behind the `{` of a plugin.
-#[tactic(auto, using(crate::proofs::Turns::turns))]
 #[cycle(values)]
 fn settings(
     alloc: Global,
@@ -234,17 +247,32 @@ fn settings(
     ensures { Gives result (spec.behind [] (spec.read depth symbol.Settings)) tokens.now }
 {
     let mut found: ReadSettings = IndexMap::new(alloc);
+    let rest = put_settings(alloc, depth, &mut found, tokens)?;
+    Ok((finished_settings(alloc, found)?, rest))
+}
+
+/// Behind these settings of a plugin, to which it adds the others. No table is dropped at its faults.
+#[tactic(auto, using(crate::proofs::Turns::turns))]
+#[cycle(values)]
+fn put_settings<'a>(
+    alloc: Global,
+    depth: usize,
+    found: &mut ReadSettings,
+    tokens: &'a [Lexeme],
+) -> Result<&'a [Lexeme], ReadError>
+    ensures { Fills (values_of found.new.entries) result (spec.settings depth (values_of found.old.entries)) tokens.now }
+{
     let mut rest = tokens;
     loop {
         let (token, behind) = next(rest)?;
         match token {
-            Token::CloseBrace => return Ok((finished_settings(alloc, found)?, behind)),
+            Token::CloseBrace => return Ok(behind),
             other => {
                 let Some(name) = own_setting_name(alloc, other)? else {
                     return Err(refuse(rest));
                 };
                 let (item, after) = entry(alloc, depth, behind)?;
-                found = with_setting(alloc, found, name, item)?;
+                put_setting(alloc, found, name, item)?;
                 rest = after;
             }
         }

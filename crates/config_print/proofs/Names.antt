@@ -1,5 +1,6 @@
 -- How the tokens of names are written.
 use Rattle.std.proofs.Common.{◌≡◌, ℕ, List, [], ◌∷◌, ◌&&◌, ◌||◌, Bool, true, false, if◌then◌else◌, arith, refl, ap, sym, ◌∙◌, bytes_eq, codes, nat_eq}
+use Rattle.std.proofs.lemmas.Bool.{and_parts, and_from, cond_both}
 use Rattle.std.specs.List.{list_all, list_any}
 use Rattle.std.proofs.lemmas.Bool.Decides.{nat_tests}
 use Rattle.std.proofs.lemmas.Slice.Eq.{bytes_eq-Decides}
@@ -11,17 +12,12 @@ use Rattle.config_tree.specs.declared.operators.Conjunction.TheVariants as and
 use Rattle.config_tree.specs.declared.operators.Disjunction.TheVariants as or
 use Rattle.event_tree.specs.NumberTexts.{is_digit}
 use Rattle.config_lex.specs.Bytes.{is_letter, is_in_word}
-use Rattle.config_print.proofs.Bools.{and_l, and_r, both_true}
 use Rattle.config_lex.specs.Lexemes.{word_of, other_word}
 use Rattle.config_print.specs.Tokens.{bare, is_word, string, word_text, written, name_token, plugin_token, is_branch_word}
 
 -- What is said of each word by itself is said of the word of a text. First those but `if` and `else`.
 choose : {X : Type 0} (f : Word → X) (g : List ℕ → X) (s spelled : List ℕ) (a other : Word) → f a ≡ g spelled → f other ≡ g s → f (if bytes_eq s spelled then a else other) ≡ g s
-choose f g s spelled a other h u = at (bytes_eq s spelled) refl
-  where
-    at : (b : Bool) → bytes_eq s spelled ≡ b → f (if b then a else other) ≡ g s
-    at true is = h ∙ ap g (sym ((bytes_eq-Decides s spelled).0 is))
-    at false is = u
+choose f g s spelled a other h u = cond_both (bytes_eq s spelled) a other (λ x. f x ≡ g s) (λ is. h ∙ ap g (sym ((bytes_eq-Decides s spelled).0 is))) (λ _. u)
 
 abbrev pub Agrees : {X : Type 0} → (Word → X) → (List ℕ → X) → Type 0
 Agrees f g =
@@ -69,9 +65,9 @@ letter_no_dash b h = grind (arith, nat_tests)
 pub word_bare : (s : List ℕ) → is_word true s ≡ true → list_any (λ b. nat_eq b 45) s ≡ false → is_word false s ≡ true
 word_bare [] h u = absurd (cc)
 word_bare (b ∷ s) h u =
-    let l = and_l (is_letter b) (list_all (is_in_word true) s) h in
-    both_true (is_letter b) (list_all (is_in_word false) s) l
-    (in_word_bare s (and_r (is_letter b) (list_all (is_in_word true) s) h) (sym (ap (λ z. z || list_any (λ b. nat_eq b 45) s) (letter_no_dash b l)) ∙ u))
+    let l = (and_parts (is_letter b) (list_all (is_in_word true) s) h).0 in
+    and_from (is_letter b) (list_all (is_in_word false) s) l
+    (in_word_bare s (and_parts (is_letter b) (list_all (is_in_word true) s) h).1 (sym (ap (λ z. z || list_any (λ b. nat_eq b 45) s) (letter_no_dash b l)) ∙ u))
 
 pub name_written : (s : List ℕ) → written (name_token s) ≡ bare true s
 name_written s = at (is_word true s) (list_any (λ b. nat_eq b 45) s) refl refl

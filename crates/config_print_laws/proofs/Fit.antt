@@ -1,6 +1,6 @@
 -- What the lexer takes for a token can be written again.
 use Rattle.std.proofs.Common.{◌≡◌, ℕ, suc, ◌+◌, ◌==◌, ◌&&◌, ◌||◌, not, List, [], ◌∷◌, ◌++◌, length, take, drop, Option, Some, None, option_map, Bool, true, false, if◌then◌else◌, refl, ap, subst, ◌∙◌, arith, nat_eq}
-use Rattle.std.proofs.lemmas.Bool.{not-true}
+use Rattle.std.proofs.lemmas.Bool.{not-true, and_parts, and_from, cond_both}
 use Rattle.std.specs.List.{list_all, list_any}
 use Rattle.std.proofs.lemmas.Bool.Decides.{nat_tests}
 use Rattle.std.proofs.Math.Seq.{take-append_seam}
@@ -24,7 +24,6 @@ use Rattle.config_print_laws.proofs.Names.{word_spelled}
 use Rattle.config_print.specs.Tokens.{is_word, name_token}
 use Rattle.config_print.proofs.Names.{word_bare}
 use Rattle.config_print_laws.proofs.Strings.{is_plain, ArePlain, Between, plain_between, quoted_between, ends_escaped, none_before, ends_like}
-use Rattle.config_print.proofs.Bools.{and_l, and_r, both_true}
 use Rattle.config_print_laws.proofs.Words.{run_passes, in_word_more, letter_in_word, SelectorFits, selector_from}
 use Rattle.config_print_laws.proofs.Numbers.{IsHeld, read_held, number_plain, number_lexes}
 
@@ -45,18 +44,18 @@ in_word_plain b h = grind (arith, nat_tests)
 
 words_plain : (s : List ℕ) → list_all (is_in_word true) s ≡ true → ArePlain s
 words_plain [] h = tt
-words_plain (b ∷ s) h = (in_word_plain b (and_l (is_in_word true b) (list_all (is_in_word true) s) h), words_plain s (and_r (is_in_word true b) (list_all (is_in_word true) s) h))
+words_plain (b ∷ s) h = (in_word_plain b (and_parts (is_in_word true b) (list_all (is_in_word true) s) h).0, words_plain s (and_parts (is_in_word true b) (list_all (is_in_word true) s) h).1)
 
 letter_plain : (b : ℕ) → is_letter b ≡ true → is_plain b ≡ true
 letter_plain b h = grind (arith, nat_tests)
 
 word_plain : (s : List ℕ) → is_word true s ≡ true → ArePlain s
 word_plain [] h = absurd (cc)
-word_plain (b ∷ s) h = (letter_plain b (and_l (is_letter b) (list_all (is_in_word true) s) h), words_plain s (and_r (is_letter b) (list_all (is_in_word true) s) h))
+word_plain (b ∷ s) h = (letter_plain b (and_parts (is_letter b) (list_all (is_in_word true) s) h).0, words_plain s (and_parts (is_letter b) (list_all (is_in_word true) s) h).1)
 
 pub word_more : (s : List ℕ) → is_word false s ≡ true → is_word true s ≡ true
 word_more [] h = absurd (cc)
-word_more (b ∷ s) h = both_true (is_letter b) (list_all (is_in_word true) s) (and_l (is_letter b) (list_all (is_in_word false) s) h) (in_word_more s (and_r (is_letter b) (list_all (is_in_word false) s) h))
+word_more (b ∷ s) h = and_from (is_letter b) (list_all (is_in_word true) s) (and_parts (is_letter b) (list_all (is_in_word false) s) h).0 (in_word_more s (and_parts (is_letter b) (list_all (is_in_word false) s) h).1)
 
 pub spelled : (s : List ℕ) → spelling (word_of s) ≡ s
 spelled s = let h : Some (spelling (word_of s)) ≡ Some s = word_spelled s in cc
@@ -140,15 +139,11 @@ abbrev pub Found_fits : Found → Type 0
 Found_fits None = Unit {0}
 Found_fits (Some p) = Fit p.0
 
-either : {A : Type 0} (P : A → Type 0) (z : Bool) (a b : A) → (z ≡ true → P a) → (z ≡ false → P b) → P (if z then a else b)
-either P true a b f g = f refl
-either P false a b f g = g refl
-
 word_taken : (dashes : Bool) (b : ℕ) (s : List ℕ) → is_letter b ≡ true → is_word true (take (passing (is_in_word dashes) (b ∷ s)) (b ∷ s)) ≡ true
 unfolding passing
 word_taken dashes b s h =
     ap (λ z. is_word true (take (if z then suc (passing (is_in_word dashes) s) else 0) (b ∷ s))) (letter_in_word dashes b h)
-    ∙ both_true (is_letter b) (list_all (is_in_word true) (take (passing (is_in_word dashes) s) s)) h (by dashes)
+    ∙ and_from (is_letter b) (list_all (is_in_word true) (take (passing (is_in_word dashes) s) s)) h (by dashes)
   where
     by : (d : Bool) → list_all (is_in_word true) (take (passing (is_in_word d) s) s) ≡ true
     by true = run_passes (is_in_word true) s
@@ -180,13 +175,13 @@ selector_found s [] e h = tt
 selector_found s (p ∷ ps) e h = selector_from (length s) s p ps e h
 
 bracket_found : (operand : Bool) (b : ℕ) (s : List ℕ) → Found_fits (bracket_at operand (b ∷ s))
-bracket_found operand b s = either Found_fits (operand && not (begins_literals (drop (1 + skip false s) (b ∷ s)))) (selector_of (parts_at (length (b ∷ s)) [] (b ∷ s))) (Some (t.OpenBracket, 1)) selector (λ e. tt)
+bracket_found operand b s = cond_both (operand && not (begins_literals (drop (1 + skip false s) (b ∷ s)))) (selector_of (parts_at (length (b ∷ s)) [] (b ∷ s))) (Some (t.OpenBracket, 1)) Found_fits selector (λ e. tt)
   where
     selector : (operand && not (begins_literals (drop (1 + skip false s) (b ∷ s)))) ≡ true → Found_fits (selector_of (parts_at (length (b ∷ s)) [] (b ∷ s)))
     selector e =
         let one : suc (skip false s) ≡ 1 + skip false s = omega arith in
         selector_found (b ∷ s) (parts_at (length (b ∷ s)) [] (b ∷ s)) refl
-        (ap (λ k. begins_literals (drop k (b ∷ s))) one ∙ not-true (begins_literals (drop (1 + skip false s) (b ∷ s))) (and_r operand (not (begins_literals (drop (1 + skip false s) (b ∷ s)))) e))
+        (ap (λ k. begins_literals (drop k (b ∷ s))) one ∙ not-true (begins_literals (drop (1 + skip false s) (b ∷ s))) (and_parts operand (not (begins_literals (drop (1 + skip false s) (b ∷ s)))) e).1)
 
 abbrev Sign : Option Token → Type 0
 Sign None = Unit {0}
@@ -235,7 +230,7 @@ pub found_fits : (x : Context) (s : List ℕ) → Found_fits (token_at x s)
 unfolding token_at
 found_fits x [] = tt
 found_fits x (b ∷ s) =
-    either Found_fits (is_letter b) (word_at x.in_condition (b ∷ s)) (behind_letters x b s) (λ e. word_token_fits (take (passing (is_in_word (not x.in_condition)) (b ∷ s)) (b ∷ s)) (word_taken (not x.in_condition) b s e))
-    (λ e. either Found_fits (begins_number (b ∷ s)) (number_at (b ∷ s)) (behind_numbers x b s) (λ e. number_found (b ∷ s))
-    (λ e. either Found_fits (b == 34 || b == 39) (quoted_at b s) (behind_strings x b s) (λ e. quoted_found b s e)
-    (λ e. either Found_fits (b == 47) (regexp_at s) (behind_regexps x b s) (λ e. regexp_found s) (λ e. either Found_fits (b == 91) (bracket_at x.at_operand (b ∷ s)) (sign_at (b ∷ s)) (λ e. bracket_found x.at_operand b s) (λ e. sign_found (b ∷ s))))))
+    cond_both (is_letter b) (word_at x.in_condition (b ∷ s)) (behind_letters x b s) Found_fits (λ e. word_token_fits (take (passing (is_in_word (not x.in_condition)) (b ∷ s)) (b ∷ s)) (word_taken (not x.in_condition) b s e))
+    (λ e. cond_both (begins_number (b ∷ s)) (number_at (b ∷ s)) (behind_numbers x b s) Found_fits (λ e. number_found (b ∷ s))
+    (λ e. cond_both (b == 34 || b == 39) (quoted_at b s) (behind_strings x b s) Found_fits (λ e. quoted_found b s e)
+    (λ e. cond_both (b == 47) (regexp_at s) (behind_regexps x b s) Found_fits (λ e. regexp_found s) (λ e. cond_both (b == 91) (bracket_at x.at_operand (b ∷ s)) (sign_at (b ∷ s)) Found_fits (λ e. bracket_found x.at_operand b s) (λ e. sign_found (b ∷ s))))))

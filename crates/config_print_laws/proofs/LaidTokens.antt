@@ -2,8 +2,8 @@
 use Rattle.std.proofs.Common.{◌≡◌, ℕ, zero, suc, ◌+◌, ◌<◌, ◌≤◌, ◌==◌, ◌&&◌, ◌||◌, ◌⊎◌, inl, inr, not, List, [], ◌∷◌, ◌++◌, length, take, drop, Some, None, option_map, Bool, true, false, if◌then◌else◌, refl, ap, sym, subst, ◌∙◌, arith, append_assoc, length-append, nat_eq, map}
 use Rattle.std.specs.List.{list_all, list_any}
 use Rattle.std.proofs.lemmas.Bool.Decides.{nat_tests}
-use Rattle.std.proofs.lemmas.Bool.{and_right, eqb-true}
-use Rattle.std.proofs.lemmas.List.{length-drop}
+use Rattle.std.proofs.lemmas.Bool.{and_right, eqb-true, and_parts, and_from}
+use Rattle.std.proofs.lemmas.List.{drop_all, drop-drop, length-drop}
 use Rattle.std.proofs.Math.Seq.{take-append_seam, drop-append_seam}
 use Rattle.event_tree.specs.Number.{Num}
 use Rattle.event_tree.specs.NumberTexts.{is_digit}
@@ -27,7 +27,6 @@ use Rattle.config_print.specs.Layout.{Piece, text_of, tokens_of}
 use Rattle.config_print.specs.Printed.{lines_text}
 use Rattle.config_print_laws.proofs.Placed.{Suits, Placed, first_literal}
 use Rattle.config_print_laws.proofs.Strings.{printed_closes, regexp_closes, unescaped_again}
-use Rattle.config_print.proofs.Bools.{and_l, and_r, both_true}
 use Rattle.config_print_laws.proofs.Words.{letter_in_word, Apart, blank_case, word_run, parts_again, opens_list}
 use Rattle.config_print_laws.proofs.Numbers.{IsHeld, number_lexes}
 use Rattle.config_print_laws.proofs.Fit.{Fit, word_more, behind_letters, behind_numbers, Found_fits, found_fits}
@@ -48,29 +47,20 @@ unfoldable scan : ℕ → Context → List ℕ → List Token
 scan zero x s = []
 scan (suc n) x s = scan_next x (drop (skip false s) s) (λ y r. scan n y r)
 
-drop_nil : (n : ℕ) → drop {A = ℕ} n [] ≡ []
-drop_nil zero = refl
-drop_nil (suc n) = refl
-
-drop_both : (a b : ℕ) (s : List ℕ) → drop (a + b) s ≡ drop b (drop a s)
-drop_both zero b s = let e : 0 + b ≡ b = omega arith in ap (λ k. drop k s) e
-drop_both (suc a) b [] = drop_nil (suc a + b) ∙ sym (drop_nil b)
-drop_both (suc a) b (x ∷ s) = let e : suc a + b ≡ suc (a + b) = omega arith in ap (λ k. drop k (x ∷ s)) e ∙ drop_both a b s
-
 abbrev bare : List Lexeme → List Token
 bare ls = map (λ l. l.token) ls
 
 lexed_scan : (n at : ℕ) (x : Context) (text : List ℕ) → bare (lexed n at x text) ≡ scan n x (drop at text)
 unfolding lexed scan
 lexed_scan zero at x text = refl
-lexed_scan (suc n) at x text = by (drop place text) refl (λ p y. lexed_scan n p y text) ∙ ap (λ r. scan_next x r (λ y q. scan n y q)) (drop_both at (skip false (drop at text)) text)
+lexed_scan (suc n) at x text = by (drop place text) refl (λ p y. lexed_scan n p y text) ∙ ap (λ r. scan_next x r (λ y q. scan n y q)) (sym (drop-drop (skip false (drop at text)) at text))
   where
     place : ℕ
     place = at + skip false (drop at text)
 
     one : (s : List ℕ) (o : Found) → drop place text ≡ s → ((p : ℕ) (y : Context) → bare (lexed n p y text) ≡ scan n y (drop p text)) → bare (found place x o (λ p y. lexed n p y text)) ≡ scanned o s x (λ y q. scan n y q)
     one s None h again = refl
-    one s (Some p) h again = ap (λ l. p.0 ∷ l) (again (place + p.1) (after_token x p.0) ∙ ap (scan n (after_token x p.0)) (drop_both place p.1 text ∙ ap (drop p.1) h))
+    one s (Some p) h again = ap (λ l. p.0 ∷ l) (again (place + p.1) (after_token x p.0) ∙ ap (scan n (after_token x p.0)) (sym (drop-drop p.1 place text) ∙ ap (drop p.1) h))
 
     by : (r : List ℕ) → drop place text ≡ r → ((p : ℕ) (y : Context) → bare (lexed n p y text) ≡ scan n y (drop p text)) → bare (next place x r (λ p y. lexed n p y text)) ≡ scan_next x r (λ y q. scan n y q)
     by [] h again = refl
@@ -112,8 +102,8 @@ word_there x [] rest h u = absurd (cc)
 word_there x (b ∷ s) rest h u =
     let d = not x.in_condition in
     let v = b ∷ (s ++ rest) in
-    let l = and_l (is_letter b) (list_all (is_in_word d) s) h in
-    let all = both_true (is_in_word d b) (list_all (is_in_word d) s) (letter_in_word d b l) (and_r (is_letter b) (list_all (is_in_word d) s) h) in
+    let l = (and_parts (is_letter b) (list_all (is_in_word d) s) h).0 in
+    let all = and_from (is_in_word d b) (list_all (is_in_word d) s) (letter_in_word d b l) (and_parts (is_letter b) (list_all (is_in_word d) s) h).1 in
     ap (λ z. if z then word_at x.in_condition v else behind_letters x b (s ++ rest)) l
     ∙ ap (λ n. Some (word_token (take n v), n)) (word_run d (b ∷ s) rest all u) ∙ ap (λ k. Some (word_token k, length (b ∷ s))) (take-append_seam (b ∷ s) rest)
 
@@ -122,13 +112,13 @@ in_word_no_dash b h = grind (arith, nat_tests)
 
 no_dashes : (s : List ℕ) → list_all (is_in_word false) s ≡ true → list_any (λ b. nat_eq b 45) s ≡ false
 no_dashes [] h = refl
-no_dashes (b ∷ s) h = ap (λ z. z || list_any (λ b. nat_eq b 45) s) (in_word_no_dash b (and_l (is_in_word false b) (list_all (is_in_word false) s) h)) ∙ no_dashes s (and_r (is_in_word false b) (list_all (is_in_word false) s) h)
+no_dashes (b ∷ s) h = ap (λ z. z || list_any (λ b. nat_eq b 45) s) (in_word_no_dash b (and_parts (is_in_word false b) (list_all (is_in_word false) s) h).0) ∙ no_dashes s (and_parts (is_in_word false b) (list_all (is_in_word false) s) h).1
 
 no_dash : (s : List ℕ) → is_word false s ≡ true → list_any (λ b. nat_eq b 45) s ≡ false
 no_dash [] h = refl
 no_dash (b ∷ s) h =
-    let l = and_l (is_letter b) (list_all (is_in_word false) s) h in
-    no_dashes (b ∷ s) (both_true (is_in_word false b) (list_all (is_in_word false) s) (letter_in_word false b l) (and_r (is_letter b) (list_all (is_in_word false) s) h))
+    let l = (and_parts (is_letter b) (list_all (is_in_word false) s) h).0 in
+    no_dashes (b ∷ s) (and_from (is_in_word false b) (list_all (is_in_word false) s) (letter_in_word false b l) (and_parts (is_letter b) (list_all (is_in_word false) s) h).1)
 
 -- a token and its length
 abbrev Takes : Context → Token → List ℕ → Type 0
@@ -369,7 +359,7 @@ token_reads x t.Unreadable ps s h f w i l u = absurd w
 scan_nil : (n : ℕ) (x : Context) → scan n x [] ≡ []
 unfolding scan
 scan_nil zero x = refl
-scan_nil (suc n) x = ap (λ s. scan_next x s (λ y r. scan n y r)) (drop_nil (skip false []))
+scan_nil (suc n) x = ap (λ s. scan_next x s (λ y r. scan n y r)) (drop_all (skip false []) [] (omega arith))
 
 scan_blank : (n : ℕ) (x : Context) (b : ℕ) (s : List ℕ) → is_blank b ≡ true → scan n x (b ∷ s) ≡ scan n x s
 unfolding scan

@@ -1,5 +1,6 @@
 -- The text of a number is read as that number.
 use Rattle.std.proofs.Common.{◌≡◌, ℕ, zero, suc, ◌+◌, ◌-◌, ◌*◌, ◌%◌, ◌^◌, ◌<◌, ◌≤◌, ◌==◌, ◌&&◌, ◌||◌, ◌⊎◌, inl, inr, nat_le, ℤ, pos, negsuc, unsigned_abs, List, [], ◌∷◌, ◌++◌, length, take, drop, Option, Some, None, option_and_then, Bool, true, false, if◌then◌else◌, refl, ap, sym, subst, ◌∙◌, arith, append_assoc, length-append, eqb-true}
+use Rattle.std.proofs.lemmas.Bool.{and_parts, and_from}
 use Rattle.std.specs.Prelude.{int_rem, int_div}
 use Rattle.std.specs.Ordering.{int_eq}
 use Rattle.std.specs.List.{list_all}
@@ -20,7 +21,6 @@ use Rattle.std.proofs.lemmas.Option.{same_Some}
 use Rattle.event_json.specs.Json.{padded, pointed, sign_of, number_text}
 use Rattle.config_lex.specs.Bytes.{passing, is_blank, is_letter, begins_with, begins_digit, sign_length, point_length, whole_length, number_length, begins_number, zeros_behind, without_zeros, number_of}
 use Rattle.config_print_laws.proofs.Strings.{is_plain, ArePlain}
-use Rattle.config_print.proofs.Bools.{and_l, and_r, both_true}
 use Rattle.config_print_laws.proofs.Words.{Apart, blank_case, run_all, run_passes}
 
 -- ---- numbers that are read are in least form
@@ -68,7 +68,7 @@ read_held s n h = numeral_held (begins_with 45 s) (take (passing is_digit (drop 
 
 all_digits : (ds : List ℕ) → AreDigits ds → list_all is_digit ds ≡ true
 all_digits [] h = refl
-all_digits (d ∷ ds) h = both_true (is_digit d) (list_all is_digit ds) h.0 (all_digits ds h.1)
+all_digits (d ∷ ds) h = and_from (is_digit d) (list_all is_digit ds) h.0 (all_digits ds h.1)
 
 -- ---- a sign, digits, and a point with digits
 
@@ -112,7 +112,7 @@ point_is : (f rest : List ℕ) → list_all is_digit f ≡ true → Apart rest �
 point_is [] [] h u = refl
 point_is [] (b ∷ s) h u = blank_case (λ k. point_length (k ∷ s) ≡ 0) b u refl refl refl refl
 point_is (d ∷ f) rest h u =
-    ap (λ z. if z then suc (passing is_digit (d ∷ (f ++ rest))) else 0) (and_l (is_digit d) (list_all is_digit f) h) ∙ ap suc (run_all is_digit (d ∷ f) rest h (apart_digits rest u))
+    ap (λ z. if z then suc (passing is_digit (d ∷ (f ++ rest))) else 0) (and_parts (is_digit d) (list_all is_digit f) h).0 ∙ ap suc (run_all is_digit (d ∷ f) rest h (apart_digits rest u))
 
 -- ---- how far it goes
 
@@ -151,7 +151,7 @@ text_goes negative d w f rest h u r =
     let m = minus negative in
     let behind = dotted f ++ rest in
     let same : text negative (d ∷ w) f ++ rest ≡ m ++ ((d ∷ w) ++ behind) = append_assoc m ((d ∷ w) ++ dotted f) rest ∙ ap (λ l. m ++ l) (append_assoc (d ∷ w) (dotted f) rest) in
-    ap number_length same ∙ signed_length negative d (w ++ behind) (and_l (is_digit d) (list_all is_digit w) h)
+    ap number_length same ∙ signed_length negative d (w ++ behind) (and_parts (is_digit d) (list_all is_digit w) h).0
     ∙ ap (λ k. length m + (k + point_length (drop k ((d ∷ w) ++ behind)))) (digits_run (d ∷ w) f rest h r) ∙ ap (λ l. length m + (length (d ∷ w) + point_length l)) (drop-append_seam (d ∷ w) behind)
     ∙ ap (λ k. length m + (length (d ∷ w) + k)) (point_is f rest u r) ∙ omega (arith, length-append m ((d ∷ w) ++ dotted f), length-append (d ∷ w) (dotted f))
 
@@ -159,7 +159,7 @@ text_value : (negative : Bool) (d : ℕ) (w f : List ℕ) → list_all is_digit 
 text_value negative d w f h =
     let v = (d ∷ w) ++ dotted f in
     let digits : passing is_digit v ≡ length (d ∷ w) = ap (λ l. passing is_digit ((d ∷ w) ++ l)) (sym (append-nil (dotted f))) ∙ digits_run (d ∷ w) f [] h tt in
-    signed_value negative d (w ++ dotted f) (and_l (is_digit d) (list_all is_digit w) h) ∙ ap (λ k. numeral negative (take k v) (without_zeros (drop (suc k) v))) digits
+    signed_value negative d (w ++ dotted f) (and_parts (is_digit d) (list_all is_digit w) h).0 ∙ ap (λ k. numeral negative (take k v) (without_zeros (drop (suc k) v))) digits
     ∙ ap (λ l. numeral negative l (without_zeros (drop (suc (length (d ∷ w))) v))) (take-append_seam (d ∷ w) (dotted f)) ∙ ap (λ l. numeral negative (d ∷ w) (without_zeros l)) (drop_dot (d ∷ w) f)
 
 -- ---- the text of a number
@@ -294,9 +294,9 @@ begins_plain : (d : ℕ) (s : List ℕ) → is_digit d ≡ true → begins_numbe
 begins_plain d s h = ap (λ z. begins_digit (drop (if z then 1 else 0) (d ∷ s))) (digit_no_minus d h) ∙ h
 
 lexes : (n : Num) (negative : Bool) (d : ℕ) (w f rest : List ℕ) → list_all is_digit (d ∷ w) ≡ true → number_length (text negative (d ∷ w) f ++ rest) ≡ length (text negative (d ∷ w) f) → number_of (text negative (d ∷ w) f) ≡ Some n → Lexes n rest (text negative (d ∷ w) f)
-lexes n true d w f rest h goes value = record { first = 45; more = (d ∷ w) ++ dotted f; is = refl; no_letter = refl; begins = and_l (is_digit d) (list_all is_digit w) h; goes = goes; value = value; starts = refl }
+lexes n true d w f rest h goes value = record { first = 45; more = (d ∷ w) ++ dotted f; is = refl; no_letter = refl; begins = (and_parts (is_digit d) (list_all is_digit w) h).0; goes = goes; value = value; starts = refl }
 lexes n false d w f rest h goes value =
-    let digit = and_l (is_digit d) (list_all is_digit w) h in
+    let digit = (and_parts (is_digit d) (list_all is_digit w) h).0 in
     record { first = d; more = w ++ dotted f; is = refl; no_letter = no_letter_digit d digit; begins = begins_plain d ((w ++ dotted f) ++ rest) digit; goes = goes; value = value; starts = ap (λ z. z || d == 45) digit }
 
 pub number_lexes : (n : Num) (rest : List ℕ) → IsHeld n → Apart rest → Lexes n rest (number_text n)
@@ -317,7 +317,7 @@ digit_plain b h = grind (arith, nat_tests)
 
 all_plain : (s : List ℕ) → list_all is_digit s ≡ true → ArePlain s
 all_plain [] h = tt
-all_plain (b ∷ s) h = (digit_plain b (and_l (is_digit b) (list_all is_digit s) h), all_plain s (and_r (is_digit b) (list_all is_digit s) h))
+all_plain (b ∷ s) h = (digit_plain b (and_parts (is_digit b) (list_all is_digit s) h).0, all_plain s (and_parts (is_digit b) (list_all is_digit s) h).1)
 
 digits_plain : (s : List ℕ) → ArePlain (take (passing is_digit s) s)
 digits_plain s = all_plain (take (passing is_digit s) s) (run_passes is_digit s)
@@ -339,7 +339,7 @@ point_plain [] = tt
 point_plain (b ∷ s) = at (b == 46 && begins_digit s) refl
   where
     at : (z : Bool) → (b == 46 && begins_digit s) ≡ z → ArePlain (take (if z then suc (passing is_digit s) else 0) (b ∷ s))
-    at true e = (ap is_plain (eqb-true b 46 (and_l (b == 46) (begins_digit s) e)), digits_plain s)
+    at true e = (ap is_plain (eqb-true b 46 (and_parts (b == 46) (begins_digit s) e).0), digits_plain s)
     at false e = tt
 
 pub number_plain : (s : List ℕ) → ArePlain (take (number_length s) s)

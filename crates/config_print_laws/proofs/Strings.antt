@@ -1,10 +1,9 @@
 -- Strings and regexps: what was between two quotes stands between the quotes that are printed, too.
 use Rattle.std.proofs.Common.{◌≡◌, ℕ, suc, ◌==◌, ◌&&◌, ◌||◌, ◌⊎◌, inl, inr, not, List, [], ◌∷◌, ◌++◌, length, take, Option, Some, None, option_map, Bool, true, false, if◌then◌else◌, refl, ap, sym, subst, ◌∙◌, arith}
 use Rattle.std.proofs.lemmas.Bool.Decides.{nat_tests}
-use Rattle.std.proofs.lemmas.Bool.{eqb-true, not-true, and_right}
+use Rattle.std.proofs.lemmas.Bool.{eqb-true, not-true, and_right, and_parts, or_parts}
 use Rattle.config_lex.specs.Bytes.{closing, unescaped, begins_with}
 use Rattle.config_print.specs.Tokens.{has_quote, quote_of, escaped}
-use Rattle.config_print.proofs.Bools.{and_r, or_l, or_r}
 
 -- a closing byte stands there that no backslash precedes
 abbrev pub has : ℕ → Bool → List ℕ → Bool
@@ -28,8 +27,8 @@ pub closes : (c : ℕ) (e : Bool) (s rest : List ℕ) → has c e s ≡ false �
 unfolding closing
 closes c e [] rest h u = ap (λ b. if b && not e then Some 0 else option_map suc (closing c (c == 92) rest)) (self c) ∙ ap (λ b. if not b then Some 0 else option_map suc (closing c (c == 92) rest)) u
 closes c e (b ∷ s) rest h u =
-    ap (λ x. if x then Some 0 else option_map suc (closing c (b == 92) (s ++ c ∷ rest))) (or_l (b == c && not e) (has c (b == 92) s) h)
-    ∙ ap (option_map suc) (closes c (b == 92) s rest (or_r (b == c && not e) (has c (b == 92) s) h) u)
+    ap (λ x. if x then Some 0 else option_map suc (closing c (b == 92) (s ++ c ∷ rest))) (or_parts (b == c && not e) (has c (b == 92) s) h).0
+    ∙ ap (option_map suc) (closes c (b == 92) s rest (or_parts (b == c && not e) (has c (b == 92) s) h).1 u)
 
 -- neither of both
 abbrev pub Stands : ℕ → Bool → List ℕ → Type 0
@@ -49,7 +48,7 @@ none_before c e (b ∷ s) n h = at (b == c && not e) refl h (λ m r. none_before
         → ((m : ℕ) → closing c (b == 92) s ≡ Some m → Stands c (b == 92) (take m s)) → Stands c e (take n (b ∷ s))
     at true is h again =
         let zero_is : 0 ≡ n = cc in
-        subst (λ (k : ℕ). Stands c e (take k (b ∷ s))) zero_is (refl, not-true e (and_r (b == c) (not e) is))
+        subst (λ (k : ℕ). Stands c e (take k (b ∷ s))) zero_is (refl, not-true e (and_parts (b == c) (not e) is).1)
     at false is h again =
         let r = more_than n (closing c (b == 92) s) h in
         let k = again r.0 r.2 in
@@ -145,5 +144,5 @@ ends_like e [] h = h
 ends_like e (b ∷ s) h = at (b == 92 && begins_with 47 s) refl (λ f k. ends_like f s k)
   where
     at : (z : Bool) → (b == 92 && begins_with 47 s) ≡ z → ((f : Bool) → ends_escaped f s ≡ false → ends_escaped f (unescaped s) ≡ false) → ends_escaped e (if z then unescaped s else b ∷ unescaped s) ≡ false
-    at true is again = again e (first_only 47 s (and_r (b == 92) (begins_with 47 s) is) e (b == 92) ∙ h)
+    at true is again = again e (first_only 47 s (and_parts (b == 92) (begins_with 47 s) is).1 e (b == 92) ∙ h)
     at false is again = again (b == 92) h

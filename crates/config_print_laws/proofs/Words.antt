@@ -2,7 +2,7 @@
 use Rattle.std.proofs.Common.{◌≡◌, ℕ, zero, suc, ◌+◌, ◌≤◌, ◌==◌, ◌&&◌, ◌||◌, not, List, [], ◌∷◌, ◌++◌, length, take, drop, Option, Some, None, Bool, true, false, if◌then◌else◌, refl, ap, sym, subst, ◌∙◌, arith, append_assoc}
 use Rattle.std.specs.List.{list_all}
 use Rattle.std.proofs.lemmas.Bool.Decides.{nat_tests}
-use Rattle.std.proofs.lemmas.Bool.{eqb-true, not-true}
+use Rattle.std.proofs.lemmas.Bool.{eqb-true, not-true, and_parts, and_from}
 use Rattle.std.proofs.Math.Seq.{take-append_seam, drop-append_seam}
 use Rattle.std.proofs.lemmas.List.{append-nil, take-append-drop}
 use Rattle.event_tree.specs.NumberTexts.{is_digit}
@@ -10,7 +10,6 @@ use Rattle.event_tree.specs.PathTexts.{bracketed}
 use Rattle.config_lex.specs.Bytes.{passing, skip, is_blank, is_letter, is_in_word, is_in_part, part_length, begins_with}
 use Rattle.config_lex.specs.Lexemes.{parts_at, parts_more, begins_literals}
 use Rattle.config_lex.proofs.Lexing.{parts_on, parts_stop}
-use Rattle.config_print.proofs.Bools.{and_l, and_r, both_true}
 
 -- what stands behind a token: nothing, or a blank
 abbrev pub Apart : List ℕ → Type 0
@@ -40,7 +39,7 @@ blank_case P b h p q r s = at32 (b == 32) refl h
 pub run_all : (test : ℕ → Bool) (s rest : List ℕ) → list_all test s ≡ true → passing test rest ≡ 0 → passing test (s ++ rest) ≡ length s
 unfolding passing
 run_all test [] rest h u = u
-run_all test (b ∷ s) rest h u = ap (λ z. if z then suc (passing test (s ++ rest)) else 0) (and_l (test b) (list_all test s) h) ∙ ap suc (run_all test s rest (and_r (test b) (list_all test s) h) u)
+run_all test (b ∷ s) rest h u = ap (λ z. if z then suc (passing test (s ++ rest)) else 0) (and_parts (test b) (list_all test s) h).0 ∙ ap suc (run_all test s rest (and_parts (test b) (list_all test s) h).1 u)
 
 -- and those in front do
 pub run_passes : (test : ℕ → Bool) (s : List ℕ) → list_all test (take (passing test s) s) ≡ true
@@ -49,7 +48,7 @@ run_passes test [] = refl
 run_passes test (b ∷ s) = at (test b) refl (run_passes test s)
   where
     at : (z : Bool) → test b ≡ z → list_all test (take (passing test s) s) ≡ true → list_all test (take (if z then suc (passing test s) else 0) (b ∷ s)) ≡ true
-    at true is again = both_true (test b) (list_all test (take (passing test s) s)) is again
+    at true is again = and_from (test b) (list_all test (take (passing test s) s)) is again
     at false is again = refl
 
 run_none : (test : ℕ → Bool) (b : ℕ) (s : List ℕ) → test b ≡ false → passing test (b ∷ s) ≡ 0
@@ -86,7 +85,7 @@ in_word_dashes b h = at (is_letter b) (is_digit b) (b == 45) h
 pub in_word_more : (s : List ℕ) → list_all (is_in_word false) s ≡ true → list_all (is_in_word true) s ≡ true
 in_word_more [] h = refl
 in_word_more (b ∷ s) h =
-    both_true (is_in_word true b) (list_all (is_in_word true) s) (in_word_dashes b (and_l (is_in_word false b) (list_all (is_in_word false) s) h)) (in_word_more s (and_r (is_in_word false b) (list_all (is_in_word false) s) h))
+    and_from (is_in_word true b) (list_all (is_in_word true) s) (in_word_dashes b (and_parts (is_in_word false b) (list_all (is_in_word false) s) h).0) (in_word_more s (and_parts (is_in_word false b) (list_all (is_in_word false) s) h).1)
 
 -- parts of a selector
 abbrev pub PartFits : List ℕ → Type 0
@@ -141,10 +140,10 @@ not_not false = refl
 pub opens_list : (p r : List ℕ) → list_all is_in_part p ≡ true → begins_literals (drop (skip false (p ++ 93 ∷ r)) (p ++ 93 ∷ r)) ≡ not (bare_start p)
 unfolding skip
 opens_list [] r h = refl
-opens_list (b ∷ p) r h = at (is_blank b) (opens_list p r (and_r (is_in_part b) (list_all is_in_part p) h))
+opens_list (b ∷ p) r h = at (is_blank b) (opens_list p r (and_parts (is_in_part b) (list_all is_in_part p) h).1)
   where
     no_comment : (b == 35) ≡ false
-    no_comment = let u : is_in_part b ≡ true = and_l (is_in_part b) (list_all is_in_part p) h in grind (arith, nat_tests)
+    no_comment = let u : is_in_part b ≡ true = (and_parts (is_in_part b) (list_all is_in_part p) h).0 in grind (arith, nat_tests)
 
     at : (z : Bool) → begins_literals (drop (skip false (p ++ 93 ∷ r)) (p ++ 93 ∷ r)) ≡ not (bare_start p)
         → begins_literals (drop (if z then suc (skip false (p ++ 93 ∷ r)) else (if b == 35 then suc (skip true (p ++ 93 ∷ r)) else 0)) (b ∷ (p ++ 93 ∷ r))) ≡ not (if z then bare_start p else not (begins_literals (b ∷ [])))
@@ -179,10 +178,10 @@ part_from (b ∷ s) k h = at (b == 91 && not (passing is_in_part s == 0) && begi
     at true is e =
         let m = passing is_in_part s in
         let same : m ≡ k = cc in
-        let some = not-true (m == 0) (and_r (b == 91) (not (m == 0)) (and_l (b == 91 && not (m == 0)) (begins_with 93 (drop m s)) is)) in
-        let closed = begins_is 93 (drop m s) (and_r (b == 91 && not (m == 0)) (begins_with 93 (drop m s)) is) in
+        let some = not-true (m == 0) (and_parts (b == 91) (not (m == 0)) (and_parts (b == 91 && not (m == 0)) (begins_with 93 (drop m s)) is).0).1 in
+        let closed = begins_is 93 (drop m s) (and_parts (b == 91 && not (m == 0)) (begins_with 93 (drop m s)) is).1 in
         let whole : b ∷ s ≡ 91 ∷ (take m s ++ 93 ∷ drop 1 (drop m s)) =
-        ap (λ c. c ∷ s) (eqb-true b 91 (and_l (b == 91) (not (m == 0)) (and_l (b == 91 && not (m == 0)) (begins_with 93 (drop m s)) is))) ∙ ap (λ r. 91 ∷ r) (sym (take-append-drop m s) ∙ ap (λ r. take m s ++ r) closed) in
+        ap (λ c. c ∷ s) (eqb-true b 91 (and_parts (b == 91) (not (m == 0)) (and_parts (b == 91 && not (m == 0)) (begins_with 93 (drop m s)) is).0).0) ∙ ap (λ r. 91 ∷ r) (sym (take-append-drop m s) ∙ ap (λ r. take m s ++ r) closed) in
         let fits : PartFits (take m s) = (run_passes is_in_part s, ap (λ n. n == 0) (run_length is_in_part s) ∙ some) in
         subst (λ (n : ℕ). PartRead (b ∷ s) n) same (record { rest = drop 1 (drop m s); whole = whole; fits = fits })
 

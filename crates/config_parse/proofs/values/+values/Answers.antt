@@ -7,7 +7,7 @@ use Rattle.config_parse.proofs.Joined.{fresh_entry}
 use Rattle.config_parse.specs.Read as spec
 use Rattle.config_parse.specs.Seen.{tokens_of}
 use Rattle.config_parse.proofs.Reading.{read_short}
-use Rattle.config_parse.proofs.Turns.{fewer, turned, failed, entry_short, members_turn, pairs_turn, pairs_turned, settings_turn}
+use Rattle.config_parse.proofs.Turns.{fewer, turned, failed_in, entry_short, members_turn, pairs_turn, pairs_turned, settings_turn}
 use Rattle.config_parse.proofs.values.+values.Goals as goal
 
 pub members-returns-in_ok-push-in_default : goal.members-returns-in_ok-push-in_default
@@ -18,32 +18,32 @@ members-returns-in_ok-push-in_default t_ c =
 pub more-loop-token-smaller : goal.more-loop-token-smaller
 more-loop-token-smaller t_ c = fewer (read_short c.args.depth symbol.Value (tokens_of c.in-Some.behind.now)) c.in-Some.ensures c.in_ok-member-in-Comma.ensures
 
-pub pairs-loop-found-smaller : goal.pairs-loop-found-smaller
-pairs-loop-found-smaller t_ c = fewer (entry_short c.args.depth (tokens_of c.in_ok-token.behind.now)) c.in_ok-token.ensures c.in_ok-item-in_default.ensures
+pub put_pairs-loop-token-smaller : goal.put_pairs-loop-token-smaller
+put_pairs-loop-token-smaller t_ c = fewer (entry_short c.args.depth (tokens_of c.in_ok-token.behind.now)) c.in_ok-token.ensures c.in_ok-item-in_default.ensures
 
-pub pairs-loop-found-preserved : goal.pairs-loop-found-preserved
-pairs-loop-found-preserved t_ c =
+pub put_pairs-loop-token-preserved : goal.put_pairs-loop-token-preserved
+put_pairs-loop-token-preserved t_ c =
     let new = sym c.in_ok-key-in_default.ensures ∙ c.in-Some.is in
-    rw (c.in_ok-found-in_default.ensures ∙ fresh_entry c.in-Some.key c.in_ok-item-in_default.item c.loop-found.found.entries _ new)
-    (pairs_turned c.args.depth c.loop-found.found.entries c.in-Some.key c.in_ok-item-in_default.item c.in_ok-token.ensures new c.loop-found.invariant c.in_ok-item-in_default.ensures)
+    rw (c.in_ok-put_entry-in_default.ensures ∙ fresh_entry c.in-Some.key c.in_ok-item-in_default.item c.loop-token.found.entries _ new)
+    (pairs_turned c.args.depth c.loop-token.found.entries c.in-Some.key c.in_ok-item-in_default.item c.in_ok-token.ensures new c.loop-token.invariant c.in_ok-item-in_default.ensures)
 
-pub pairs-returns-in_err-item-in_default : goal.pairs-returns-in_err-item-in_default
-pairs-returns-in_err-item-in_default t_ c =
-    let front = c.loop-found.found.entries in
+pub put_pairs-returns-in_err-item-in_default : goal.put_pairs-returns-in_err-item-in_default
+put_pairs-returns-in_err-item-in_default t_ c =
+    let front = c.loop-token.found.entries in
     let new = sym c.in_ok-key-in_default.ensures ∙ c.in-Some.is in
-    failed (λ table. table.entries) (spec.read c.args.depth (symbol.Pairs (spec.keys_of front))) _ _ front _ _ _ c.from_residual-in_err-item-in_default.result c.from_residual-in_err-item-in_default.ensures.1 (pairs_turn c.args.depth front c.in-Some.key c.in_ok-token.ensures new) c.loop-found.invariant
+    failed_in _ (spec.pairs c.args.depth c.args.found.now.entries) c.args.tokens.now (spec.read c.args.depth (symbol.Pairs (spec.keys_of front))) _ _ front _ _ _ c.from_residual-in_err-item-in_default.result c.from_residual-in_err-item-in_default.ensures.1 (pairs_turn c.args.depth front c.in-Some.key c.in_ok-token.ensures new) c.loop-token.invariant
     c.in_err-item-in_default.ensures
 
-pub settings-loop-found-smaller : goal.settings-loop-found-smaller
-settings-loop-found-smaller t_ c = fewer (entry_short c.args.depth (tokens_of c.in_ok-token.behind.now)) c.in_ok-token.ensures c.in_ok-item-in_default.ensures
+pub put_settings-loop-token-smaller : goal.put_settings-loop-token-smaller
+put_settings-loop-token-smaller t_ c = fewer (entry_short c.args.depth (tokens_of c.in_ok-token.behind.now)) c.in_ok-token.ensures c.in_ok-item-in_default.ensures
 
-pub settings-loop-found-preserved : goal.settings-loop-found-preserved
-settings-loop-found-preserved t_ c =
+pub put_settings-loop-token-preserved : goal.put_settings-loop-token-preserved
+put_settings-loop-token-preserved t_ c =
     let settings = spec.read c.args.depth symbol.Settings in
-    rw c.in_ok-found-in_default.ensures (turned settings settings (λ front x. with_setting c.in-Some.name x front) _ _ (settings_turn c.args.depth c.in-Some.name c.in_ok-token.ensures (sym c.in_ok-name-in_default.ensures ∙ c.in-Some.is)) c.loop-found.invariant c.in_ok-item-in_default.ensures)
+    rw c.in_ok-put_setting-in_default.ensures (turned settings settings (λ front x. with_setting c.in-Some.name x front) _ _ (settings_turn c.args.depth c.in-Some.name c.in_ok-token.ensures (sym c.in_ok-name-in_default.ensures ∙ c.in-Some.is)) c.loop-token.invariant c.in_ok-item-in_default.ensures)
 
-pub settings-returns-in_err-item-in_default : goal.settings-returns-in_err-item-in_default
-settings-returns-in_err-item-in_default t_ c =
+pub put_settings-returns-in_err-item-in_default : goal.put_settings-returns-in_err-item-in_default
+put_settings-returns-in_err-item-in_default t_ c =
     let settings = spec.read c.args.depth symbol.Settings in
-    failed (λ x. x) settings settings (λ front x. with_setting c.in-Some.name x front) (values_of c.loop-found.found.entries) _ _ _ c.from_residual-in_err-item-in_default.result c.from_residual-in_err-item-in_default.ensures.1
-    (settings_turn c.args.depth c.in-Some.name c.in_ok-token.ensures (sym c.in_ok-name-in_default.ensures ∙ c.in-Some.is)) c.loop-found.invariant c.in_err-item-in_default.ensures
+    failed_in _ (spec.settings c.args.depth (values_of c.args.found.now.entries)) c.args.tokens.now settings settings (λ front x. with_setting c.in-Some.name x front) (values_of c.loop-token.found.entries) _ _ _ c.from_residual-in_err-item-in_default.result
+    c.from_residual-in_err-item-in_default.ensures.1 (settings_turn c.args.depth c.in-Some.name c.in_ok-token.ensures (sym c.in_ok-name-in_default.ensures ∙ c.in-Some.is)) c.loop-token.invariant c.in_err-item-in_default.ensures

@@ -1,4 +1,4 @@
-use Rattle.std.proofs.Common.{◌≡◌, [], length, ◌+◌, ◌*◌}
+use Rattle.std.proofs.Common.{◌≡◌, length, ◌+◌, ◌*◌}
 use Rattle.config_grammar.specs.Symbols as symbol
 use Rattle.config_parse.specs.Read as spec
 use Rattle.config_parse.specs.Seen.{tokens_of}
@@ -23,11 +23,17 @@ decreases-single_entry l = 6 * l.depth + 3
 abbrev pub decreases-more : goal.decreases-more
 decreases-more l = 6 * l.depth + 4
 
+abbrev pub decreases-put_pairs : goal.decreases-put_pairs
+decreases-put_pairs l = 6 * l.depth + 4
+
+abbrev pub decreases-put_settings : goal.decreases-put_settings
+decreases-put_settings l = 6 * l.depth + 4
+
 abbrev pub decreases-pairs : goal.decreases-pairs
-decreases-pairs l = 6 * l.depth + 4
+decreases-pairs l = 6 * l.depth + 5
 
 abbrev pub decreases-settings : goal.decreases-settings
-decreases-settings l = 6 * l.depth + 4
+decreases-settings l = 6 * l.depth + 5
 
 abbrev pub decreases-members : goal.decreases-members
 decreases-members l = 6 * l.depth + 5
@@ -38,14 +44,14 @@ invariant-more-loop-token l = spec.behind l.found (spec.read l.depth symbol.More
 abbrev pub decreases-more-loop-token : goal.decreases-more-loop-token
 decreases-more-loop-token l = length (tokens_of l.rest)
 
-abbrev pub invariant-pairs-loop-found : goal.invariant-pairs-loop-found
-invariant-pairs-loop-found l = spec.behind l.found.entries (spec.read l.depth (symbol.Pairs (spec.keys_of l.found.entries))) (tokens_of l.rest) ≡ spec.behind [] (spec.read l.depth (symbol.Pairs [])) (tokens_of l.fn.tokens)
+abbrev pub invariant-put_pairs-loop-token : goal.invariant-put_pairs-loop-token
+invariant-put_pairs-loop-token l = spec.pairs l.depth l.found.entries (tokens_of l.rest) ≡ spec.pairs l.depth l.fn.found.entries (tokens_of l.fn.tokens)
 
-abbrev pub decreases-pairs-loop-found : goal.decreases-pairs-loop-found
-decreases-pairs-loop-found l = length (tokens_of l.rest)
+abbrev pub decreases-put_pairs-loop-token : goal.decreases-put_pairs-loop-token
+decreases-put_pairs-loop-token l = length (tokens_of l.rest)
 
-abbrev pub invariant-settings-loop-found : goal.invariant-settings-loop-found
-invariant-settings-loop-found l = spec.behind (values_of l.found.entries) (spec.read l.depth symbol.Settings) (tokens_of l.rest) ≡ spec.behind [] (spec.read l.depth symbol.Settings) (tokens_of l.fn.tokens)
+abbrev pub invariant-put_settings-loop-token : goal.invariant-put_settings-loop-token
+invariant-put_settings-loop-token l = spec.settings l.depth (values_of l.found.entries) (tokens_of l.rest) ≡ spec.settings l.depth (values_of l.fn.found.entries) (tokens_of l.fn.tokens)
 
-abbrev pub decreases-settings-loop-found : goal.decreases-settings-loop-found
-decreases-settings-loop-found l = length (tokens_of l.rest)
+abbrev pub decreases-put_settings-loop-token : goal.decreases-put_settings-loop-token
+decreases-put_settings-loop-token l = length (tokens_of l.rest)
