@@ -1,0 +1,104 @@
+use event_json::{JsonFault, read_json, write_json};
+use event_text::{path_in, try_put};
+use event_tree::{Event, Items, Path, Text, Value};
+use std::alloc::{AllocError, Global};
+use std::str;
+
+/// How many bytes of JSON are told; of a longer text its length is.
+const TOLD: usize = 1000;
+
+/// The event that is written so: JSON, and then any number of ` with PATH VALUE`.
+pub fn event_of(alloc: Global, written: &str) -> Result<Event, AllocError> {
+    let mut event = Event::new(alloc);
+    let mut first = true;
+    for part in written.split(" with ") {
+        if first {
+            put_members(&mut event, &json_value(alloc, part)?)?;
+        } else {
+            put_written(&mut event, alloc, part)?;
+        }
+        first = false;
+    }
+    Ok(event)
+}
+
+fn put_members(event: &mut Event, value: &Value) -> Result<(), AllocError> {
+    let Value::Object(fields) = value else {
+        return Ok(());
+    };
+    for member in fields.members() {
+        put_member(event, &member.0, &member.1)?;
+    }
+    Ok(())
+}
+
+fn put_member(event: &mut Event, key: &Text, value: &Value) -> Result<(), AllocError> {
+    let mut parts = Items::new(key.allocator());
+    parts.push(key.copy()?)?;
+    try_put(event, &Path::of_parts(parts), value.copy()?)
+}
+
+fn put_written(event: &mut Event, alloc: Global, written: &str) -> Result<(), AllocError> {
+    let (path, value) = written.split_once(' ').unwrap_or((written, ""));
+    let path = repeated(alloc, path)?;
+    match path_in(alloc, path.as_str())? {
+        Some(path) => try_put(event, &path, value_of(alloc, value)?),
+        None => Ok(()),
+    }
+}
+
+/// `COUNT*TEXT`, or the text itself.
+fn repeated(alloc: Global, written: &str) -> Result<Text, AllocError> {
+    match written.split_once('*') {
+        Some((count, text)) => {
+            let count = count.parse::<usize>().unwrap_or(0);
+            Ok(Text::from_string(text.repeat(alloc, count)?))
+        }
+        None => Text::of(alloc, written),
+    }
+}
+
+fn value_of(alloc: Global, written: &str) -> Result<Value, AllocError> {
+    if written.contains('*') {
+        Ok(Value::Text(repeated(alloc, written)?))
+    } else {
+        json_value(alloc, written)
+    }
+}
+
+fn json_value(alloc: Global, written: &str) -> Result<Value, AllocError> {
+    match read_json(alloc, written.as_bytes()) {
+        Ok(value) => Ok(value),
+        Err(JsonFault::Memory) => Err(AllocError),
+        Err(_) => Ok(Value::Null),
+    }
+}
+
+/// Adds the JSON of an event, and behind `@` that of its metadata where it has any.
+pub fn add_event(to: &mut String, event: &Event) -> Result<(), AllocError> {
+    add_json(to, event.fields())?;
+    if has_members(event.meta()) {
+        to.push('@')?;
+        add_json(to, event.meta())?;
+    }
+    Ok(())
+}
+
+fn has_members(value: &Value) -> bool {
+    match value {
+        Value::Object(fields) => !fields.members().is_empty(),
+        _ => false,
+    }
+}
+
+fn add_json(to: &mut String, value: &Value) -> Result<(), AllocError> {
+    let mut bytes = Vec::new(*to.allocator());
+    write_json(value, &mut bytes)?;
+    if bytes.len() > TOLD {
+        return write!(to, "{} bytes of JSON", bytes.len());
+    }
+    match str::from_utf8(&bytes) {
+        Ok(text) => to.push_str(text),
+        Err(_) => to.push_str("no UTF-8"),
+    }
+}

@@ -1,0 +1,34 @@
+use config_tree::Plugin;
+use event_tree::Event;
+use filter_settings::{Applied, FromFault};
+use filters_shape::{CloneFilter, DropFilter, SplitFilter};
+use std::alloc::AllocError;
+
+/// A filter of any kind.
+#[derive(Drop)]
+pub enum Filter {
+    Clone(CloneFilter),
+    Split(SplitFilter),
+    Drop(DropFilter),
+}
+
+impl Filter {
+    /// The filter that a plugin is, or `None` where none has its name.
+    pub fn read(plugin: &Plugin) -> Result<Option<Filter>, FromFault> {
+        let settings = &plugin.settings;
+        match plugin.name.as_str() {
+            "clone" => Ok(Some(Filter::Clone(CloneFilter::from_settings(settings)?))),
+            "split" => Ok(Some(Filter::Split(SplitFilter::from_settings(settings)?))),
+            "drop" => Ok(Some(Filter::Drop(DropFilter::from_settings(settings)?))),
+            _ => Ok(None),
+        }
+    }
+
+    pub fn apply(&self, event: Event) -> Result<Applied, AllocError> {
+        match self {
+            Filter::Clone(filter) => filter.apply(event),
+            Filter::Split(filter) => filter.apply(event),
+            Filter::Drop(filter) => filter.apply(event),
+        }
+    }
+}

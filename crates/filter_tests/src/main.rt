@@ -1,0 +1,40 @@
+//! Prints what filters make of events in each row of the tables in `data/`, table by table.
+//!
+//! A table is a file, and each of its lines is a row:
+//!
+//! - `FILTER on EVENT`: a filter as it stands in a configuration, and an event as JSON, in which `@metadata` is the
+//!   event's metadata. Behind it any number of ` with PATH VALUE` put values into the event: JSON, or `COUNT*TEXT` for a
+//!   text of so many times that text. A path may be written so, too.
+//! - `FILTER` alone: whether its settings are read, or why they are refused.
+//!
+//! The answers in `stdout` were worked out by hand from the tables of the plugins: whether the filter matched, and the
+//! events that stand in the event's place.
+#![tactic(auto)]
+
+mod events;
+mod filters;
+mod rows;
+
+use std::{fs, io};
+
+const TABLES: [&str; 8] = [
+    "settings", "clone", "split", "drop", "options", "tags", "refused", "worked",
+];
+
+fn main(rt: HostRuntime) -> io::Result<()> {
+    for name in &TABLES {
+        let table = fs::read_to_string(&rt, *name)?;
+        println!(rt; "# {name}")?;
+        print_answers(&rt, table.as_str())?;
+    }
+    Ok(())
+}
+
+fn print_answers(rt: &HostRuntime, table: &str) -> io::Result<()> {
+    for row in table.lines() {
+        let mut answer = String::new(rt.alloc());
+        rows::add_answer(&mut answer, row)?;
+        println!(rt; "{answer}")?;
+    }
+    Ok(())
+}
