@@ -15,6 +15,7 @@ pub mod WrittenStrings
 pub mod DecimalDigits
 pub mod WrittenNumbers
 pub mod WrittenValues
+pub mod Timeless
 pub mod NumberParts
 pub mod LeastForms
 pub mod Gathered

@@ -43,25 +43,25 @@ untimed_equations : IsFold Value untimed_step untimed
 unfolding untimed
 untimed_equations = fold_is Value untimed_step
 
-untimed-Null : untimed v.Null ≡ v.Null
+pub untimed-Null : untimed v.Null ≡ v.Null
 untimed-Null = untimed_equations.null
 
-untimed-Bool : (b : Bool) → untimed (v.Bool b) ≡ v.Bool b
+pub untimed-Bool : (b : Bool) → untimed (v.Bool b) ≡ v.Bool b
 untimed-Bool b = untimed_equations.bool b
 
-untimed-Num : (n : Num) → untimed (v.Num n) ≡ v.Num n
+pub untimed-Num : (n : Num) → untimed (v.Num n) ≡ v.Num n
 untimed-Num n = untimed_equations.number n
 
-untimed-Text : (s : List ℕ) → untimed (v.Text s) ≡ v.Text s
+pub untimed-Text : (s : List ℕ) → untimed (v.Text s) ≡ v.Text s
 untimed-Text s = untimed_equations.text s
 
 untimed-Time : (t : ℤ) → untimed (v.Time t) ≡ v.Text (time_text_of t)
 untimed-Time t = untimed_equations.time t
 
-untimed-List : (vs : List Value) → untimed (v.List vs) ≡ v.List (map untimed vs)
+pub untimed-List : (vs : List Value) → untimed (v.List vs) ≡ v.List (map untimed vs)
 untimed-List vs = untimed_equations.list vs
 
-untimed-Object : (ms : Members) → untimed (v.Object ms) ≡ v.Object (on_values untimed ms)
+pub untimed-Object : (ms : Members) → untimed (v.Object ms) ≡ v.Object (on_values untimed ms)
 untimed-Object ms = untimed_equations.object ms
 
 -- the text is that of a node with this value, in UTF-8

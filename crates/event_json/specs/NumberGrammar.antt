@@ -33,4 +33,5 @@ parts_of x = record {
 -- the text is one of the grammar and the number has its value; none where no number of 64 bits in least form has
 abbrev pub IsNumberText : Option Num → List ℕ → Type 0
 IsNumberText (Some n) text = (x : Number) × IsNumber x × (text ≡ number_bytes x) × StandsFor n (parts_of x)
-IsNumberText None text = (x : Number) → IsNumber x → text ≡ number_bytes x → (n : Num) → IsLeast n.mantissa n.scale → IsI64 n.mantissa → StandsFor n (parts_of x) → ⊥
+IsNumberText None text = (x : Number) → IsNumber x → text ≡ number_bytes x
+    → (n : Num) → IsLeast n.mantissa n.scale → IsI64 n.mantissa → StandsFor n (parts_of x) → ⊥

@@ -46,11 +46,15 @@ after_plain_run (b ∷ bs) = if is_plain b then after_plain_run bs else b ∷ bs
 
 -- the rest of a string is read on from here, with the surrogate that waits and the text so far, and some of it was read
 abbrev pub GoesOn : {Z : Type 0} → Inside → Option ℕ → List ℕ → String Z → String Z → Option ℕ → List ℕ → Type 0
-GoesOn place waits text old new waiting rest = (inside_at text place waits (string_bytes old) ≡ inside_at rest plainly waiting (string_bytes new)) × (length rest < length text)
+GoesOn place waits text old new waiting rest =
+    (inside_at text place waits (string_bytes old) ≡ inside_at rest plainly waiting (string_bytes new))
+    × (length rest < length text)
 
 -- the same where none of it may have been read
 abbrev pub Passes : {Z : Type 0} → Inside → Option ℕ → List ℕ → String Z → String Z → Option ℕ → List ℕ → Type 0
-Passes place waits text old new waiting rest = (inside_at text place waits (string_bytes old) ≡ inside_at rest plainly waiting (string_bytes new)) × (length rest ≤ length text)
+Passes place waits text old new waiting rest =
+    (inside_at text place waits (string_bytes old) ≡ inside_at rest plainly waiting (string_bytes new))
+    × (length rest ≤ length text)
 
 -- the string can't be read on so
 abbrev pub FailsInside : {Z : Type 0} → Inside → Option ℕ → List ℕ → String Z → JsonStop → Type 0

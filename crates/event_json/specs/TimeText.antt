@@ -15,7 +15,10 @@ abbrev pub four_digits : ℕ → List ℕ
 four_digits n = digit 1000 n ∷ digit 100 n ∷ digit 10 n ∷ digit 1 n ∷ []
 
 abbrev pub nine_digits : ℕ → List ℕ
-nine_digits n = digit 100000000 n ∷ digit 10000000 n ∷ digit 1000000 n ∷ digit 100000 n ∷ digit 10000 n ∷ digit 1000 n ∷ digit 100 n ∷ digit 10 n ∷ digit 1 n ∷ []
+nine_digits n =
+    digit 100000000 n ∷ digit 10000000 n ∷ digit 1000000 n
+    ∷ digit 100000 n ∷ digit 10000 n ∷ digit 1000 n
+    ∷ digit 100 n ∷ digit 10 n ∷ digit 1 n ∷ []
 
 -- of the years 1 to n the last one that begins on the day or before it: 0 where none does
 unfoldable pub last_year : ℕ → ℤ → ℕ

@@ -1,6 +1,7 @@
 -- What JSON can say of a value: it has no times, so that a time stands as its text.
-use Rattle.std.specs.Prelude.{ℕ, ◌≤◌}
+use Rattle.std.specs.Prelude.{ℕ, ◌≤◌, List, [], ◌∷◌, Bool, true, false, ◌&&◌}
 use Rattle.event_tree.specs.Values.{depth}
+use Rattle.event_tree.specs.Sound.{all_true}
 use Rattle.event_json_laws.specs.Json.{JsonWithin}
 use Rattle.event_json.specs.TimeText.{time_text_of}
 use Rattle.event_json.specs.Json.{json}
@@ -25,3 +26,20 @@ untimed = fold-Value Value untimed_step
 -- the text that is written of the value is a text of it, but for its times, of as many levels as it has or more
 abbrev pub ReadsBack : Value → Type 0
 ReadsBack value = (levels : ℕ) → depth value ≤ levels → JsonWithin levels (json value) (untimed value)
+
+abbrev pub all_values_true : List (List ℕ × Bool) → Bool
+all_values_true [] = true
+all_values_true (m ∷ ms) = m.1 && all_values_true ms
+
+abbrev pub timeless_step : Value-F Bool → Bool
+timeless_step Value-F.Null = true
+timeless_step (Value-F.Bool b) = true
+timeless_step (Value-F.Num n) = true
+timeless_step (Value-F.Text s) = true
+timeless_step (Value-F.Time t) = false
+timeless_step (Value-F.List bs) = all_true bs
+timeless_step (Value-F.Object ms) = all_values_true ms
+
+-- no time stands in the value
+unfoldable pub timeless : Value → Bool
+timeless = fold-Value Bool timeless_step

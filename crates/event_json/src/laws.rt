@@ -7,13 +7,19 @@ ghost use Rattle.event_tree.specs.declared.value.Value.{Value};
 ghost use Rattle.event_json.specs.LeastForms.{IsValueOf};
 ghost use Rattle.event_json.specs.NumberGrammar.{IsNumberText};
 ghost use Rattle.event_json.specs.TextLaws.{TextsHaveOneValue, TextsAreComputed, TextsHaveNoFault, FaultsAreOne};
-ghost use Rattle.event_json.specs.Untimed.{ReadsBack};
+ghost use Rattle.event_json.specs.Untimed.{ReadsBack, timeless, untimed};
 
 /// What `write_json` writes of a value is a JSON text of that value with the text of each time in its
 /// place, of as many levels as the value has. With at most 100 of them `read_json` therefore reads it
 /// so.
 pub fn what_is_written_reads_back()
     ensures { (value : Value) → sound value ≡ true → ReadsBack value }
+{}
+
+/// A value in which no time stands is itself with the text of each time in its place: `read_json` reads
+/// what `write_json` writes of such a value as that value, where it nests at most 100 deep.
+pub fn values_without_times_stay()
+    ensures { (value : Value) → sound value ≡ true → timeless value ≡ true → untimed value ≡ value }
 {}
 
 /// What `Number::read` answers is what the grammar of JSON says (RFC 8259, section 6): the number of 64

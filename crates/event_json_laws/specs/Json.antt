@@ -36,7 +36,8 @@ abbrev mutual
 
 -- the bytes are a JSON text of the value d, with at most so many levels, in UTF-8 (section 8.1)
 abbrev pub JsonWithin : ℕ → List ℕ → Value → Type 0
-JsonWithin levels bytes d = (t : Text) × IsText t × (text_levels t ≤ levels) × (bytes ≡ text_bytes t) × (text_value t ≡ d) × IsUtf8 bytes
+JsonWithin levels bytes d = (t : Text) × IsText t × (text_levels t ≤ levels)
+    × (bytes ≡ text_bytes t) × (text_value t ≡ d) × IsUtf8 bytes
 
 -- the bytes are a JSON text of the value d
 abbrev pub Json : List ℕ → Value → Type 0
@@ -52,8 +53,11 @@ IsFrontWithin levels bytes = (more : List ℕ) × (d : Value) × JsonWithin leve
 
 -- the first k bytes begin a JSON text of at most so many levels, and the byte at k is the first that none has after them; or they are all there are, and end early
 abbrev pub StopsAt : ℕ → List ℕ → ℕ → Type 0
-StopsAt levels bytes k = (k ≤ length bytes) × IsFrontWithin levels (take k bytes) × (k < length bytes → IsFront (take (suc k) bytes) → ⊥) × (k ≡ length bytes → (d : Value) → Json bytes d → ⊥)
+StopsAt levels bytes k = (k ≤ length bytes) × IsFrontWithin levels (take k bytes)
+    × (k < length bytes → IsFront (take (suc k) bytes) → ⊥)
+    × (k ≡ length bytes → (d : Value) → Json bytes d → ⊥)
 
 -- the byte at k opens a level more than so many: texts that begin as the bytes do up to it have more levels, and before it there are some that have not
 abbrev pub PassesAt : ℕ → List ℕ → ℕ → Type 0
-PassesAt levels bytes k = (k < length bytes) × IsFrontWithin levels (take k bytes) × IsFront (take (suc k) bytes) × (IsFrontWithin levels (take (suc k) bytes) → ⊥)
+PassesAt levels bytes k = (k < length bytes) × IsFrontWithin levels (take k bytes)
+    × IsFront (take (suc k) bytes) × (IsFrontWithin levels (take (suc k) bytes) → ⊥)

@@ -17,7 +17,10 @@ stripped m (suc s) = if m % 10 == 0 then stripped (m / 10) s else record { digit
 
 -- none where there are more than 18 places, or the digits don't fit 64 bits with their sign
 abbrev pub held_number : Bool → Places → Option Num
-held_number negative p = if nat_le p.places 18 && nat_le p.digits (most negative) then Some (record { mantissa = signed negative p.digits; scale = p.places }) else None
+held_number negative p =
+    if nat_le p.places 18 && nat_le p.digits (most negative)
+    then Some (record { mantissa = signed negative p.digits; scale = p.places })
+    else None
 
 -- the least form of a decimal's value
 abbrev pub value_of : Decimal → Option Num

@@ -92,7 +92,11 @@ pub data Turn : Type 0 where
   go : (place : Inside) → (waits : Option ℕ) → (found : List ℕ) → Turn
 
 abbrev pub plain_turn : Option ℕ → List ℕ → ℕ → Turn
-plain_turn waits found b = if b == quote then closed (found ++ lone waits) else (if b == backslash then go escaped waits found else (if nat_lt b 32 then halt else go plainly None (found ++ (lone waits ++ b ∷ []))))
+plain_turn waits found b =
+    if b == quote then closed (found ++ lone waits)
+    else (if b == backslash then go escaped waits found
+    else (if nat_lt b 32 then halt
+    else go plainly None (found ++ (lone waits ++ b ∷ []))))
 
 abbrev pub short_turn : Option ℕ → Option ℕ → List ℕ → Turn
 short_turn None waits found = halt
@@ -180,11 +184,19 @@ text_at bytes = string_at bytes >>= λ x. Ok (v.Text x.0, x.1)
 -- a literal or a number, by its first byte
 abbrev pub scalar_at : Reads Value
 scalar_at [] = Err (At 0)
-scalar_at (b ∷ bs) = if b == small_n then word_at (codes "null") v.Null (b ∷ bs) else (if b == small_t then word_at (codes "true") (v.Bool true) (b ∷ bs) else (if b == small_f then word_at (codes "false") (v.Bool false) (b ∷ bs) else number_at (b ∷ bs)))
+scalar_at (b ∷ bs) =
+    if b == small_n then word_at (codes "null") v.Null (b ∷ bs)
+    else (if b == small_t then word_at (codes "true") (v.Bool true) (b ∷ bs)
+    else (if b == small_f then word_at (codes "false") (v.Bool false) (b ∷ bs)
+    else number_at (b ∷ bs)))
 
 abbrev pub node_with : Reads Value → Reads Value → Reads Value
 node_with lists objects [] = Err (At 0)
-node_with lists objects (b ∷ bs) = if b == quote then text_at bs else (if b == opening_bracket then lists bs else (if b == opening_brace then objects bs else scalar_at (b ∷ bs)))
+node_with lists objects (b ∷ bs) =
+    if b == quote then text_at bs
+    else (if b == opening_bracket then lists bs
+    else (if b == opening_brace then objects bs
+    else scalar_at (b ∷ bs)))
 
 abbrev pub too_deep : Reads Value
 too_deep bs = Err (Deep (suc (length bs)))

@@ -15,11 +15,24 @@ is_plain b = not (nat_lt b 32) && (not (b == quote) && not (b == backslash))
 
 -- what a backslash and a letter stand for: `"`, `\`, `/`, and `b`, `f`, `n`, `r` and `t`
 abbrev pub short_of : ℕ → Option ℕ
-short_of c = if c == quote then Some quote else (if c == backslash then Some backslash else (if c == slash then Some slash else (if c == small_b then Some backspace else (if c == small_f then Some form_feed else (if c == small_n then Some line_feed else (if c == small_r then Some carriage_return else (if c == small_t then Some tab else None)))))))
+short_of c =
+    if c == quote then Some quote
+    else (if c == backslash then Some backslash
+    else (if c == slash then Some slash
+    else (if c == small_b then Some backspace
+    else (if c == small_f then Some form_feed
+    else (if c == small_n then Some line_feed
+    else (if c == small_r then Some carriage_return
+    else (if c == small_t then Some tab
+    else None)))))))
 
 -- a digit in base 16, in either case
 abbrev pub hex_of : ℕ → Option ℕ
-hex_of b = if nat_le 48 b && nat_le b 57 then Some (b - 48) else (if nat_le 97 b && nat_le b 102 then Some (b - 87) else (if nat_le 65 b && nat_le b 70 then Some (b - 55) else None))
+hex_of b =
+    if nat_le 48 b && nat_le b 57 then Some (b - 48)
+    else (if nat_le 97 b && nat_le b 102 then Some (b - 87)
+    else (if nat_le 65 b && nat_le b 70 then Some (b - 55)
+    else None))
 
 -- the piece is one, and its value
 abbrev pub IsHex : ℕ → Type 0

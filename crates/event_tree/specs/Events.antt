@@ -75,7 +75,9 @@ object_put ps d old = option_and_then object (put ps d old)
 
 -- none where the way leads through neither object nor list, or where `meta` itself would become no object
 abbrev pub event_put : Way → Value → Ev → Option Ev
-event_put w d e = if w.meta then option_map (with_meta e) (object_put w.parts d e.meta) else option_map (with_fields e) (object_put w.parts d e.fields)
+event_put w d e =
+    if w.meta then option_map (with_meta e) (object_put w.parts d e.meta)
+    else option_map (with_fields e) (object_put w.parts d e.fields)
 
 -- what is taken, and the event that is left: `meta` itself leaves an empty object
 abbrev pub take_meta : List (List ℕ) → Value → Option (Value × Value)
@@ -83,7 +85,9 @@ take_meta [] d = Some (d, v.Object [])
 take_meta (p ∷ ps) d = take (p ∷ ps) d
 
 abbrev pub event_take : Way → Ev → Option (Value × Ev)
-event_take w e = if w.meta then option_map (λ r. (r.0, with_meta e r.1)) (take_meta w.parts e.meta) else option_map (λ r. (r.0, with_fields e r.1)) (take w.parts e.fields)
+event_take w e =
+    if w.meta then option_map (λ r. (r.0, with_meta e r.1)) (take_meta w.parts e.meta)
+    else option_map (λ r. (r.0, with_fields e r.1)) (take w.parts e.fields)
 
 -- append, where an object comes of it
 abbrev pub object_append : List (List ℕ) → Value → Value → Option Value
@@ -91,7 +95,9 @@ object_append ps d old = option_and_then object (append ps d old)
 
 -- none where no list stands there
 abbrev pub event_append : Way → Value → Ev → Option Ev
-event_append w d e = if w.meta then option_map (with_meta e) (object_append w.parts d e.meta) else option_map (with_fields e) (object_append w.parts d e.fields)
+event_append w d e =
+    if w.meta then option_map (with_meta e) (object_append w.parts d e.meta)
+    else option_map (with_fields e) (object_append w.parts d e.fields)
 
 -- the event that there will be, or the first of the reasons why not
 abbrev pub limited : Option Ev → Result Ev PutFault

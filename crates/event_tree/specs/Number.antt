@@ -19,4 +19,7 @@ pub record IsLeast (mantissa : ℤ) (scale : ℕ) : Type 0 where
 -- the least form: trailing zeros are dropped as long as there are places; none where more than 18 are left
 abbrev pub least : ℤ → ℕ → Option Num
 least m zero = Some (record { mantissa = m; scale = 0 })
-least m (suc s) = if int_eq (int_rem m (pos 10)) (pos 0) then least (int_div m (pos 10)) s else (if nat_le (suc s) 18 then Some (record { mantissa = m; scale = suc s }) else None)
+least m (suc s) =
+    if int_eq (int_rem m (pos 10)) (pos 0) then least (int_div m (pos 10)) s
+    else (if nat_le (suc s) 18 then Some (record { mantissa = m; scale = suc s })
+    else None)

@@ -54,16 +54,25 @@ only_digits lower ds rest = if length ds == 0 || not (length rest == 0) then Non
 -- the whole text as an exponent, which begins with `e` or `E`
 abbrev pub exponent_of : List ℕ → Option (Bool × List ℕ)
 exponent_of [] = Some (false, [])
-exponent_of (b ∷ bs) = if b == small_e || b == capital_e then only_digits (split_sign bs).0 (digits_front (split_sign bs).1) (digits_behind (split_sign bs).1) else None
+exponent_of (b ∷ bs) =
+    if b == small_e || b == capital_e
+    then only_digits (split_sign bs).0 (digits_front (split_sign bs).1) (digits_behind (split_sign bs).1)
+    else None
+
+-- the parts, where those of the exponent are known too
+abbrev pub with_exponent : Bool → List ℕ → List ℕ → Bool × List ℕ → Decimal
+with_exponent negative whole fraction e =
+    record { negative = negative; whole = whole; fraction = fraction; lower = e.0; exponent = e.1 }
 
 -- the parts, where the digits before the point and those behind it are known: an exponent is the rest
 abbrev pub decimal_with : Bool → List ℕ → List ℕ → List ℕ → Option Decimal
-decimal_with negative whole fraction rest = option_map (λ e. record { negative = negative; whole = whole; fraction = fraction; lower = e.0; exponent = e.1 }) (exponent_of rest)
+decimal_with negative whole fraction rest = option_map (with_exponent negative whole fraction) (exponent_of rest)
 
 -- the parts of what stands behind the sign: a whole number, then a fraction, then an exponent
 abbrev pub decimal_behind : Bool → List ℕ → Option Decimal
 decimal_behind negative bs =
-    if is_whole (digits_front bs) then option_and_then (λ f. decimal_with negative (digits_front bs) f.0 f.1) (fraction_of (digits_behind bs))
+    if is_whole (digits_front bs)
+    then option_and_then (λ f. decimal_with negative (digits_front bs) f.0 f.1) (fraction_of (digits_behind bs))
     else None
 
 -- the parts of a text that is a number
@@ -123,7 +132,8 @@ most false = 9223372036854775807
 -- the number with these digits before the point and behind it; none with more than 18 places, or beyond 64 bits
 abbrev pub numeral : Bool → List ℕ → List ℕ → Option Num
 numeral negative whole places =
-    if nat_le (length places) 18 then option_and_then (λ k. least (signed negative k) (length places)) (at_most (most negative) (Some (number (number 0 whole) places)))
+    if nat_le (length places) 18
+    then option_and_then (λ k. least (signed negative k) (length places)) (at_most (most negative) (Some (number (number 0 whole) places)))
     else None
 
 -- in 64 bits

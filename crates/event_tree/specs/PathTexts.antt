@@ -32,7 +32,9 @@ IsPathText ps text = (IsName text × (ps ≡ text ∷ [])) ⊎ ((0 < length ps) 
 
 -- the text is empty, or an empty pair of brackets stands behind parts that are in order
 abbrev pub IsEmptyFault : List ℕ → Type 0
-IsEmptyFault text = (text ≡ []) ⊎ ((ps : List (List ℕ)) × (more : List ℕ) × AreNames ps × (text ≡ bracketed ps ++ opening_bracket ∷ closing_bracket ∷ more))
+IsEmptyFault text = (text ≡ [])
+    ⊎ ((ps : List (List ℕ)) × (more : List ℕ) × AreNames ps
+    × (text ≡ bracketed ps ++ opening_bracket ∷ closing_bracket ∷ more))
 
 -- the text ends here, or another `[` stands here
 abbrev pub EndsOrOpens : List ℕ → Type 0
@@ -46,11 +48,15 @@ IsUnclosed at text = (ps : List (List ℕ)) × (name : List ℕ) × (rest : List
 
 -- behind one part or more that are in order stands a byte that is no `[`
 abbrev pub IsStrayOutside : ℕ → List ℕ → Type 0
-IsStrayOutside at text = (ps : List (List ℕ)) × (b : ℕ) × (more : List ℕ) × (0 < length ps) × AreNames ps × (b ≢ opening_bracket) × (text ≡ bracketed ps ++ b ∷ more) × (at ≡ length (bracketed ps))
+IsStrayOutside at text = (ps : List (List ℕ)) × (b : ℕ) × (more : List ℕ)
+    × (0 < length ps) × AreNames ps × (b ≢ opening_bracket)
+    × (text ≡ bracketed ps ++ b ∷ more) × (at ≡ length (bracketed ps))
 
 -- the text begins with no `[`, and has a bracket behind bytes that are none
 abbrev pub IsStrayInside : ℕ → List ℕ → Type 0
-IsStrayInside at text = (name : List ℕ) × (b : ℕ) × (more : List ℕ) × NoBracket name × (is_bracket b ≡ true) × (b ≡ opening_bracket → 0 < length name) × (text ≡ name ++ b ∷ more) × (at ≡ length name)
+IsStrayInside at text = (name : List ℕ) × (b : ℕ) × (more : List ℕ)
+    × NoBracket name × (is_bracket b ≡ true) × (b ≡ opening_bracket → 0 < length name)
+    × (text ≡ name ++ b ∷ more) × (at ≡ length name)
 
 abbrev pub IsPathFault : PathFault → List ℕ → Type 0
 IsPathFault Empty text = IsEmptyFault text
@@ -72,7 +78,8 @@ pub record IsPartAt (text : List ℕ) (at end : ℕ) : Type 0 where
 
 -- behind parts that are in order, up to this place, the text has this fault
 abbrev pub IsFaultAt : List ℕ → ℕ → PathFault → Type 0
-IsFaultAt text at fault = (ps : List (List ℕ)) → AreNames ps → text ≡ bracketed ps ++ drop at text → at ≡ length (bracketed ps) → IsPathFault fault text
+IsFaultAt text at fault = (ps : List (List ℕ)) → AreNames ps → text ≡ bracketed ps ++ drop at text
+    → at ≡ length (bracketed ps) → IsPathFault fault text
 
 -- where the parts of a text lead
 abbrev pub way_of : List (List ℕ) → Way

@@ -57,6 +57,11 @@ abbrev pub over : {A B : Type 0} → (A → B) → B → Option A → B
 over f b None = b
 over f b (Some a) = f a
 
+-- a list with the item at this place changed, or with one that is made behind the last
+abbrev pub change_item : (Value → Option Value) → Value → List Value → ℕ → Option Value
+change_item change made vs i =
+    over (λ e. option_map (λ x. v.List (slice_set vs i x)) (change e)) (Some (v.List (vs ++ made ∷ []))) (slice_get vs i)
+
 -- a list or an object once the value at a part has changed, or was made where there was none
 abbrev pub change_in : List ℕ → (Value → Option Value) → Value → Value-F Value → Option Value
 change_in p change made Value-F.Null = None
@@ -64,8 +69,12 @@ change_in p change made (Value-F.Bool b) = None
 change_in p change made (Value-F.Num n) = None
 change_in p change made (Value-F.Text s) = None
 change_in p change made (Value-F.Time t) = None
-change_in p change made (Value-F.List vs) = option_and_then (λ i. over (λ e. option_map (λ x. v.List (slice_set vs i x)) (change e)) (Some (v.List (vs ++ made ∷ []))) (slice_get vs i)) (list_place p (length vs))
-change_in p change made (Value-F.Object ms) = over (λ e. option_map (λ x. v.Object (set_member p x ms)) (change e)) (Some (v.Object (insert_member p made ms))) (get_member p ms)
+change_in p change made (Value-F.List vs) = option_and_then (change_item change made vs) (list_place p (length vs))
+change_in p change made (Value-F.Object ms) =
+    over
+    (λ e. option_map (λ x. v.Object (set_member p x ms)) (change e))
+    (Some (v.Object (insert_member p made ms)))
+    (get_member p ms)
 
 -- old with d at the end of the parts, where missing objects are made; none where a value on the way is neither object nor list, or is a list in which the part names no place
 abbrev pub put : List (List ℕ) → Value → Value → Option Value
@@ -110,7 +119,10 @@ through_in p cut (Value-F.Bool b) = None
 through_in p cut (Value-F.Num n) = None
 through_in p cut (Value-F.Text s) = None
 through_in p cut (Value-F.Time t) = None
-through_in p cut (Value-F.List vs) = option_and_then (λ i. option_and_then (λ e. option_map (λ r. (r.0, v.List (slice_set vs i r.1))) (cut e)) (slice_get vs i)) (list_place p (length vs))
+through_in p cut (Value-F.List vs) =
+    option_and_then
+    (λ i. option_and_then (λ e. option_map (λ r. (r.0, v.List (slice_set vs i r.1))) (cut e)) (slice_get vs i))
+    (list_place p (length vs))
 through_in p cut (Value-F.Object ms) = option_and_then (λ e. option_map (λ r. (r.0, v.Object (set_member p r.1 ms))) (cut e)) (get_member p ms)
 
 -- what stands at the end of the parts, and what is left without it
