@@ -2,5 +2,6 @@ pub mod Scans
 pub mod Lexing
 mod Gaps
 mod Writing
+mod NumberFronts
 mod Laying
 mod Numerals

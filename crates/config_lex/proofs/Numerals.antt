@@ -1,9 +1,8 @@
 -- The number of a text has the value that its digits write.
-use Rattle.std.proofs.Common.{◌≡◌, ◌≢◌, ◌<◌, ◌≤◌, ℕ, zero, suc, ◌+◌, ◌-◌, ◌*◌, ◌%◌, ◌==◌, ◌&&◌, pos, List, [], ◌∷◌, ◌++◌, length, drop, cond, nat_le, Some, None, Bool, true, false, if◌then◌else◌, refl, ap, sym, subst, ◌∙◌, eqb-true, arith}
+use Rattle.std.proofs.Common.{◌≡◌, ◌≢◌, ◌<◌, ◌≤◌, ℕ, zero, suc, ◌+◌, ◌-◌, ◌*◌, ◌%◌, ◌==◌, pos, List, [], ◌∷◌, ◌++◌, length, cond, nat_le, Some, None, Bool, true, false, if◌then◌else◌, refl, ap, sym, subst, ◌∙◌, eqb-true, arith}
 use Rattle.std.specs.Prelude.{int_rem, option_and_then}
 use Rattle.std.specs.Ordering.{int_eq}
 use Rattle.std.proofs.lemmas.Int.{ints}
-use Rattle.std.proofs.lemmas.List.{drop-drop, length-drop}
 use Rattle.std.proofs.lemmas.Bool.{false_from_ne_true}
 use Rattle.std.proofs.lemmas.Bool.Decides.{Decides-int_eq, nat_tests}
 use Rattle.event_tree.specs.Number.{least}
@@ -11,9 +10,9 @@ use Rattle.event_tree.specs.NumberTexts.{IsI64, Shifts, AreDigits, is_digit, num
 use Rattle.event_tree.proofs.DecimalLemmas.{magnitude, not_above, not_lowered, with_zeros}
 use Rattle.event_tree.proofs.Least.{least_few}
 use Rattle.event_tree.proofs.Tens.{tens-add, tens-cancel, tens-le, tens-ten, number-append}
-use Rattle.config_lex.specs.Bytes.{passing, begins_with, begins_digit, whole_length, point_length, number_of, zeros_behind, without_zeros}
+use Rattle.config_lex.specs.Bytes.{begins_with, number_of, zeros_behind, without_zeros}
 use Rattle.config_lex.specs.Laws.{IsNumberText, whole_digits, places, HasValueOf}
-use Rattle.config_lex.proofs.Writing.{whole_fits}
+use Rattle.config_lex.proofs.NumberFronts.{places_are_digits}
 
 -- of a digit and what is behind it, without the zeros at their end
 abbrev Trimmed : ℕ → List ℕ → List ℕ → Type 0
@@ -103,31 +102,5 @@ module _ (negative : Bool) (whole f : List ℕ) (are : AreDigits f) where
       let m = trimmed (number 0 whole) f are in
       with_zeros (numeral negative whole kept) negative (number 0 (whole ++ f)) digits m.0 0 (length f) (number-append 0 whole f ∙ m.2) (of_kept m.0 m.1)
 
--- ---- the text of a number
-
-passing_all : (s : List ℕ) → passing is_digit s ≡ length s → AreDigits s
-unfolding passing
-passing_all [] e = tt
-passing_all (b ∷ s) e = by (is_digit b) refl e (λ h. passing_all s h)
-  where
-    by : (z : Bool) → is_digit b ≡ z → (if z then suc (passing is_digit s) else 0) ≡ suc (length s) → (passing is_digit s ≡ length s → AreDigits s) → AreDigits (b ∷ s)
-    by true f e again = (f, again (omega (arith, e)))
-    by false f e again = absurd (omega (arith, e))
-
--- behind the point stand digits alone
-places_are : (r : List ℕ) → point_length r ≡ length r → AreDigits (drop 1 r)
-places_are [] e = tt
-places_are (b ∷ s) e = by (b == 46 && begins_digit s) refl e
-  where
-    by : (z : Bool) → (b == 46 && begins_digit s) ≡ z → (if z then suc (passing is_digit s) else 0) ≡ suc (length s) → AreDigits s
-    by true f e = passing_all s (omega (arith, e))
-    by false f e = absurd (omega (arith, e))
-
 pub value_of_digits : (s : List ℕ) → IsNumberText s → HasValueOf s (number_of s)
-value_of_digits s h =
-    let r = drop (whole_length s) s in
-    let fits : whole_length s ≤ length s = whole_fits s in
-    let all : point_length r ≡ length r = omega (arith, h.1, length-drop (whole_length s) s, fits) in
-    let next : whole_length s + 1 ≡ suc (whole_length s) = omega arith in
-    let is : drop 1 r ≡ places s = drop-drop 1 (whole_length s) s ∙ ap (λ n. drop n s) next in
-    numeral_has_value (begins_with 45 s) (whole_digits s) (places s) (subst AreDigits is (places_are r all))
+value_of_digits s h = numeral_has_value (begins_with 45 s) (whole_digits s) (places s) (places_are_digits s h)

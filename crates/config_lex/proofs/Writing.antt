@@ -89,10 +89,10 @@ point_fits : (s : List ℕ) → point_length s ≤ length s
 point_fits [] = omega arith
 point_fits (b ∷ s) = either (λ n. n ≤ suc (length s)) (b == 46 && begins_digit s) (suc (passing is_digit s)) 0 (λ e. omega (arith, passing_fits is_digit s)) (λ e. omega arith)
 
-number_fits : (s : List ℕ) → number_length s ≤ length s
+pub number_fits : (s : List ℕ) → number_length s ≤ length s
 number_fits s = omega (arith, whole_fits s, point_fits (drop (whole_length s) s), length-drop (whole_length s) s)
 
-digits_some : (s : List ℕ) → begins_digit s ≡ true → 1 ≤ passing is_digit s
+pub digits_some : (s : List ℕ) → begins_digit s ≡ true → 1 ≤ passing is_digit s
 digits_some [] e = absurd (cc)
 digits_some (b ∷ s) e = passing_some is_digit b s e
 

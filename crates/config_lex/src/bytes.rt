@@ -2,6 +2,7 @@
 
 ghost use Rattle.std.specs.Prelude.{◌≡◌, ◌+◌, ◌-◌, ◌≤◌, ◌<◌, false, true, drop, length, slice_index, suc, IfSome};
 ghost use Rattle.config_lex.specs.Bytes as spec;
+ghost use Rattle.config_lex.specs.Laws.{IsNumberText};
 ghost use Rattle.event_tree.specs.NumberTexts as numbers;
 
 use event_tree::Number;
@@ -237,6 +238,7 @@ fn behind(bytes: &[u8], at: usize) -> &[u8]
 
 /// The number that a spelling stands for.
 pub(crate) fn number_of(bytes: &[u8]) -> Option<Number>
+    requires { IsNumberText bytes.now }
     ensures { result ≡ spec.number_of bytes.now }
 {
     let from = sign_length(bytes);

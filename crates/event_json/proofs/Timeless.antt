@@ -1,6 +1,5 @@
 -- A value in which no time stands is itself with the text of each time in its place.
-use Rattle.std.proofs.Common.{◌≡◌, ℕ, ℤ, List, [], ◌∷◌, Bool, true, ◌&&◌, map, refl, sym, ap, ap₂, ◌∙◌, true≢false}
-use Rattle.event_tree.specs.Number.{Num}
+use Rattle.std.proofs.Common.{◌≡◌, List, [], ◌∷◌, Bool, true, map, refl, sym, ap, ap₂, ◌∙◌, true≢false}
 use Rattle.event_tree.specs.Sound.{sound, all_true}
 use Rattle.event_tree.specs.Values.{Members, on_values}
 use Rattle.event_tree.specs.declared.value.Value.{Value}

@@ -1,4 +1,5 @@
-ghost use Rattle.std.specs.Prelude.{◌≡◌, option_map};
+ghost use Rattle.std.specs.Prelude.{◌≡◌, option_map, IsTrue};
+ghost use Rattle.event_tree.specs.NumberTexts.{AreDigits};
 
 use crate::cases::first_word;
 use crate::json;
@@ -48,13 +49,31 @@ pub fn add_read(to: &mut String, text: &str) -> Result<(), AllocError> {
     add(to, Number::read(text))
 }
 
+/// Whether each byte is a digit.
+fn are_digits(bytes: &[u8]) -> bool
+    ensures { IsTrue result → AreDigits bytes.now }
+{
+    match bytes.split_first() {
+        None => true,
+        Some((first, rest)) => b'0' <= *first && *first <= b'9' && are_digits(rest),
+    }
+}
+
+/// The number of these digits, before a point and behind it.
+fn number_of(negative: bool, whole: &[u8], places: &[u8]) -> Option<Number> {
+    if are_digits(whole) && are_digits(places) {
+        Number::from_digits(negative, whole, places)
+    } else {
+        None
+    }
+}
+
 /// Adds the number of the digits before a point, behind a `-` where there is one, and of those behind it.
 pub fn add_from_digits(to: &mut String, case: &str) -> Result<(), AllocError> {
     let digits = case.strip_prefix('-').unwrap_or(case);
     let (whole, places) = digits.split_once('.').unwrap_or((digits, ""));
     let negative = digits.len() < case.len();
-    let number = Number::from_digits(negative, whole.as_bytes(), places.as_bytes());
-    add(to, number)
+    add(to, number_of(negative, whole.as_bytes(), places.as_bytes()))
 }
 
 /// The moment that lies so many seconds and nanoseconds behind 1970.

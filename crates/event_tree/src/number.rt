@@ -65,9 +65,12 @@ impl Number {
         }
     }
 
-    /// The number with these digits before the point and behind it. It is none exactly where more than
-    /// 18 stand behind the point, or where all of them write a number beyond 64 bits. It takes no memory.
+    /// The number with these digits before the point and behind it, each from `0` to `9`. It is none
+    /// exactly where more than 18 stand behind the point, or where all of them write a number beyond
+    /// 64 bits. It takes no memory.
     pub fn from_digits(negative: bool, whole: &[u8], places: &[u8]) -> Option<Number>
+        requires whole { AreDigits whole.now }
+        requires places { AreDigits places.now }
         ensures { result ≡ numeral negative whole.now places.now }
     {
         if places.len() > 18 {
