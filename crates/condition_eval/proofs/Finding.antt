@@ -8,8 +8,7 @@ use Rattle.regex_hir.specs.declared.hir.Hir.{Hir}
 use Rattle.regex_syntax.specs.Grammar.{Names, read}
 use Rattle.regex_syntax.specs.Verdict.{default_config, Reads}
 use Rattle.regex.proofs.ForCallers.{is_match_alike}
-use Rattle.pattern_box.specs.Patterns.{pattern_re, IsReadFrom}
-use Rattle.pattern_box.specs.declared.pattern.Pattern as box
+use Rattle.pattern_box.specs.Patterns.{Expression, pattern_re, IsReadFrom}
 use Rattle.condition_eval.specs.Truths.{found_in}
 
 with_found : {A B : Type 0} (o : Option A) (P : A → Type 0) → ((x : A) → o ≡ Some x → P x → B) → IsSomeAnd o P → B
@@ -20,7 +19,7 @@ found_where_read : (s text : List ℕ) (re : Re) (hir : Hir) (names : Names) →
 unfolding Reads found_in
 found_where_read s text re hir names e bytes reads = with_found (read default_config (chars s)) _ (λ x is h. ap (λ r. is_some (find_str r text 0)) e ∙ is_match_alike h.1 text bytes true 0 ∙ sym (ap (λ o. is_some (option_and_then (λ found. find_str found.0.value text 0) o)) is)) reads
 
-pub found_by_pattern : (s text : List ℕ) (p : box.Pattern) → IsReadFrom s p → ((k : ℕ) → get_or text k 0 < 256) → is_some (find_str (pattern_re p) text 0) ≡ found_in s text
+pub found_by_pattern : (s text : List ℕ) (p : Expression) → IsReadFrom s p → ((k : ℕ) → get_or text k 0 < 256) → is_some (find_str (pattern_re p) text 0) ≡ found_in s text
 found_by_pattern s text p h bytes = found_where_read s text (pattern_re p) h.1.0 h.1.1 h.1.3 bytes h.1.2
 
 pub is_some_mapped : {A B : Type 0} (f : A → B) (o : Option A) → is_some (option_map f o) ≡ is_some o

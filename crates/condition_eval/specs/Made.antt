@@ -1,8 +1,7 @@
 -- The patterns that are made of a condition.
 use Rattle.std.specs.Prelude.{◌≡◌, ℕ, List, [], ◌∷◌, ◌++◌, map, flat_map, ⊤}
 use Rattle.regex_hir.specs.Re.{Re}
-use Rattle.pattern_box.specs.Patterns.{pattern_re, pattern_groups, IsReadFrom, IsRefusal}
-use Rattle.pattern_box.specs.declared.pattern.Pattern as box
+use Rattle.pattern_box.specs.Patterns.{Expression, pattern_re, pattern_groups, IsReadFrom, IsRefusal}
 use Rattle.pattern_box.specs.declared.fault.PatternFault.{PatternFault}
 use Rattle.config_tree.specs.declared.tree.MatchPattern.{MatchPattern}
 use Rattle.config_tree.specs.declared.tree.MatchPattern.TheVariants as p
@@ -38,14 +37,14 @@ abbrev pub texts_behind : {J : Type 0} → List (J × Condition) → List (List 
 texts_behind rest = joined_texts (map (λ p. (p.0, texts p.1)) rest)
 
 -- each pattern is read from its text
-abbrev pub AreReadFrom : List (List ℕ) → List box.Pattern → Type 0
+abbrev pub AreReadFrom : List (List ℕ) → List Expression → Type 0
 AreReadFrom [] [] = ⊤
 AreReadFrom [] (p ∷ ps) = ⊥
 AreReadFrom (s ∷ ss) [] = ⊥
 AreReadFrom (s ∷ ss) (p ∷ ps) = IsReadFrom s p × AreReadFrom ss ps
 
 -- the patterns were made of the condition
-abbrev pub AreMadeOf : Condition → List box.Pattern → Type 0
+abbrev pub AreMadeOf : Condition → List Expression → Type 0
 AreMadeOf condition ps = AreReadFrom (texts condition) ps
 
 -- One of the texts is refused with this fault, and from each text before it a pattern was read.
@@ -54,25 +53,25 @@ pub record FirstIsRefused (fault : PatternFault) (ss : List (List ℕ)) : Type 0
   pub text : List ℕ
   pub behind : List (List ℕ)
   pub whole : ss ≡ before ++ text ∷ behind
-  pub made : List box.Pattern
+  pub made : List Expression
   pub read : AreReadFrom before made
   pub refused : IsRefusal text fault
 
 -- behind the old patterns stand new ones that are read from these texts
-pub record Added (ss : List (List ℕ)) (old new : List box.Pattern) : Type 0 where
-  pub more : List box.Pattern
+pub record Added (ss : List (List ℕ)) (old new : List Expression) : Type 0 where
+  pub more : List Expression
   pub whole : new ≡ old ++ more
   pub read : AreReadFrom ss more
 
 -- the first patterns are read from these texts
-abbrev pub BeginWith : List (List ℕ) → List box.Pattern → Type 0
+abbrev pub BeginWith : List (List ℕ) → List Expression → Type 0
 BeginWith [] ps = ⊤
 BeginWith (s ∷ ss) [] = ⊥
 BeginWith (s ∷ ss) (p ∷ ps) = IsReadFrom s p × BeginWith ss ps
 
 -- what a pattern searches for, with how many groups
-abbrev pub meaning_of : box.Pattern → Re × ℕ
+abbrev pub meaning_of : Expression → Re × ℕ
 meaning_of p = (pattern_re p, pattern_groups p)
 
-abbrev pub meanings : List box.Pattern → List (Re × ℕ)
+abbrev pub meanings : List Expression → List (Re × ℕ)
 meanings ps = map meaning_of ps

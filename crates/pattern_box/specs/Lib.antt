@@ -1,3 +1,4 @@
 pub mod Patterns
+pub mod Matchers
 pub mod Spans
 pub mod Texts

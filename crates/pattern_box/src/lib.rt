@@ -6,6 +6,7 @@
 #![tactic(auto)]
 
 mod fault;
+mod matcher;
 mod pattern;
 mod searcher;
 

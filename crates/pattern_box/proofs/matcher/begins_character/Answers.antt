@@ -2,7 +2,7 @@ use Rattle.std.proofs.Common.{refl, arith}
 use Rattle.std.proofs.lemmas.Bool.Decides.{nat_tests}
 use Rattle.std.proofs.lemmas.Option.{slice_get_past, slice_get-get_or}
 use Rattle.regex_hir.specs.Text.{is_boundary}
-use Rattle.pattern_box.proofs.pattern.begins_character.Goals as goal
+use Rattle.pattern_box.proofs.matcher.begins_character.Goals as goal
 
 pub returns-then-at-hay : goal.returns-then-at-hay
 unfolding is_boundary

@@ -2,7 +2,7 @@ use Rattle.std.proofs.Common.{refl, sym, ◌∙◌, arith}
 use Rattle.std.proofs.lemmas.Bool.Decides.{nat_tests}
 use Rattle.regex.specs.Search.{group_span}
 use Rattle.regex.proofs.Utf8Lemmas.{IsCharBoundary-of_test}
-use Rattle.pattern_box.proofs.pattern.group.Goals as goal
+use Rattle.pattern_box.proofs.matcher.group.Goals as goal
 
 pub returns-then-index-eq0-clause-value : goal.returns-then-index-eq0-clause-value
 unfolding group_span

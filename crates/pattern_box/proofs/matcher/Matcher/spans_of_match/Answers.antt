@@ -3,7 +3,7 @@ use Rattle.std.proofs.lemmas.List.Elements.{All-push}
 use Rattle.std.proofs.lemmas.List.FromFn.{map-range_with_len_more}
 use Rattle.regex.specs.Search.{group_span, LiesWithin}
 use Rattle.regex.specs.Utf8.{CutsCleanly}
-use Rattle.pattern_box.proofs.pattern.Pattern.spans_of_match.Goals as goal
+use Rattle.pattern_box.proofs.matcher.Matcher.spans_of_match.Goals as goal
 
 pub loop-index-preserved : goal.loop-index-preserved
 loop-index-preserved c =

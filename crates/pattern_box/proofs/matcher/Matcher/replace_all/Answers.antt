@@ -4,9 +4,10 @@ use Rattle.regex_vm.specs.Found.{span}
 use Rattle.regex.specs.Search.{next_match}
 use Rattle.regex.specs.Replace.{replaced_by}
 use Rattle.regex.proofs.SearchLemmas.{matches_after_text}
+use Rattle.pattern_box.specs.Matchers.{shown}
 use Rattle.pattern_box.specs.Patterns.{pattern_re}
 use Rattle.pattern_box.proofs.Replaced.{replaced_from, replaced_next, replaced_end}
-use Rattle.pattern_box.proofs.pattern.Pattern.replace_all.Goals as goal
+use Rattle.pattern_box.proofs.matcher.Matcher.replace_all.Goals as goal
 
 pub matches-init : goal.matches-init
 matches-init c = (
@@ -19,7 +20,7 @@ matches-init c = (
 
 pub matches-preserved : goal.matches-preserved
 matches-preserved c =
-    let re = pattern_re c.args.self.now in
+    let re = pattern_re (shown c.args.self.now) in
     let text = c.args.text.now in
     let with = c.args.with.now in
     let l = c.matches in
@@ -42,7 +43,7 @@ matches-preserved c =
 
 pub returns-clause-value : goal.returns-clause-value
 returns-clause-value c =
-    let re = pattern_re c.args.self.now in
+    let re = pattern_re (shown c.args.self.now) in
     let text = c.args.text.now in
     let with = c.args.with.now in
     let l = c.matches in

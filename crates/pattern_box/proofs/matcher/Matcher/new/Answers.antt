@@ -6,7 +6,7 @@ use Rattle.regex_syntax.specs.WellFormed.{IsWellFormed}
 use Rattle.regex.specs.Writes.{HasTextParts}
 use Rattle.pattern_box.proofs.Refused.{refusal_of_parser}
 use Rattle.pattern_box.proofs.TextParts.{has_text_parts}
-use Rattle.pattern_box.proofs.pattern.Pattern.new.Goals as goal
+use Rattle.pattern_box.proofs.matcher.Matcher.new.Goals as goal
 
 pub returns-in-Err-clause-refused : goal.returns-in-Err-clause-refused
 returns-in-Err-clause-refused c =

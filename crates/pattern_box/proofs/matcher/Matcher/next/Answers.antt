@@ -4,12 +4,13 @@ use Rattle.regex_hir.specs.Find.{Match, find_str}
 use Rattle.regex_vm.specs.Found.{span}
 use Rattle.regex_meta.proofs.ProgramLemmas.{none_of_option_map, value_of_option_map}
 use Rattle.regex.proofs.SearchLemmas.{next_same, next_later}
+use Rattle.pattern_box.specs.Matchers.{shown}
 use Rattle.pattern_box.specs.Patterns.{pattern_re}
-use Rattle.pattern_box.proofs.pattern.Pattern.next.Goals as goal
+use Rattle.pattern_box.proofs.matcher.Matcher.next.Goals as goal
 
 pub returns-in_err-found-clause-found : goal.returns-in_err-found-clause-found
 returns-in_err-found-clause-found c =
-    let re = pattern_re c.args.self.now in
+    let re = pattern_re (shown c.args.self.now) in
     let text = c.args.text.now in
     let after = c.args.after in
     let back : c.saturating_sub.result ≡ after - 1 = omega (arith, c.saturating_sub.ensures) in
@@ -20,7 +21,7 @@ returns-in_err-found-clause-found c =
 
 pub returns-then-found-after-clause-found : goal.returns-then-found-after-clause-found
 returns-then-found-after-clause-found c =
-    let re = pattern_re c.args.self.now in
+    let re = pattern_re (shown c.args.self.now) in
     let text = c.args.text.now in
     let after = c.args.after in
     let back : c.saturating_sub.result ≡ after - 1 = omega (arith, c.saturating_sub.ensures) in
@@ -32,7 +33,7 @@ returns-then-found-after-clause-found c =
 
 pub returns-clause-found : goal.returns-clause-found
 returns-clause-found c =
-    let re = pattern_re c.args.self.now in
+    let re = pattern_re (shown c.args.self.now) in
     let text = c.args.text.now in
     let after = c.args.after in
     let back : c.saturating_sub.result ≡ after - 1 = omega (arith, c.saturating_sub.ensures) in

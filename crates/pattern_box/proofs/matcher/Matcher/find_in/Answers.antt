@@ -4,21 +4,22 @@ use Rattle.regex_vm.specs.Found.{span, group_cells}
 use Rattle.regex_meta.proofs.LeftmostLemmas.{are_bytes}
 use Rattle.regex_meta.proofs.ProgramLemmas.{none_of_option_map}
 use Rattle.regex.proofs.SearchLemmas.{leftmost_past, leftmost_none}
+use Rattle.pattern_box.specs.Matchers.{shown}
 use Rattle.pattern_box.specs.Patterns.{pattern_re}
 use Rattle.pattern_box.proofs.Searching.{was_found, match_within, match_here, match_inside, match_cuts}
-use Rattle.pattern_box.proofs.pattern.Pattern.find_in.Goals as goal
+use Rattle.pattern_box.proofs.matcher.Matcher.find_in.Goals as goal
 
 pub returns-then-start-hay-clause-found : goal.returns-then-start-hay-clause-found
 returns-then-start-hay-clause-found c =
-    sym (ap (option_map span) (leftmost_past (pattern_re c.args.self.now) c.args.hay.now true _ c.if-start-hay.true))
+    sym (ap (option_map span) (leftmost_past (pattern_re (shown c.args.self.now)) c.args.hay.now true _ c.if-start-hay.true))
 
 pub returns-then-start-hay-clause-cells : goal.returns-then-start-hay-clause-cells
 returns-then-start-hay-clause-cells c =
-    rw (leftmost_past (pattern_re c.args.self.now) c.args.hay.now true _ c.if-start-hay.true) tt
+    rw (leftmost_past (pattern_re (shown c.args.self.now)) c.args.hay.now true _ c.if-start-hay.true) tt
 
 pub returns-in_err-from-clause-found : goal.returns-in_err-from-clause-found
 returns-in_err-from-clause-found c =
-    let re = pattern_re c.args.self.now in
+    let re = pattern_re (shown c.args.self.now) in
     let hay = c.args.hay.now in
     let at = c.loop-from.at in
     let inv = c.loop-from.invariant in
@@ -29,7 +30,7 @@ returns-in_err-from-clause-found c =
 
 pub returns-in_err-from-clause-cells : goal.returns-in_err-from-clause-cells
 returns-in_err-from-clause-cells c =
-    let re = pattern_re c.args.self.now in
+    let re = pattern_re (shown c.args.self.now) in
     let hay = c.args.hay.now in
     let at = c.loop-from.at in
     let inv = c.loop-from.invariant in
@@ -46,7 +47,7 @@ returns-then-begins_character-clause-found c =
 
 pub returns-then-begins_character-clause-cells : goal.returns-then-begins_character-clause-cells
 returns-then-begins_character-clause-cells c =
-    let re = pattern_re c.args.self.now in
+    let re = pattern_re (shown c.args.self.now) in
     let hay = c.args.hay.now in
     let inv = c.loop-from.invariant in
     let cut = sym c.begins_character.ensures ∙ c.if-begins_character.true in
