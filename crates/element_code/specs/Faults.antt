@@ -31,8 +31,13 @@ MayFollow is front part = (more : List Part) × is (front ++ part ∷ more)
 
 -- Where the bytes stop being one of the spellings that these lists of parts are: they are cut within a part that may come next, or no part that may come next can be what stands there.
 pub data Stops (is : List Part → Type 0) (bytes : List ℕ) (at : ℕ) : Type 0 where
-  cut : (front : List Part) (part : Part) (rest : List ℕ) → MayFollow is front part → bytes ≡ bytes_of front ++ rest → EndWithin part rest → at ≡ length bytes → Stops is bytes at
-  misfit : (front : List Part) (part : Part) (rest : List ℕ) → MayFollow is front part → bytes ≡ bytes_of front ++ rest → ((other : Part) → MayFollow is front other → CanBe other rest → ⊥) → at ≡ length (bytes_of front) + place_in part → Stops is bytes at
+  cut : (front : List Part) (part : Part) (rest : List ℕ)
+      → MayFollow is front part → bytes ≡ bytes_of front ++ rest
+      → EndWithin part rest → at ≡ length bytes → Stops is bytes at
+  misfit : (front : List Part) (part : Part) (rest : List ℕ)
+      → MayFollow is front part → bytes ≡ bytes_of front ++ rest
+      → ((other : Part) → MayFollow is front other → CanBe other rest → ⊥)
+      → at ≡ length (bytes_of front) + place_in part → Stops is bytes at
 
 -- the parts of some event
 abbrev pub AreEventParts : List Part → Type 0
@@ -42,7 +47,9 @@ AreEventParts parts = (event : Ev) × IsWhole event × (parts ≡ event_parts ev
 pub data IsRefusedAt (bytes : List ℕ) (at : ℕ) : Type 0 where
   long : 16777216 < length bytes → at ≡ 16777216 → IsRefusedAt bytes at
   stops : length bytes ≤ 16777216 → Stops AreEventParts bytes at → IsRefusedAt bytes at
-  behind : length bytes ≤ 16777216 → (parts : List Part) (rest : List ℕ) → AreEventParts parts → bytes ≡ bytes_of parts ++ rest → rest ≢ [] → at ≡ length (bytes_of parts) → IsRefusedAt bytes at
+  behind : length bytes ≤ 16777216 → (parts : List Part) (rest : List ℕ)
+      → AreEventParts parts → bytes ≡ bytes_of parts ++ rest → rest ≢ []
+      → at ≡ length (bytes_of parts) → IsRefusedAt bytes at
 
 -- bytes are refused at one place at most
 abbrev pub HasOnePlace : (List ℕ → ℕ → Type 0) → Type 0
@@ -50,4 +57,6 @@ HasOnePlace IsRefused = (bytes : List ℕ) (at other : ℕ) → IsRefused bytes 
 
 -- bytes that spell an event are refused nowhere
 abbrev pub SpelledAreNotRefused : Type 0
-SpelledAreNotRefused = (bytes : List ℕ) (at : ℕ) (event : Ev) → IsWhole event → event_spelling event ≡ bytes → length bytes ≤ 16777216 → IsRefusedAt bytes at → ⊥
+SpelledAreNotRefused = (bytes : List ℕ) (at : ℕ) (event : Ev)
+    → IsWhole event → event_spelling event ≡ bytes → length bytes ≤ 16777216
+    → IsRefusedAt bytes at → ⊥

@@ -34,7 +34,10 @@ abbrev pub is_moment : ℤ → Bool
 is_moment nanos = int_le first_moment nanos && int_le nanos last_moment
 
 abbrev pub moment_of : ℤ → ℕ → Option Value
-moment_of seconds nanos = if nat_lt nanos 1000000000 && is_moment (seconds *ℤ pos 1000000000 +ℤ pos nanos) then Some (v.Time (seconds *ℤ pos 1000000000 +ℤ pos nanos)) else None
+moment_of seconds nanos =
+    if nat_lt nanos 1000000000 && is_moment (seconds *ℤ pos 1000000000 +ℤ pos nanos)
+    then Some (v.Time (seconds *ℤ pos 1000000000 +ℤ pos nanos))
+    else None
 
 abbrev pub time_in : List ℕ → Option Value
 time_in bytes = moment_of (cast_signed w64 (big_number 8 bytes)) (big_number 4 (drop 8 bytes))
@@ -68,7 +71,9 @@ key_at last bytes = run_at bytes >>= λ k. (if is_utf8 k.0 && is_above last k.0 
 
 abbrev pub members_at : Reads Value → Option (List ℕ) → ℕ → List ℕ → Result (Members × List ℕ) ℕ
 members_at read last zero bytes = Ok ([], bytes)
-members_at read last (suc n) bytes = key_at last bytes >>= λ k. (read k.1 >>= λ x. (members_at read (Some k.0) n x.1 >>= λ ms. Ok ((k.0, x.0) ∷ ms.0, ms.1)))
+members_at read last (suc n) bytes =
+    key_at last bytes >>= λ k. (read k.1 >>= λ x.
+    (members_at read (Some k.0) n x.1 >>= λ ms. Ok ((k.0, x.0) ∷ ms.0, ms.1)))
 
 unfoldable pub list_at : Reads Value → List ℕ → Result (List Value × List ℕ) ℕ
 list_at read bytes = number_at 4 bytes >>= λ n. repeated read n.0 n.1
@@ -86,7 +91,10 @@ as_object read = read >>= λ x. Ok (v.Object x.0, x.1)
 unfoldable pub value_at : ℕ → Reads Value
 value_at levels [] = Err 0
 value_at zero (tag ∷ rest) = leaf_at tag rest
-value_at (suc levels) (tag ∷ rest) = if tag == list_tag then as_list (list_at (value_at levels) rest) else (if tag == object_tag then as_object (object_at (value_at levels) rest) else leaf_at tag rest)
+value_at (suc levels) (tag ∷ rest) =
+    if tag == list_tag then as_list (list_at (value_at levels) rest)
+    else (if tag == object_tag then as_object (object_at (value_at levels) rest)
+    else leaf_at tag rest)
 
 -- nothing stands behind an event
 abbrev pub whole : Members → Members → List ℕ → Result Ev ℕ

@@ -35,10 +35,14 @@ pub record RowBody (bytes origin : List ℕ) (event : Ev) : Type 0 where
 -- bytes behind it there or not; within the origin, which is cut; at the origin, if it isn't UTF-8; or behind it, where they stop being an event.
 pub data IsRowRefusedAt (bytes : List ℕ) (at : ℕ) : Type 0 where
   cut_length : length bytes < 4 → at ≡ length bytes → IsRowRefusedAt bytes at
-  bad_length : (n : ℕ) (rest : List ℕ) → n < 2 ^ 32 → bytes ≡ count_bytes n ++ rest → (n ≡ 0) ⊎ (255 < n) → at ≡ 0 → IsRowRefusedAt bytes at
-  cut_origin : (n : ℕ) (rest : List ℕ) → 1 ≤ n → n ≤ 255 → bytes ≡ count_bytes n ++ rest → length rest < n → at ≡ length bytes → IsRowRefusedAt bytes at
-  no_text : (own rest : List ℕ) → 1 ≤ length own → length own ≤ 255 → bytes ≡ run_bytes own ++ rest → (IsUtf8 own → ⊥) → at ≡ 4 → IsRowRefusedAt bytes at
-  no_event : (origin rest : List ℕ) (inner : ℕ) → IsOrigin origin → bytes ≡ run_bytes origin ++ rest → IsRefusedAt rest inner → at ≡ 4 + length origin + inner → IsRowRefusedAt bytes at
+  bad_length : (n : ℕ) (rest : List ℕ) → n < 2 ^ 32 → bytes ≡ count_bytes n ++ rest
+      → (n ≡ 0) ⊎ (255 < n) → at ≡ 0 → IsRowRefusedAt bytes at
+  cut_origin : (n : ℕ) (rest : List ℕ) → 1 ≤ n → n ≤ 255 → bytes ≡ count_bytes n ++ rest
+      → length rest < n → at ≡ length bytes → IsRowRefusedAt bytes at
+  no_text : (own rest : List ℕ) → 1 ≤ length own → length own ≤ 255 → bytes ≡ run_bytes own ++ rest
+      → (IsUtf8 own → ⊥) → at ≡ 4 → IsRowRefusedAt bytes at
+  no_event : (origin rest : List ℕ) (inner : ℕ) → IsOrigin origin → bytes ≡ run_bytes origin ++ rest
+      → IsRefusedAt rest inner → at ≡ 4 + length origin + inner → IsRowRefusedAt bytes at
 
 -- ---- bytes as rows, read once from the front
 
