@@ -109,7 +109,11 @@ without_tag parts e = untagged (text parts e) e
 
 -- the options in their order: add_field, remove_field, add_tag, remove_tag
 unfoldable pub with_options : Options → Ev → Ev
-with_options o e = each_done without_tag o.remove_tag (each_done with_tag o.add_tag (each_done without_field o.remove_field (each_done with_field o.add_field e)))
+with_options o e =
+    each_done without_tag o.remove_tag
+    (each_done with_tag o.add_tag
+    (each_done without_field o.remove_field
+    (each_done with_field o.add_field e)))
 
 -- each as f says, where it says something of each
 abbrev pub each_in : {A B : Type 0} → (A → Option B) → List A → Option (List B)

@@ -25,7 +25,10 @@ abbrev mutual
   -- the rest of a name up to its `]`, and the names behind
   pub name_in : List ℕ → Option (List ℕ × List (List ℕ))
   name_in [] = None
-  name_in (b ∷ bs) = if b == closing_bracket then option_map (λ names. ([], names)) (names_in bs) else (if b == opening_bracket then None else option_map (λ r. (b ∷ r.0, r.1)) (name_in bs))
+  name_in (b ∷ bs) =
+      if b == closing_bracket then option_map (λ names. ([], names)) (names_in bs)
+      else (if b == opening_bracket then None
+      else option_map (λ r. (b ∷ r.0, r.1)) (name_in bs))
 
 -- the parts of a path: a bare name, or names in brackets
 abbrev pub parts_in : List ℕ → Option (List (List ℕ))
@@ -45,7 +48,11 @@ abbrev mutual
   -- the same inside the name that the `[` at `begin` opens, behind so many of its bytes
   pub fault_of_name : ℕ → ℕ → List ℕ → Option PathFault
   fault_of_name begin count [] = Some (Unclosed begin)
-  fault_of_name begin count (b ∷ bs) = if b == closing_bracket then (if count == 0 then Some Empty else fault_of_names (begin + count + 2) bs) else (if b == opening_bracket then Some (Unclosed begin) else fault_of_name begin (count + 1) bs)
+  fault_of_name begin count (b ∷ bs) =
+      if b == closing_bracket
+      then (if count == 0 then Some Empty else fault_of_names (begin + count + 2) bs)
+      else (if b == opening_bracket then Some (Unclosed begin)
+      else fault_of_name begin (count + 1) bs)
 
 -- the first fault of a bare name, from the place `at` on
 abbrev pub fault_of_bare : ℕ → List ℕ → Option PathFault

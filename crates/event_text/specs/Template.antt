@@ -42,7 +42,9 @@ ClosesAt bytes from close = before_close (drop from bytes) ≡ Some (take (close
 
 -- no `}` stands from one place on before the other, which is that of a `}` or the end of the bytes, or stands in front of the first
 abbrev pub IsNextClose : List ℕ → ℕ → ℕ → Type 0
-IsNextClose bytes from close = (close ≤ length bytes) × ((k : ℕ) → from ≤ k → k < close → slice_index bytes k ≢ closing_brace) × (from ≤ close → close < length bytes → slice_index bytes close ≡ closing_brace)
+IsNextClose bytes from close = (close ≤ length bytes)
+    × ((k : ℕ) → from ≤ k → k < close → slice_index bytes k ≢ closing_brace)
+    × (from ≤ close → close < length bytes → slice_index bytes close ≡ closing_brace)
 
 -- `%{` stands at one place, and the first `}` behind it at the other
 pub record Encloses (text : List ℕ) (at close : ℕ) : Type 0 where
@@ -71,7 +73,10 @@ with_plain b (p.Date parts inner ∷ ps) = p.Plain (b ∷ []) ∷ p.Date parts i
 abbrev pub template_parts_behind : ℕ → List ℕ → List TemplatePart
 template_parts_behind skip [] = []
 template_parts_behind (suc skip) (b ∷ bs) = template_parts_behind skip bs
-template_parts_behind zero (b ∷ bs) = over (λ found. found.0 ∷ template_parts_behind (found.1 - 1) bs) (with_plain b (template_parts_behind zero bs)) (placeholder (b ∷ bs))
+template_parts_behind zero (b ∷ bs) =
+    over (λ found. found.0 ∷ template_parts_behind (found.1 - 1) bs)
+    (with_plain b (template_parts_behind zero bs))
+    (placeholder (b ∷ bs))
 
 -- the parts of a template's text
 abbrev pub template_parts : List ℕ → List TemplatePart

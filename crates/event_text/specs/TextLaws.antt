@@ -27,7 +27,8 @@ FaultyTextsAreNoPaths = (fault : PathFault) (text : List ℕ) → fault ≢ Memo
 
 -- a text has one first fault at most
 abbrev pub FaultsAreOne : Type 0
-FaultsAreOne = (fault other : PathFault) (text : List ℕ) → fault ≢ Memory → other ≢ Memory → IsPathFault fault text → IsPathFault other text → fault ≡ other
+FaultsAreOne = (fault other : PathFault) (text : List ℕ) → fault ≢ Memory → other ≢ Memory
+    → IsPathFault fault text → IsPathFault other text → fault ≡ other
 
 abbrev pub FaultsAreComputed : Type 0
 FaultsAreComputed = (fault : PathFault) (text : List ℕ) → fault ≢ Memory → IsPathFault fault text → fault_in text ≡ Some fault
@@ -37,11 +38,15 @@ PathsHaveNoFault = (ps : List (List ℕ)) (text : List ℕ) → IsPathText ps te
 
 -- a text writes one number at most, in least form
 abbrev pub NumbersAreOne : Type 0
-NumbersAreOne = (n m : Num) (text : List ℕ) → IsLeast n.mantissa n.scale → IsLeast m.mantissa m.scale → NumberReads (Some n) text → NumberReads (Some m) text → n ≡ m
+NumbersAreOne = (n m : Num) (text : List ℕ)
+    → IsLeast n.mantissa n.scale → IsLeast m.mantissa m.scale
+    → NumberReads (Some n) text → NumberReads (Some m) text → n ≡ m
 
 -- the text of a number reads as no other
 abbrev pub NumberTextsReadAsNoOther : Type 0
-NumberTextsReadAsNoOther = (n : Num) (r : Option Num) → IsLeast n.mantissa n.scale → IsI64 n.mantissa → IfSome r (λ m. IsLeast m.mantissa m.scale) → NumberReads r (number_text n) → r ≡ Some n
+NumberTextsReadAsNoOther = (n : Num) (r : Option Num)
+    → IsLeast n.mantissa n.scale → IsI64 n.mantissa → IfSome r (λ m. IsLeast m.mantissa m.scale)
+    → NumberReads r (number_text n) → r ≡ Some n
 
 -- the byte stands nowhere in these
 abbrev pub HasNo : ℕ → List ℕ → Type 0
@@ -68,7 +73,8 @@ abbrev pub UnopenedStays : Type 0
 UnopenedStays = (b : ℕ) (rest : List ℕ) → opens (b ∷ rest) ≡ false → template_parts (b ∷ rest) ≡ with_plain b (template_parts rest)
 
 abbrev pub UnclosedStays : Type 0
-UnclosedStays = (rest : List ℕ) → HasNo closing_brace rest → template_parts (percent ∷ opening_brace ∷ rest) ≡ with_plain percent (template_parts (opening_brace ∷ rest))
+UnclosedStays = (rest : List ℕ) → HasNo closing_brace rest
+    → template_parts (percent ∷ opening_brace ∷ rest) ≡ with_plain percent (template_parts (opening_brace ∷ rest))
 
 -- a text with no `%` is one piece of plain text, or none where it is empty
 abbrev pub PlainTextsAreOnePiece : Type 0
