@@ -1,5 +1,5 @@
 -- A value, as it is written, is a text of the grammar, with that value but for its times.
-use Rattle.std.proofs.Common.{◌≡◌, ℕ, ℤ, zero, suc, ◌≤◌, Result, Ok, Err, OnOk, Bool, true, false, if◌then◌else◌, List, [], ◌∷◌, ◌++◌, map, refl, sym, ap, subst, ◌∙◌, arith, append_assoc}
+use Rattle.std.proofs.Common.{◌≡◌, ℕ, ℤ, suc, ◌≤◌, Result, Ok, Err, OnOk, Bool, true, false, if◌then◌else◌, List, [], ◌∷◌, ◌++◌, map, refl, sym, ap, subst, ◌∙◌, arith, append_assoc}
 use Rattle.std.specs.Prelude.{codes}
 use Rattle.std.specs.Str.{IsUtf8}
 use Rattle.std.proofs.lemmas.List.{append-nil}
@@ -19,7 +19,7 @@ use Rattle.event_json_laws.specs.Grammar.{Pairs, last_pair, more_pairs, no_membe
 use Rattle.event_json_laws.specs.Json.{pairs_members}
 use Rattle.event_json.specs.Json.{members_json}
 use Rattle.event_json.proofs.Jsons.{json-Object}
-use Rattle.event_tree.proofs.Depths.{depth-Null, depth-Bool, depth-Num, depth-Text, depth-List, depth-Object}
+use Rattle.event_tree.proofs.Depths.{depth-Text, depth-List, depth-Object}
 use Rattle.event_json_laws.specs.Grammar as g
 use Rattle.event_json_laws.proofs.Ascii.{number_ascii}
 use Rattle.std.proofs.lemmas.Str.{IsUtf8-from_ascii}
