@@ -5,3 +5,4 @@ mod Searching
 mod Grouped
 mod Replaced
 mod Refused
+pub mod Written

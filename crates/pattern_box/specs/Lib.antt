@@ -2,3 +2,4 @@ pub mod Patterns
 pub mod Matchers
 pub mod Spans
 pub mod Texts
+pub mod Replacements

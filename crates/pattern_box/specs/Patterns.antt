@@ -1,11 +1,11 @@
 -- What a pattern is, and which texts are patterns.
-use Rattle.std.specs.Prelude.{◌≡◌, ℕ, ◌<◌, ◌≤◌, ◌⊎◌, List, length}
+use Rattle.std.specs.Prelude.{◌≡◌, ℕ, ◌≤◌, ◌&&◌, nat_le, Bool, false, List, length, Option, option_map, chars}
 use Rattle.regex_hir.specs.Re.{Re}
 use Rattle.regex_hir.specs.Meaning.{meaning}
+use Rattle.regex_hir.specs.Text.{is_some_and}
 use Rattle.regex_hir.specs.declared.hir.Hir.{Hir}
-use Rattle.regex_syntax.specs.Grammar.{Names}
+use Rattle.regex_syntax.specs.Grammar.{Names, read}
 use Rattle.regex_syntax.specs.Verdict.{default_config, Reads}
-use Rattle.regex.specs.Failures.{IsPattern}
 use Rattle.pattern_box.specs.declared.fault.PatternFault.{PatternFault}
 use Rattle.pattern_box.specs.declared.fault.PatternFault.TheVariants.{BadPattern, Memory}
 
@@ -38,7 +38,15 @@ IsReadFrom text p = (length text ≤ 65536)
     × ((hir : Hir) × (names : Names) × Reads default_config text hir names
     × (pattern_re p ≡ meaning hir) × (pattern_groups p ≡ length names))
 
--- a text past the limit is refused as such, and another where the grammar reads no pattern, or one that nests too deep
+-- what a text searches for, as the grammar of `regex` reads it; none where it reads no pattern
+unfoldable pub written_re : List ℕ → Option Re
+written_re text = option_map (λ found. found.0.value) (read default_config (chars text))
+
+-- the text has at most 65,536 bytes, and the grammar reads a pattern that nests at most 250 deep
+unfoldable pub is_pattern : List ℕ → Bool
+is_pattern text = nat_le (length text) 65536 && is_some_and (read default_config (chars text)) (λ found. nat_le found.0.depth 250)
+
+-- a text that is no pattern is refused as such; memory may run out for any text within the limit
 abbrev pub IsRefusal : List ℕ → PatternFault → Type 0
-IsRefusal text BadPattern = (65536 < length text) ⊎ (¬ (IsPattern default_config text))
+IsRefusal text BadPattern = is_pattern text ≡ false
 IsRefusal text Memory = length text ≤ 65536

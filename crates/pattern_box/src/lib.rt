@@ -8,7 +8,9 @@
 mod fault;
 mod matcher;
 mod pattern;
+mod replacement;
 mod searcher;
 
 pub use fault::PatternFault;
 pub use pattern::{Pattern, Patterns, Spans};
+pub use replacement::{Replacement, ReplacementPart};

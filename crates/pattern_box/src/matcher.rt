@@ -5,11 +5,12 @@ ghost use Rattle.regex_hir.specs.Meaning.{meaning};
 ghost use Rattle.regex_hir.specs.Text.{is_boundary};
 ghost use Rattle.regex_vm.specs.Found.{span, group_cells};
 ghost use Rattle.regex.specs.Search.{next_match, group_span, LiesWithin};
-ghost use Rattle.regex.specs.Replace.{replaced_by};
+ghost use Rattle.regex.specs.Replace.{replaced_by, bytes_of};
 ghost use Rattle.regex.specs.Utf8.{MatchesText, CutsCleanly, IsMatchSpan};
 
 use crate::fault::PatternFault;
 use crate::pattern::Spans;
+use crate::replacement::ReplacementPart;
 use crate::searcher::Searcher;
 use plain_data::{Items, Text};
 use regex_syntax::{Config, Parsed};
@@ -33,6 +34,7 @@ pub struct Matcher {
 impl Matcher {
     ghost use Rattle.pattern_box.specs.Matchers.{shown};
     ghost use Rattle.pattern_box.specs.Patterns.{pattern_re, compiled_bytes, IsReadFrom, IsRefusal, IsSamePattern, pattern_groups};
+    ghost use Rattle.pattern_box.specs.Replacements.{substituted_by, cells_parts};
     ghost use Rattle.pattern_box.specs.Spans.{spans_of, spans_from_cells, AreSpansIn};
 
     // As `Pattern::new`.
@@ -82,11 +84,28 @@ impl Matcher {
             ≡ replaced_by (λ _. with.now) text.now 0 (find_all_str (pattern_re (shown self.old)) text.now)) }
         ensures same { IsSamePattern (shown self.old) (shown self.new) }
     {
+        let alloc = *self.cells.allocator();
+        let mut parts = Items::new(alloc);
+        parts.push(ReplacementPart::Text(Text::of(alloc, with)?))?;
+        self.substitute(text, parts.as_slice())
+    }
+
+    // As `Pattern::substitute`.
+    pub(crate) fn substitute(
+        &mut self,
+        text: &str,
+        parts: &[ReplacementPart],
+    ) -> Result<Text, AllocError>
+        ensures value { IfOk result (λ replaced. replaced
+            ≡ substituted_by (pattern_re (shown self.old)) parts.now text.now) }
+        ensures same { IsSamePattern (shown self.old) (shown self.new) }
+    {
         let mut replaced = String::with_capacity(*self.cells.allocator(), text.len())?;
         let mut last = 0;
         let mut after = 0;
         'matches: while let Some((start, end)) = self.next(text, after) {
-            append(&mut replaced, &text[last..start], with)?;
+            replaced.push_str(&text[last..start])?;
+            self.add_parts(&mut replaced, text, (start, end), parts)?;
             last = end;
             after = last + 1;
         }
@@ -94,10 +113,49 @@ impl Matcher {
         Ok(Text::from_string(replaced))
     }
 
+    // Adds what the parts stand for at the match that spans `whole` and whose groups `cells` has.
+    fn add_parts(
+        &self,
+        to: &mut String,
+        text: &str,
+        whole: (usize, usize),
+        parts: &[ReplacementPart],
+    ) -> Result<(), AllocError>
+        requires { IsMatchSpan true text.now whole }
+        ensures { OnOk result (string_bytes to.new
+            ≡ string_bytes to.old ++ cells_parts text.now whole self.now.cells.items parts.now) }
+    {
+        for part in parts {
+            match part {
+                ReplacementPart::Text(written) => to.push_str(written.as_str())?,
+                ReplacementPart::Group(index) => {
+                    to.push_str(self.group_text(text, whole, *index))?;
+                }
+            }
+        }
+        Ok(())
+    }
+
+    // What the group with this number matched; nothing where it took no part, or isn't there.
+    fn group_text<'t>(&self, text: &'t str, whole: (usize, usize), index: usize) -> &'t str
+        requires { IsMatchSpan true text.now whole }
+        ensures { result.now ≡ bytes_of text.now (group_span true text.now whole self.now.cells.items index) }
+    {
+        if index >= self.groups {
+            return "";
+        }
+        match group(text.as_bytes(), whole, self.cells.as_slice(), index) {
+            Some((start, end)) => &text[start..end],
+            None => "",
+        }
+    }
+
     // The span of the match after the one that ended at `after - 1`, or of the first match.
     fn next(&mut self, text: &str, after: usize) -> Option<(usize, usize)>
         ensures found { result
             ≡ option_map span (next_match true (pattern_re (shown self.old)) text.now after) }
+        ensures cells { IfSome (next_match true (pattern_re (shown self.old)) text.now after)
+            (λ m. self.new.cells.items ≡ group_cells m (vec_len self.old.cells)) }
         ensures within { IfSome result
             (λ s. LiesWithin (after - 1) (length text.now) s × (after ≤ s.1)) }
         ensures cuts { IfSome result (CutsCleanly text.now) }
@@ -211,12 +269,4 @@ fn group(hay: &[u8], whole: (usize, usize), cells: &[usize], index: usize) -> Op
         return None;
     }
     Some((first - 1, last - 1))
-}
-
-fn append(replaced: &mut String, kept: &str, written: &str) -> Result<(), AllocError>
-    ensures { OnOk result
-        (string_bytes replaced.new ≡ string_bytes replaced.old ++ (kept.now ++ written.now)) }
-{
-    replaced.push_str(kept)?;
-    replaced.push_str(written)
 }

@@ -1,11 +1,13 @@
 ghost use Rattle.std.specs.Prelude.{◌≡◌, ◌+◌, ◌*◌, ◌^◌, ◌≤◌, option_map, IfOk, IfErr, IsOk, IfSome, None};
 ghost use Rattle.regex_hir.specs.Find.{find_str, find_all_str};
 ghost use Rattle.regex.specs.Replace.{replaced_by};
+ghost use Rattle.pattern_box.specs.Replacements.{substituted_by};
 ghost use Rattle.pattern_box.specs.Spans.{spans_of, AreSpansIn};
 ghost use Rattle.pattern_box.specs.Patterns.{pattern_re, compiled_bytes, IsReadFrom, IsRefusal, IsSamePattern, pattern_groups};
 
 use crate::fault::PatternFault;
 use crate::matcher::Matcher;
+use crate::replacement::ReplacementPart;
 use plain_data::{Items, Text};
 use std::alloc::{AllocError, Global};
 use std::marker::Model;
@@ -75,6 +77,17 @@ impl Pattern {
         ensures same { IsSamePattern self.old self.new }
     {
         self.matcher.replace_all(text, with)
+    }
+
+    /// `text` with the parts in the place of each match, where a group stands for what it matched
+    /// there. The matches are those of `replace_all`. For a text of which the pattern was made, the
+    /// matches are those that the grammar of `regex` gives to it.
+    pub fn substitute(&mut self, text: &str, parts: &[ReplacementPart]) -> Result<Text, AllocError>
+        ensures value { IfOk result (λ replaced. replaced
+            ≡ substituted_by (pattern_re self.old) parts.now text.now) }
+        ensures same { IsSamePattern self.old self.new }
+    {
+        self.matcher.substitute(text, parts)
     }
 }
 

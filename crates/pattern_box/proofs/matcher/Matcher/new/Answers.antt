@@ -4,9 +4,12 @@ use Rattle.regex_hir.specs.Meaning.{meaning}
 use Rattle.regex_syntax.specs.Verdict.{Refuses}
 use Rattle.regex_syntax.specs.WellFormed.{IsWellFormed}
 use Rattle.regex.specs.Writes.{HasTextParts}
-use Rattle.pattern_box.proofs.Refused.{refusal_of_parser}
+use Rattle.pattern_box.proofs.Refused.{refusal_of_parser, past_limit}
 use Rattle.pattern_box.proofs.TextParts.{has_text_parts}
 use Rattle.pattern_box.proofs.matcher.Matcher.new.Goals as goal
+
+pub returns-then-text-gt-MAX_BYTES-clause-refused : goal.returns-then-text-gt-MAX_BYTES-clause-refused
+returns-then-text-gt-MAX_BYTES-clause-refused c = past_limit c.args.text.now c.if-text-gt-MAX_BYTES.true
 
 pub returns-in-Err-clause-refused : goal.returns-in-Err-clause-refused
 returns-in-Err-clause-refused c =

@@ -20,5 +20,5 @@ returns-in_ok-spans_of_match-in-Some-clause-found c =
     let held = at_some (λ m. now.cells.items ≡ group_cells m (vec_len p.cells)) _ v.0 v.1 step.cells in
     let width : vec_len p.cells ≡ length now.cells.items = omega (arith, p.width, now.width, step.same.1, now.cells.ok.0) in
     ap Some (c.in_ok-spans_of_match-in-Some.ensures.value ∙ ap (λ n. spans_from_cells n text whole now.cells.items) step.same.1
-    ∙ cells_give_spans p text c.utf8.text v.0 v.1 whole now.cells.items (sym v.2) held width)
+    ∙ cells_give_spans p text c.utf8.text v.0 0 v.1 whole now.cells.items (sym v.2) held width)
     ∙ sym (ap (option_map (spans_of p.groups)) v.1)
