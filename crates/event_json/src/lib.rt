@@ -12,5 +12,5 @@ mod time;
 
 pub use fault::JsonFault;
 pub use json::write_json;
-pub use read::read_json;
+pub use read::{number_of, read_json};
 pub use time::time_text;

@@ -27,9 +27,9 @@ fn unspaced(text: &str) -> &str
     rest_of(text, skip(text.as_bytes()))
 }
 
-// The number that a text writes. It is in least form already, and making it from its parts tells
-// proofs so.
-fn number_of(text: &str) -> Option<Number>
+/// The number that a text writes, as [`Number::read`] reads it. It takes no memory.
+// It is in least form already, and making it from its parts tells proofs so.
+pub fn number_of(text: &str) -> Option<Number>
     ensures { result ≡ computed_number text.now }
 {
     match Number::read(text) {

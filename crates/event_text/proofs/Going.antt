@@ -25,7 +25,7 @@ done_end f xs i e e0 end so_far = ap (λ ys. each_done f ys e) (sym (behind_end 
 abbrev pub with_front : {B : Type 0} → List B → Option (List B) → Option (List B)
 with_front ys found = option_map (λ zs. ys ++ zs) found
 
-front_more : {B : Type 0} (ys : List B) (y : B) (found : Option (List B)) → with_front (ys ++ y ∷ []) found ≡ with_front ys (option_map (λ zs. y ∷ zs) found)
+pub front_more : {B : Type 0} (ys : List B) (y : B) (found : Option (List B)) → with_front (ys ++ y ∷ []) found ≡ with_front ys (option_map (λ zs. y ∷ zs) found)
 front_more ys y None = refl
 front_more ys y (Some zs) = ap Some (append_assoc ys (y ∷ []) zs)
 

@@ -89,8 +89,8 @@ fn values_of(value: Option<&Value>) -> &[Value]
     }
 }
 
-// The items of a list, or the one value.
-fn values(value: &Value) -> &[Value]
+/// The values that a value stands for: the items of a list, or it alone.
+pub fn values(value: &Value) -> &[Value]
     ensures { result.now ≡ spec.values value.now }
 {
     match value {

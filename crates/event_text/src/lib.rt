@@ -14,10 +14,10 @@ mod template;
 pub mod value_laws;
 
 pub use applied::Applied;
-pub use changes::{add_tag, remove_tag, try_put};
+pub use changes::{add_tag, remove_tag, try_put, values};
 pub use date_format::DatePart;
-pub use event_json::{JsonFault, read_json, time_text, write_json};
+pub use event_json::{JsonFault, number_of, read_json, time_text, write_json};
 pub use options::Options;
 pub use path_text::path_in;
 pub use shown::value_text;
-pub use template::{Template, TemplatePart};
+pub use template::{Template, TemplatePart, event_time};

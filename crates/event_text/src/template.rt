@@ -86,7 +86,7 @@ fn add_piece(to: &mut String, piece: &TemplatePart, event: &Event) -> Result<(),
             Some(value) => add_shown(to, value),
             None => add_as_written(to, name.as_str()),
         },
-        TemplatePart::Date(parts, inner) => match moment_of(event) {
+        TemplatePart::Date(parts, inner) => match event_time(event) {
             Some(moment) => add_date(to, parts.as_slice(), moment),
             None => add_as_written(to, inner.as_str()),
         },
@@ -101,8 +101,8 @@ fn add_as_written(to: &mut String, inner: &str) -> Result<(), AllocError>
     to.push_str("}")
 }
 
-// The event's `@timestamp`, where that is a time.
-fn moment_of(event: &Event) -> Option<Instant>
+/// The event's `@timestamp`, where that is a time.
+pub fn event_time(event: &Event) -> Option<Instant>
     ensures { result ≡ moment_of event.now }
 {
     let Value::Object(fields) = event.fields() else {

@@ -1,2 +1,4 @@
 pub mod Setting
 pub mod Cuts
+pub mod Steps
+mod Commas

@@ -2,3 +2,5 @@ pub mod Settings
 pub mod Readers
 pub mod Options
 pub mod Pieces
+pub mod Trying
+pub mod Convert

@@ -1,5 +1,5 @@
 -- What the value of a setting is read as; none where it is of another kind. A whole setting that has to be a text is one; where an item of a list or a value of a hash has to be a text, a number stands for its decimal text.
-use Rattle.std.specs.Prelude.{ℕ, List, [], ◌∷◌, ◌&&◌, nat_lt, nat_le, length, Bool, if◌then◌else◌, Option, Some, None, option_map, option_and_then}
+use Rattle.std.specs.Prelude.{ℕ, List, [], ◌∷◌, ◌&&◌, nat_lt, nat_le, length, Bool, if◌then◌else◌, codes, bytes_eq, Option, Some, None, option_map, option_and_then}
 use Rattle.event_tree.specs.Events.{Way}
 use Rattle.event_tree.specs.declared.value.Value.TheVariants as v
 use Rattle.event_text.specs.Options.{each_in}
@@ -11,6 +11,8 @@ use Rattle.config_tree.specs.Joining.{Entries}
 use Rattle.config_tree.specs.Readers.{Open, flag_of as flag_text}
 use Rattle.config_tree.specs.declared.tree.SettingValue.{SettingValue, out-SettingValue}
 use Rattle.config_tree.specs.declared.tree.SettingValue.TheOpen.{SettingValue-F}
+use Rattle.filter_settings.specs.declared.conversion.Conversion.{Conversion}
+use Rattle.filter_settings.specs.declared.conversion.Conversion.TheVariants as to
 
 abbrev text_in : Open → Option (List ℕ)
 text_in (SettingValue-F.Text s) = Some s
@@ -57,6 +59,16 @@ path_item x = option_and_then way_in (text_item x)
 abbrev pub template_item : SettingValue → Option (List TemplatePart)
 template_item x = option_map template_parts (text_item x)
 
+-- the kind that a text names
+abbrev pub conversion_of : List ℕ → Option Conversion
+conversion_of s = if bytes_eq s (codes "integer") then Some to.Integer
+    else (if bytes_eq s (codes "float") then Some to.Float
+    else (if bytes_eq s (codes "string") then Some to.Text
+    else (if bytes_eq s (codes "boolean") then Some to.Boolean else None)))
+
+abbrev pub conversion_item : SettingValue → Option Conversion
+conversion_item x = option_and_then conversion_of (text_item x)
+
 -- the path that a whole setting is
 abbrev pub path_of : SettingValue → Option Way
 path_of x = option_and_then way_in (text_of x)
@@ -88,6 +100,10 @@ field_paths_of x = option_and_then (each_in (at_field path_item)) (hash_of x)
 
 abbrev pub field_templates_of : SettingValue → Option (List (Way × List TemplatePart))
 field_templates_of x = option_and_then (each_in (at_field template_item)) (hash_of x)
+
+-- a hash of fields with the kinds to which they are converted
+abbrev pub field_conversions_of : SettingValue → Option (List (Way × Conversion))
+field_conversions_of x = option_and_then (each_in (at_field conversion_item)) (hash_of x)
 
 -- a text that may be an id: one of 1 to 255 bytes
 abbrev pub is_id : List ℕ → Bool

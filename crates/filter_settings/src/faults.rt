@@ -8,7 +8,7 @@ use plain_data::Text;
 use std::alloc::Global;
 
 /// What was found, and else that the setting of this name has a value of another kind.
-pub(crate) fn wanted<T>(alloc: Global, name: &str, found: Option<T>) -> Result<T, FromFault>
+pub fn wanted<T>(alloc: Global, name: &str, found: Option<T>) -> Result<T, FromFault>
 where
     T: Drop,
     ensures { Gives result (spec.wanted name.now found) }
@@ -42,6 +42,16 @@ pub(crate) fn missing(alloc: Global, name: &str) -> FromFault
 {
     match Text::of(alloc, name) {
         Ok(name) => FromFault::Bad(SettingFault::Missing(name)),
+        Err(_) => FromFault::Memory,
+    }
+}
+
+/// The fault of the setting of this name, whose text should be a pattern and is none.
+pub fn bad_pattern(alloc: Global, name: &str) -> FromFault
+    ensures { IsFault (setting.BadPattern name.now) result }
+{
+    match Text::of(alloc, name) {
+        Ok(name) => FromFault::Bad(SettingFault::BadPattern(name)),
         Err(_) => FromFault::Memory,
     }
 }

@@ -4,8 +4,9 @@ ghost use Rattle.event_text.specs.Options.{each_in};
 ghost use Rattle.filter_settings.specs.Readers as spec;
 ghost use Rattle.filter_settings.specs.Settings.{Gives, wanted};
 
+use crate::conversion::Conversion;
 use crate::faults::wanted;
-use crate::lists::{path_item, template_item, text_item};
+use crate::lists::{conversion_item, path_item, template_item, text_item};
 use config_tree::{FromFault, SettingValue};
 use event_text::{Template, path_in};
 use event_tree::Path;
@@ -50,6 +51,20 @@ pub fn read_field_templates(
 {
     match hash_of(value) {
         Some(entries) => wanted(alloc, name, field_templates(alloc, entries)?),
+        None => wanted(alloc, name, None),
+    }
+}
+
+/// A hash of fields with the kind each is converted to, in the order of the text.
+pub fn read_field_conversions(
+    alloc: Global,
+    name: &str,
+    value: &SettingValue,
+) -> Result<Items<(Path, Conversion)>, FromFault>
+    ensures { Gives result (wanted name.now (spec.field_conversions_of value.now)) }
+{
+    match hash_of(value) {
+        Some(entries) => wanted(alloc, name, field_conversions(alloc, entries)?),
         None => wanted(alloc, name, None),
     }
 }
@@ -161,6 +176,39 @@ fn field_template(
     };
     match template_item(alloc, value)? {
         Some(template) => Ok(Some((path, template))),
+        None => Ok(None),
+    }
+}
+
+#[tactic(auto, using(event_text::proofs::Going::going))]
+fn field_conversions(
+    alloc: Global,
+    entries: &[(Text, SettingValue)],
+) -> Result<Option<Items<(Path, Conversion)>>, AllocError>
+    ensures { IfOk result (λ found. found ≡ each_in (spec.at_field spec.conversion_item) entries.now) }
+{
+    let mut found = Items::new(alloc);
+    for entry in entries {
+        let Some(field) = field_conversion(alloc, entry.0.as_str(), &entry.1)? else {
+            return Ok(None);
+        };
+        found.push(field)?;
+    }
+    Ok(Some(found))
+}
+
+fn field_conversion(
+    alloc: Global,
+    key: &str,
+    value: &SettingValue,
+) -> Result<Option<(Path, Conversion)>, AllocError>
+    ensures { IfOk result (λ field. field ≡ spec.at_field spec.conversion_item (key.now, value.now)) }
+{
+    let Some(path) = path_in(alloc, key)? else {
+        return Ok(None);
+    };
+    match conversion_item(alloc, value)? {
+        Some(to) => Ok(Some((path, to))),
         None => Ok(None),
     }
 }

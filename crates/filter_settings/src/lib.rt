@@ -5,19 +5,26 @@
 //! `WrongKind` of its name otherwise. `Options` are the settings that every filter has.
 #![tactic(auto)]
 
+mod conversion;
 mod faults;
 mod hashes;
 mod lists;
 mod options;
 mod pieces;
 mod reading;
+mod trying;
 mod values;
 
 pub use config_tree::{FromFault, SettingFault, SettingValue, Settings};
+pub use conversion::{Conversion, convert};
 pub use event_text::{Applied, Options, add_tag, try_put};
-pub use hashes::{read_field_paths, read_field_templates, read_field_texts};
+pub use faults::{bad_pattern, wanted};
+pub use hashes::{
+    read_field_conversions, read_field_paths, read_field_templates, read_field_texts,
+};
 pub use lists::{read_paths, read_templates, read_texts};
 pub use options::set_option;
 pub use pieces::split_text;
 pub use reading::{SetByName, read_settings, require};
+pub use trying::{Change, change_at, finish, one_event, put_at};
 pub use values::{read_flag, read_id, read_path, read_template, read_text};

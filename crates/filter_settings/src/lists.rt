@@ -4,6 +4,7 @@ ghost use Rattle.event_text.specs.Options.{each_in};
 ghost use Rattle.filter_settings.specs.Readers as spec;
 ghost use Rattle.filter_settings.specs.Settings.{Gives, wanted};
 
+use crate::conversion::Conversion;
 use crate::faults::wanted;
 use config_tree::{FromFault, SettingValue};
 use event_text::{Template, path_in, value_text};
@@ -131,5 +132,29 @@ pub(crate) fn template_item(
     match text_item(alloc, item)? {
         Some(text) => Ok(Some(Template::read(alloc, text.as_str())?)),
         None => Ok(None),
+    }
+}
+
+pub(crate) fn conversion_item(
+    alloc: Global,
+    item: &SettingValue,
+) -> Result<Option<Conversion>, AllocError>
+    ensures { IfOk result (λ to. to ≡ spec.conversion_item item.now) }
+{
+    match text_item(alloc, item)? {
+        Some(text) => Ok(conversion_of(text.as_str())),
+        None => Ok(None),
+    }
+}
+
+fn conversion_of(text: &str) -> Option<Conversion>
+    ensures { result ≡ spec.conversion_of text.now }
+{
+    match text {
+        "integer" => Some(Conversion::Integer),
+        "float" => Some(Conversion::Float),
+        "string" => Some(Conversion::Text),
+        "boolean" => Some(Conversion::Boolean),
+        _ => None,
     }
 }
