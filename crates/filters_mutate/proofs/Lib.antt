@@ -1,0 +1,3 @@
+mod Strips
+mod Substitutions
+mod Firsts

@@ -1,0 +1,4 @@
+pub mod Texts
+pub mod Gsub
+pub mod Operations
+pub mod Settings
