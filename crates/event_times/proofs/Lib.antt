@@ -1,0 +1,5 @@
+pub mod Powers
+pub mod DigitSteps
+pub mod MonthNames
+pub mod InYears
+pub mod ItemSteps

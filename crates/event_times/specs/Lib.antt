@@ -1,0 +1,5 @@
+pub mod Digits
+pub mod Zones
+pub mod Reading
+pub mod Moments
+pub mod Iso8601
