@@ -1,0 +1,11 @@
+pub mod Texts
+pub mod Numbers
+pub mod Lines
+pub mod Pairs
+pub mod Answers
+pub mod Table
+pub mod Values
+pub mod Entries
+pub mod Reading
+pub mod Steps
+pub mod Pipelines
