@@ -1,4 +1,4 @@
-ghost use Rattle.std.specs.Prelude.{◌≡◌, IfOk, Err};
+ghost use Rattle.std.specs.Prelude.{◌≡◌, ◌≤◌, length, IfOk};
 ghost use Rattle.element_code.specs.Parts.{event_spelling};
 ghost use Rattle.element_code.specs.Values.{IsWhole};
 ghost use Rattle.element_code.specs.Faults.{IsRefusedAt};
@@ -23,6 +23,7 @@ pub fn decode(alloc: Global, bytes: &[u8]) -> Result<Event, ElementFault>
     // What is read is spelled so.
     ensures found { IfOk result (λ e. IsWhole e) }
     ensures spelled { IfOk result (λ e. event_spelling e ≡ bytes.now) }
+    ensures short { IfOk result (λ _. length bytes.now ≤ 16777216) }
 
     // What is spelled so is read, unless memory runs out.
     ensures only { ReadsWhatIsSpelled result bytes.now }

@@ -1,0 +1,13 @@
+pub mod Told
+pub mod Fronts
+pub mod BodyReads
+pub mod ElementReads
+pub mod RunReads
+pub mod PageReads
+pub mod RunLemmas
+pub mod Leftovers
+pub mod Elements
+pub mod Prefixes
+pub mod Appending
+pub mod Spelling
+pub mod Differing

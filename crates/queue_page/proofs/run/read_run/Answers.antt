@@ -1,0 +1,59 @@
+use Rattle.std.proofs.Common.{◌≡◌, ◌≤◌, ◌+◌, length, Some, Ok, Err, ap, ◌∙◌, arith, refl, sym}
+use Rattle.io_traits.specs.Reads.{bytes_of}
+use Rattle.store_disk.proofs.Looking.{nothing_then}
+use Rattle.queue_page.specs.Answers.{Tells}
+use Rattle.queue_page.specs.Blocks.{IsPart, left_of}
+use Rattle.queue_page.specs.Elements.{element_at}
+use Rattle.queue_page.specs.declared.element.Spot.{Spot}
+use Rattle.queue_page.specs.declared.row.PageRow.{PageRow}
+use Rattle.queue_page.proofs.Told.{over}
+use Rattle.queue_page.proofs.RunReads.{read_at, turn, ended_at_limit, ended_at_end, ended_at_fault, ran}
+use Rattle.queue_page.proofs.run.read_run.Goals as goal
+
+pub loop-count-preserved : goal.loop-count-preserved
+loop-count-preserved g c =
+    let inv = c.loop-count.invariant in
+    let now = c.loop-count.spot in
+    let name = c.args.name.now in
+    record {
+      few = omega arith;
+      number = omega (arith, inv.number);
+      version = inv.version;
+      end = inv.end;
+      behind = omega (arith, inv.behind, c.in-Ok.ensures.next.0);
+      within = c.in-Ok.ensures.next.1;
+      same = nothing_then g.S.Store c.args.store.now c.loop-count.store c.read_element.new.store inv.same c.read_element.ensures.same;
+      faults = c.in-Ok.ensures.cause.same (λ is. cc) ∙ inv.faults;
+      part = λ told part. over (g.S.Store.seen c.loop-count.store) (g.S.Store.seen c.args.store.now) name c.loop-count.block (λ file. IsPart file c.read_element.new.block) (inv.same.reads told) (c.read_element.ensures.part told) (inv.part told part);
+      so_far = λ told part within.
+          let read = over (g.S.Store.seen c.loop-count.store) (g.S.Store.seen c.args.store.now) name c.loop-count.block
+          (λ file. now.end ≤ length file → element_at now.version now.number now.place (left_of file now.place now.end) ≡ Ok c.in-Ok.row) (inv.same.reads told) (c.in-Ok.ensures.row told) (inv.part told part) (omega (arith, inv.end, within)) in
+          let file = bytes_of (g.S.Store.seen c.args.store.now name) in
+          let next : Spot = record { version = now.version; number = now.number + 1; place = c.in-Ok.row.next; end = now.end } in
+          turn c.args.limit c.args.first c.loop-count.count now file c.in-Ok.row next (inv.so_far told part within) c.loop-count-test.true (omega (arith, inv.end, c.if-spot.true)) within
+          (read_at c.args.first now c.loop-count.count file (Ok c.in-Ok.row) inv.version inv.number inv.end read) refl;
+    }
+
+pub returns-in-Err-Misfit-clause-run : goal.returns-in-Err-Misfit-clause-run
+returns-in-Err-Misfit-clause-run g c = λ told part within.
+    let inv = c.loop-count.invariant in
+    let now = c.loop-count.spot in
+    let name = c.args.name.now in
+    let file = bytes_of (g.S.Store.seen c.args.store.now name) in
+    let h = over (g.S.Store.seen c.loop-count.store) (g.S.Store.seen c.args.store.now) name c.loop-count.block
+    (λ f. now.end ≤ length f → Tells (λ (row : PageRow). row) (Err c.in-Err-Misfit.field-0) (element_at now.version now.number now.place (left_of f now.place now.end))) (inv.same.reads told)
+    (c.in-Err-Misfit.ensures.row told) (inv.part told part) (omega (arith, inv.end, within)) in
+    let read = rw c.in-Err-Misfit.field-0-is at h in
+    ended_at_fault c.args.limit c.args.first c.loop-count.count now file c.in-Err-Misfit.misfit (inv.so_far told part within) c.loop-count-test.true (omega (arith, inv.end, c.if-spot.true)) within
+    (read_at c.args.first now c.loop-count.count file (Err c.in-Err-Misfit.misfit) inv.version inv.number inv.end read)
+    ∙ ap (λ m. ran (record { count = c.loop-count.count; end = now.place; stop = Some m })) (sym c.in-Err-Misfit.misfit-is)
+
+pub returns-else-spot-clause-run : goal.returns-else-spot-clause-run
+returns-else-spot-clause-run g c = λ told part within.
+    let inv = c.loop-count.invariant in
+    ended_at_end c.args.limit c.args.first c.loop-count.count c.loop-count.spot (bytes_of (g.S.Store.seen c.args.store.now c.args.name.now)) (inv.so_far told part within) (omega (arith, inv.end, c.if-spot.false)) within
+
+pub returns-after-loop-count-clause-run : goal.returns-after-loop-count-clause-run
+returns-after-loop-count-clause-run g c = λ told part within.
+    let inv = c.loop-count.invariant in
+    ended_at_limit c.args.limit c.args.first c.loop-count.count c.loop-count.spot (bytes_of (g.S.Store.seen c.args.store.now c.args.name.now)) (inv.so_far told part within) c.loop-count-test.false

@@ -1,0 +1,26 @@
+-- A part of a file that is held in memory.
+use Rattle.std.specs.Prelude.{◌≡◌, ◌≤◌, ℕ, ◌-◌, min, IsTrue, List, length, take, drop}
+use Rattle.io_traits.specs.Reads.{bytes_of}
+use Rattle.store_trait.specs.declared.stores.Store.{Ghosts as StoreWords}
+use Rattle.queue_page.specs.Views.{BlockView}
+
+-- it holds what the file has from its place on
+abbrev pub IsPart : List ℕ → BlockView → Type 0
+IsPart file block = block.bytes ≡ take (length block.bytes) (drop block.place file)
+
+-- what it holds from a place on, up to another
+abbrev pub window_of : BlockView → ℕ → ℕ → List ℕ
+window_of block place end = take (end - place) (drop (place - block.place) block.bytes)
+
+-- so many of the first of these bytes, or all, and maybe more of them
+pub record IsFront (bytes : List ℕ) (count : ℕ) (front : List ℕ) : Type 0 where
+  pub is : front ≡ take (length front) bytes
+  pub enough : min count (length bytes) ≤ length front
+
+-- what is left of the part of a file up to an end, from a place on
+abbrev pub left_of : List ℕ → ℕ → ℕ → List ℕ
+left_of file place end = drop place (take end file)
+
+-- of a file that is told, and that a block holds a part of
+abbrev pub OnFile : {S : Type 0} → StoreWords S → S → List ℕ → BlockView → (List ℕ → Type 0) → Type 0
+OnFile store s name block Fact = IsTrue store.tells → IsPart (bytes_of (store.seen s name)) block → Fact (bytes_of (store.seen s name))

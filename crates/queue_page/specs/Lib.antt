@@ -1,0 +1,10 @@
+pub mod Views
+pub mod Bodies
+pub mod Elements
+pub mod Runs
+pub mod Pages
+pub mod Grammar
+pub mod Answers
+pub mod Blocks
+pub mod Leaving
+pub mod Laws
