@@ -33,6 +33,7 @@ bench: all
 	bash bench/growth.sh
 	bash bench/store.sh
 	bash bench/folder.sh
+	bash bench/threads.sh
 
 clean:
 	rm -rf bin crates/*/out

@@ -6,13 +6,14 @@ root=$(cd "$(dirname "$0")/.." && pwd)
 work=$(mktemp -d)
 trap 'rm -rf "$work"' EXIT
 
-# Proves and builds the program that makes the calls, and sets `program` to its path.
+# Proves and builds the program that makes the calls (bench_parts, where none is named), and sets `program` to its path.
 build() {
-    (cd "$root/crates/bench_parts" && rt run) >"$work/build.log" 2>&1 || {
+    name=${1:-bench_parts}
+    (cd "$root/crates/$name" && rt run) >"$work/build.log" 2>&1 || {
         tail -n 5 "$work/build.log"
         exit 1
     }
-    program=$root/crates/bench_parts/out/bench_parts
+    program=$root/crates/$name/out/$name
 }
 
 # The least time of five runs of a command, in nanoseconds. Its output stands in $work/output.

@@ -90,3 +90,63 @@ fn two_workers_work_at_once(rt: HostRuntime) -> Result<(), Fail> {
     assert!(rt; first && second && met == 2);
     Ok(())
 }
+
+#[test]
+fn a_shop_without_workers_hands_each_job_back(rt: HostRuntime) -> Result<(), Fail> {
+    let mut shop = ThreadShop::new(rt.alloc(), 2)?;
+    let _not_started = shop.hire()?;
+    let dismissed = shop.dismiss();
+    let back = shop.give(Next(1));
+    let none = shop.take();
+    assert!(rt;
+        dismissed && back.is_some() && none.is_none() && shop.close(&rt).as_slice().is_empty()
+    );
+    Ok(())
+}
+
+#[test]
+fn sixty_four_workers_do_a_job_each(rt: HostRuntime) -> Result<(), Fail> {
+    let mut shop = ThreadShop::new(rt.alloc(), 64)?;
+    for _ in 0..64u32 {
+        let worker = shop.hire()?;
+        let _ = thread::spawn(&rt, move || worker.serve(&rt))?;
+    }
+    let mut given = 0u32;
+    for number in 0..64u64 {
+        if shop.give(Next(number)).is_none() {
+            given = given.saturating_add(1);
+        }
+    }
+    let mut sum = 0u64;
+    for done in shop.close(&rt).as_slice() {
+        sum = sum.wrapping_add(*done);
+    }
+    assert!(rt; given == 64 && sum == 65 * 32);
+    Ok(())
+}
+
+/// One job is done when the shop closes, one waits for another, and one was given before its worker ran.
+#[test]
+fn a_shop_is_closed_with_jobs_in_each_state(rt: HostRuntime) -> Result<(), Fail> {
+    let begun = Arc::new(rt.alloc(), AtomicU64::new(1))?;
+    let mut shop = ThreadShop::new(rt.alloc(), 3)?;
+    let first = shop.hire()?;
+    let second = shop.hire()?;
+    let third = shop.hire()?;
+    let _ = thread::spawn(&rt, move || first.serve(&rt))?;
+    let done = shop.give(Meets(Arc::try_clone(&begun)?)).is_none();
+    for _ in 0..1_000_000u32 {
+        if begun.load(Ordering::SeqCst) == 2 {
+            break;
+        }
+        thread::yield_now();
+    }
+    begun.store(0, Ordering::SeqCst);
+    let _ = thread::spawn(&rt, move || second.serve(&rt))?;
+    let waits = shop.give(Meets(Arc::try_clone(&begun)?)).is_none();
+    let given = shop.give(Meets(begun)).is_none();
+    let _ = thread::spawn(&rt, move || third.serve(&rt))?;
+    let home = shop.close(&rt);
+    assert!(rt; done && waits && given && home.as_slice().len() == 3);
+    Ok(())
+}
