@@ -1,6 +1,6 @@
 use event_json::{JsonFault, read_json, write_json};
 use event_text::{path_in, try_put};
-use event_tree::{Event, Items, Path, Text, Value};
+use event_tree::{Event, Instant, Items, Path, Text, Value};
 use std::alloc::{AllocError, Global};
 use std::str;
 
@@ -59,10 +59,22 @@ fn repeated(alloc: Global, written: &str) -> Result<Text, AllocError> {
 }
 
 fn value_of(alloc: Global, written: &str) -> Result<Value, AllocError> {
+    if let Some(seconds) = written.strip_prefix("@") {
+        return Ok(time_of(seconds));
+    }
     if written.contains('*') {
         Ok(Value::Text(repeated(alloc, written)?))
     } else {
         json_value(alloc, written)
+    }
+}
+
+/// A moment so many seconds from 1970 on, and null where that is none.
+fn time_of(seconds: &str) -> Value {
+    let seconds = seconds.parse::<i64>().unwrap_or(0);
+    match Instant::from_nanos(seconds as i128 * 1_000_000_000) {
+        Some(moment) => Value::Time(moment),
+        None => Value::Null,
     }
 }
 

@@ -1,15 +1,19 @@
 use config_tree::Plugin;
 use event_tree::Event;
 use filter_settings::{Applied, FromFault};
+use filters_date::DateFilter;
+use filters_mutate::Mutate;
 use filters_shape::{CloneFilter, DropFilter, SplitFilter};
 use std::alloc::AllocError;
 
 /// A filter of any kind.
 #[derive(Drop)]
 pub enum Filter {
+    Mutate(Mutate),
     Clone(CloneFilter),
     Split(SplitFilter),
     Drop(DropFilter),
+    Date(DateFilter),
 }
 
 impl Filter {
@@ -17,18 +21,22 @@ impl Filter {
     pub fn read(plugin: &Plugin) -> Result<Option<Filter>, FromFault> {
         let settings = &plugin.settings;
         match plugin.name.as_str() {
+            "mutate" => Ok(Some(Filter::Mutate(Mutate::from_settings(settings)?))),
             "clone" => Ok(Some(Filter::Clone(CloneFilter::from_settings(settings)?))),
             "split" => Ok(Some(Filter::Split(SplitFilter::from_settings(settings)?))),
             "drop" => Ok(Some(Filter::Drop(DropFilter::from_settings(settings)?))),
+            "date" => Ok(Some(Filter::Date(DateFilter::from_settings(settings)?))),
             _ => Ok(None),
         }
     }
 
-    pub fn apply(&self, event: Event) -> Result<Applied, AllocError> {
+    pub fn apply(&mut self, event: Event) -> Result<Applied, AllocError> {
         match self {
+            Filter::Mutate(filter) => filter.apply(event),
             Filter::Clone(filter) => filter.apply(event),
             Filter::Split(filter) => filter.apply(event),
             Filter::Drop(filter) => filter.apply(event),
+            Filter::Date(filter) => filter.apply(event),
         }
     }
 }

@@ -3,8 +3,8 @@
 //! A table is a file, and each of its lines is a row:
 //!
 //! - `FILTER on EVENT`: a filter as it stands in a configuration, and an event as JSON, in which `@metadata` is the
-//!   event's metadata. Behind it any number of ` with PATH VALUE` put values into the event: JSON, or `COUNT*TEXT` for a
-//!   text of so many times that text. A path may be written so, too.
+//!   event's metadata. Behind it any number of ` with PATH VALUE` put values into the event: JSON, `COUNT*TEXT` for a
+//!   text of so many times that text, or `@SECONDS` for a time. A path may be written as a text is, too.
 //! - `FILTER` alone: whether its settings are read, or why they are refused.
 //!
 //! The answers in `stdout` were worked out by hand from the tables of the plugins: whether the filter matched, and the
@@ -17,8 +17,25 @@ mod rows;
 
 use std::{fs, io};
 
-const TABLES: [&str; 8] = [
-    "settings", "clone", "split", "drop", "options", "tags", "refused", "worked",
+const TABLES: [&str; 18] = [
+    "settings",
+    "clone",
+    "split",
+    "drop",
+    "options",
+    "tags",
+    "refused",
+    "mutate_settings",
+    "mutate_fills",
+    "mutate_convert",
+    "mutate_texts",
+    "mutate_lists",
+    "mutate_moves",
+    "mutate_order",
+    "mutate_refused",
+    "date_settings",
+    "date",
+    "worked",
 ];
 
 fn main(rt: HostRuntime) -> io::Result<()> {

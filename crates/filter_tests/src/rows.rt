@@ -28,17 +28,18 @@ fn plugin_of(alloc: Global, filter: &str) -> Result<Option<Plugin>, AllocError> 
 
 fn add_read(to: &mut String, plugin: &Plugin, event: &str) -> Result<(), AllocError> {
     match Filter::read(plugin) {
-        Ok(Some(filter)) => add_applied(to, &filter, event),
+        Ok(Some(filter)) => add_applied(to, filter, event),
         Ok(None) => to.push_str("no such filter"),
         Err(FromFault::Memory) => Err(AllocError),
         Err(FromFault::Bad(fault)) => write!(to, "refused: {fault}"),
     }
 }
 
-fn add_applied(to: &mut String, filter: &Filter, event: &str) -> Result<(), AllocError> {
+fn add_applied(to: &mut String, filter: Filter, event: &str) -> Result<(), AllocError> {
     if event.is_empty() {
         return to.push_str("read");
     }
+    let mut filter = filter;
     let event = event_of(*to.allocator(), event)?;
     let applied = filter.apply(event)?;
     to.push_str(if applied.matched {
