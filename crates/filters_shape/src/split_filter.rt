@@ -1,4 +1,4 @@
-ghost use Rattle.std.specs.Prelude.{◌≡◌, ◌∷◌, [], map, IfOk};
+ghost use Rattle.std.specs.Prelude.{◌≡◌, map, IfOk};
 ghost use Rattle.std.specs.List.{filter};
 ghost use Rattle.std.specs.Option.{option_and_then, option_copied};
 ghost use Rattle.event_tree.specs.declared.value.Value.TheVariants as v;
@@ -7,7 +7,7 @@ ghost use Rattle.filters_shape.specs.Split as spec;
 
 use event_tree::{Event, Events, Items, Names, Path, Text, Value};
 use filter_settings::{
-    Applied, FromFault, Options, SetByName, SettingValue, Settings, add_tag, read_path,
+    Applied, FromFault, Options, SetByName, SettingValue, Settings, add_tag, one_event, read_path,
     read_settings, read_text, set_option, split_text, try_put,
 };
 use std::alloc::{AllocError, Global};
@@ -110,7 +110,7 @@ impl SplitFilter {
         ensures { IfOk result (λ applied. applied ≡ spec.split_into self.now event pieces) }
     {
         let events = if pieces.len() < 2 {
-            one(self.terminator.allocator(), event)?
+            one_event(self.terminator.allocator(), event)?
         } else {
             self.events(event, pieces)?
         };
@@ -178,7 +178,7 @@ impl SplitFilter {
         let mut event = event;
         add_tag(&mut event, Text::of(alloc, "_split_type_failure")?)?;
         Ok(Applied {
-            events: one(alloc, event)?,
+            events: one_event(alloc, event)?,
             matched: false,
         })
     }
@@ -190,14 +190,6 @@ fn message_path(alloc: Global) -> Result<Path, AllocError>
     let mut parts = Names::new(alloc);
     parts.push(Text::of(alloc, "message")?)?;
     Ok(Path::of_parts(parts))
-}
-
-fn one(alloc: Global, event: Event) -> Result<Events, AllocError>
-    ensures { IfOk result (λ events. events ≡ event ∷ []) }
-{
-    let mut events = Events::new(alloc);
-    events.push(event)?;
-    Ok(events)
 }
 
 // The texts that are not empty, as values.
