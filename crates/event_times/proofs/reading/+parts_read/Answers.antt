@@ -32,7 +32,7 @@ returns-in_err-parts n c =
     let past : parts_read items p s ≡ option_and_then (rest_read items is i p s whole) (other_reading i p s) =
     elim c.match-first_reading.branch [
       | in-Some-first_reading+in_default-parts_read w ↦
-        past_first items is i p s whole (w.in-Some-first_reading.parts, w.in-Some-first_reading.rest.now) (search rules) (search rules)
+          past_first items is i p s whole (w.in-Some-first_reading.parts, w.in-Some-first_reading.rest.now) (search rules) (search rules)
       | in_default-first_reading w ↦ no_first items is i p s whole (search rules)
     ] in
     sym given ∙ sym (past ∙ ap (option_and_then (rest_read items is i p s whole)) none)
@@ -50,7 +50,7 @@ returns n c =
     let past : parts_read items p s ≡ option_and_then (rest_read items is i p s whole) (other_reading i p s) =
     elim c.match-first_reading.branch [
       | in-Some-first_reading+in_default-parts_read w ↦
-        past_first items is i p s whole (w.in-Some-first_reading.parts, w.in-Some-first_reading.rest.now) (search rules) (search rules)
+          past_first items is i p s whole (w.in-Some-first_reading.parts, w.in-Some-first_reading.rest.now) (search rules) (search rules)
       | in_default-first_reading w ↦ no_first items is i p s whole (search rules)
     ] in
     c.parts_read-2.ensures ∙ sym (past ∙ ap (option_and_then (rest_read items is i p s whole)) other)
