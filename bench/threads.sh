@@ -12,7 +12,7 @@ status=0
 ours=$(round_time 100000 "$program" counters)
 theirs=$(round_time 100000 "$work/threads_calls")
 printf 'an add to a counter            %6d ns, C %6d ns\n' "$ours" "$theirs"
-if [ "$ours" -gt $((2 * theirs + 1)) ]; then
+if [ "$ours" -gt $((2 * theirs)) ]; then
     echo "an add takes more than twice the time of C"
     status=1
 fi
