@@ -1,17 +1,21 @@
 #!/usr/bin/env python3
-"""Runs two processes on one folder of a store, of which the first is killed, and looks which system calls they make.
+"""Runs two processes on one folder of a store, of which the first is killed, and looks which system calls they make;
+and the program itself with a standard output that would block.
 
-The calls are made by the program io_tests, which rt ci builds. Prints what isn't as it should be. Where strace is missing,
-only the answers are looked at."""
+The calls on stores are made by the program io_tests; rt ci builds both. Prints what isn't as it should be. Where strace
+is missing, only the answers are looked at."""
 
+import json
 import os
 import re
 import shutil
 import subprocess
 import sys
 import tempfile
+import time
 
 PROGRAM = os.path.abspath("crates/io_tests/out/io_tests")
+LOGSTASH = os.path.abspath("crates/logstash_cli/out/logstash_cli")
 STRACE = shutil.which("strace")
 CALL = re.compile(r"^(?:\d+ +)?(fsync|openat|open|unlink)\((.*)\) += (-?\d+)")
 
@@ -114,14 +118,41 @@ def bare(top):
         expect("what is synced", synced(trace), [here, f"{here}/page.0", here])
 
 
+def full(top):
+    """Writes into a full pipe that doesn't block are waited for, and nothing is lost or written twice."""
+    lines = [f"{number:060}" for number in range(20_000)]
+    given = f"{top}/lines"
+    with open(given, "w", encoding="utf-8") as it:
+        it.writelines(line + "\n" for line in lines)
+    reads, writes = os.pipe()
+    os.set_blocking(writes, False)
+    trace = f"{top}/writes"
+    words = [LOGSTASH, "-e", "input { stdin {} } output { stdout {} }"]
+    if STRACE:
+        words = [STRACE, "-f", "-e", "trace=write,writev", "-o", trace, *words]
+    with open(given, "rb") as it:
+        run = subprocess.Popen(words, stdin=it, stdout=writes)
+    os.close(writes)
+    time.sleep(1)
+    expect("a program whose output is full", run.poll(), None)
+    with os.fdopen(reads, "rb") as it:
+        rows = it.read().splitlines()
+    expect("its status once it is read", run.wait(), 0)
+    expect("the lines that were written", [json.loads(row)["message"] for row in rows] == lines, True)
+    if STRACE:
+        with open(trace, encoding="utf-8") as it:
+            expect("a write that would block", any("EAGAIN" in call for call in it), True)
+
+
 def main():
-    if not os.path.isfile(PROGRAM):
-        print(f"processes: {PROGRAM} isn't built")
-        return 1
+    for program in (PROGRAM, LOGSTASH):
+        if not os.path.isfile(program):
+            print(f"processes: {program} isn't built")
+            return 1
     if not STRACE:
         print("processes: strace is missing, so system calls are not looked at")
     with tempfile.TemporaryDirectory() as top:
-        for case in (killed, made, bare):
+        for case in (killed, made, bare, full):
             case(os.path.realpath(top))
     return 1 if failed else 0
 
