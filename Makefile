@@ -30,6 +30,7 @@ bench: all
 	bash bench/patterns.sh
 	bash bench/parse.sh
 	bash bench/conditions.sh
+	bash bench/filters.sh
 	bash bench/growth.sh
 	bash bench/store.sh
 	bash bench/folder.sh

@@ -7,9 +7,10 @@ work=$(mktemp -d)
 trap 'rm -rf "$work"' EXIT
 
 # Proves and builds the program that makes the calls (bench_parts, where none is named), and sets `program` to its path.
+# It is run once, with the words behind its name.
 build() {
     name=${1:-bench_parts}
-    (cd "$root/crates/$name" && rt run) >"$work/build.log" 2>&1 || {
+    (cd "$root/crates/$name" && rt run -- "${@:2}") >"$work/build.log" 2>&1 || {
         tail -n 5 "$work/build.log"
         exit 1
     }

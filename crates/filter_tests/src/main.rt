@@ -9,13 +9,16 @@
 //!
 //! The answers in `stdout` were worked out by hand from the tables of the plugins: whether the filter matched, and the
 //! events that stand in the event's place.
+//!
+//! With the words of `timing` it applies one filter many times over instead, to be timed from outside.
 #![tactic(auto)]
 
 mod events;
 mod filters;
 mod rows;
+mod timing;
 
-use std::{fs, io};
+use std::{env, fs, io};
 
 const TABLES: [&str; 18] = [
     "settings",
@@ -39,10 +42,24 @@ const TABLES: [&str; 18] = [
 ];
 
 fn main(rt: HostRuntime) -> io::Result<()> {
+    let words: Vec<String> = env::args(&rt)?.skip(1).collect(rt.alloc())?;
+    if words.is_empty() {
+        print_tables(&rt)
+    } else {
+        match timing::run(&rt, &words) {
+            Some(done) => println!(rt; "{done}"),
+            None => println!(rt;
+                "the words are a filter, `copies` or `calls`, a file that can be read, and rounds"
+            ),
+        }
+    }
+}
+
+fn print_tables(rt: &HostRuntime) -> io::Result<()> {
     for name in &TABLES {
-        let table = fs::read_to_string(&rt, *name)?;
+        let table = fs::read_to_string(rt, *name)?;
         println!(rt; "# {name}")?;
-        print_answers(&rt, table.as_str())?;
+        print_answers(rt, table.as_str())?;
     }
     Ok(())
 }

@@ -15,7 +15,7 @@ pub fn add_answer(to: &mut String, row: &str) -> Result<(), AllocError> {
 }
 
 /// The plugin that stands alone in the section of filters.
-fn plugin_of(alloc: Global, filter: &str) -> Result<Option<Plugin>, AllocError> {
+pub fn plugin_of(alloc: Global, filter: &str) -> Result<Option<Plugin>, AllocError> {
     let text = format!(in alloc; "filter {{ {filter} }}")?;
     let Ok(mut config) = parse(alloc, text.as_str()) else {
         return Ok(None);
