@@ -1,0 +1,48 @@
+-- A folder that holds a queue file by file keeps its rows.
+use Rattle.std.proofs.Common.{◌≡◌, ◌⊎◌, ℕ, ◌+◌, ◌<◌, ◌≤◌, ◌==◌, ◌&&◌, not, nat_lt, true, false, Bool, List, [], ◌∷◌, ◌++◌, length, take, Option, Some, None, is_some, Result, Ok, Err, if◌then◌else◌, refl, sym, ◌∙◌, ap, arith, length-take}
+use Rattle.std.proofs.lemmas.Bool.{cond-true, cond-false, cases_eq}
+use Rattle.io_traits.specs.Reads.{bytes_of}
+use Rattle.store_disk.specs.declared.pages.PageState.{PageState}
+use Rattle.queue_checkpoint.specs.Checkpoints.{slots_of}
+use Rattle.queue_page.specs.Elements.{and_then}
+use Rattle.queue_page.specs.Pages.{PageRows, opened}
+use Rattle.queue_laws.specs.Folders.{Role, head, page, checkpoint, Folder}
+use Rattle.queue_laws.specs.Checkpoints.{Misfit, misfit, told, told_by}
+use Rattle.queue_laws.specs.Found.{Row, Damaged, or_damage, told_at, Found, is_new, is_bare, Held, held, head_held, falling, unless, opened_page, read_all, found_in, of_head, nothing_found, found}
+use Rattle.queue_laws.specs.Kept.{Queue, IsQueue, Stands, Kept, RowsKept}
+use Rattle.queue_laws.specs.Laws.{StandingIsKept}
+use Rattle.queue_laws.proofs.Standing.{fits, none_falls, reads, HeldAs, ReadAs}
+
+some_newest : (slots : _) (o : Option (ℕ × PageState)) (s : PageState) → told_by slots o ≡ Ok s → is_some o ≡ true
+some_newest slots None s is = absurd cc
+some_newest slots (Some newest) s is = refl
+
+-- a folder whose head slot tells something isn't new
+pub not_new : (folder : Folder) (s : PageState) → told (folder head) ≡ Ok s → is_new folder ≡ false
+unfolding is_new
+not_new folder s is =
+    let slots = slots_of (bytes_of (folder head)) in
+    ap (λ (b : Bool). not b && nat_lt (length (bytes_of (folder head))) 49 && is_bare folder) (some_newest slots slots.newest s is)
+
+pub found_as : (folder : Folder) (s : PageState) → told (folder head) ≡ Ok s → found folder ≡ of_head folder s
+found_as folder s is =
+    cond-false (is_new folder) (Ok nothing_found) (and_then (told_at head (folder head)) (of_head folder)) (not_new folder s is)
+    ∙ ap (λ (t : Result PageState Misfit). and_then (or_damage t (λ m. (head, m))) (of_head folder)) is
+
+pub standing_is_kept : StandingIsKept
+standing_is_kept q folder is stands =
+    let t = stands.top in
+    let s : PageState = record { page = q.top.number; first_open = t.first_open; least = q.top.least; count = length (take t.recorded q.top.rows); length = t.len } in
+    let top = head_held folder s in
+    let hs = fits q.top.number 0 0 q.tails q.top folder (omega arith) is stands.tails (λ n from less none. stands.gone n less none) in
+    let opens : opened_page true top ≡ Ok t.read = ap (λ r. or_damage r (λ m. (page q.top.number, misfit m.place m.found m.expected))) t.opens in
+    let r = reads q q.tails hs.pages top t.read t.count t.first_open hs.fit opens refl t.since refl t.gives (omega (arith, t.enough, t.not_less)) t.within (omega (arith, length-take t.count q.top.rows, t.within)) in
+    record {
+      held = r.held;
+      is_found =
+          found_as folder s t.told
+          ∙ ap (λ (l : Result (List Held) Damaged). and_then l (found_in top)) hs.is
+          ∙ ap (λ (o : Option Damaged). unless o (read_all hs.pages top)) (none_falls 0 0 q.tails q.top hs.pages top is hs.fit refl)
+          ∙ r.is;
+      kept = r.kept;
+    }

@@ -1,0 +1,4 @@
+pub mod Standing
+pub mod Kept
+pub mod ApartNames
+pub mod Others

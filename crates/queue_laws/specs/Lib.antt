@@ -1,0 +1,5 @@
+pub mod Folders
+pub mod Checkpoints
+pub mod Found
+pub mod Kept
+pub mod Laws

@@ -1,0 +1,18 @@
+//! What holds of the folder of a queue. Each function here does nothing: its clauses are theorems.
+ghost use Rattle.queue_laws.specs.Laws.{StandingIsKept, NamesDiffer, FoundGoesByPages};
+
+/// A folder whose files are those of a queue, each for itself, holds the rows of the queue.
+pub fn what_stands_is_kept()
+    ensures { StandingIsKept }
+{}
+
+/// No two files of a folder have one name.
+pub fn names_differ()
+    ensures { NamesDiffer }
+{}
+
+/// Pages above the head, checkpoints of pages from the head on, and what stands behind the rows of the head
+/// page change nothing of what a folder holds.
+pub fn what_is_found_goes_by_pages()
+    ensures { FoundGoesByPages }
+{}
