@@ -20,7 +20,7 @@ module _ (turn : ℕ) (s : PageState) where
   unfolding slot_spelling slot_body
   length-spelling = refl
 
-  read_version : version_of (slot_spelling turn s) ≡ 1
+  pub read_version : version_of (slot_spelling turn s) ≡ 1
   unfolding version_of slot_spelling slot_body
   read_version = big_number-reads_back 2 1 (drop 2 (slot_spelling turn s)) (omega arith)
 

@@ -43,7 +43,7 @@ module _ (turn : ℕ) (s : PageState) (fits : FitsSlot turn s) where
 
   -- ---- a slot that may be torn
 
-  may_hold : (slots : Option (List ℕ)) (f : FileImage) → TornFile (place_of 48 turn) slot (at_rest slots) f → NoChance (passes (is_slot 48)) f → MayHoldSlot 48 (place_of 48 turn) slot (bytes_of slots) (bytes_of f.file)
+  pub may_hold : (slots : Option (List ℕ)) (f : FileImage) → TornFile (place_of 48 turn) slot (at_rest slots) f → NoChance (passes (is_slot 48)) f → MayHoldSlot 48 (place_of 48 turn) slot (bytes_of slots) (bytes_of f.file)
   unfolding slot_spelling slot_body
   may_hold slots f torn chance = record {
     before = torn.torn.before;

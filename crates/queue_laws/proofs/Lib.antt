@@ -2,3 +2,5 @@ pub mod Standing
 pub mod Kept
 pub mod ApartNames
 pub mod Others
+pub mod Recording
+pub mod Torn

@@ -10,7 +10,7 @@ use Rattle.queue_laws.specs.Checkpoints.{told}
 use Rattle.queue_laws.specs.Found.{Row, since, Found, found}
 
 -- A page of a queue: its number, its version, its least number and its rows; which of them are acknowledged; and the first number that wasn't
--- when that was last recorded.
+-- when that was last recorded, with the turn of the slot in which it was.
 pub record Page : Type 0 where
   pub number : ℕ
   pub version : ℕ
@@ -18,6 +18,7 @@ pub record Page : Type 0 where
   pub rows : List PageRow
   pub acknowledged : List Bool
   pub from : ℕ
+  pub turn : ℕ
 
 -- how many are acknowledged before the first that isn't
 abbrev pub leading : List Bool → ℕ
@@ -112,6 +113,7 @@ pub record Stands (q : Queue) (folder : Folder) : Type 0 where
 -- a page that can be recorded: each of its rows is acknowledged or not, and no number is recorded as acknowledged that isn't
 pub record IsSound (p : Page) : Type 0 where
   pub number : p.number < 2 ^ 32 - 1
+  pub turn : p.turn < 2 ^ 64
   pub least : 1 ≤ p.least
   pub numbers : p.least + length p.rows < 2 ^ 63
   pub count : length p.rows < 2 ^ 32

@@ -1,12 +1,14 @@
 -- Laws of folders.
-use Rattle.std.specs.Prelude.{◌≡◌, ◌<◌, ℕ, true, List, Result, Ok}
+use Rattle.std.specs.Prelude.{◌≡◌, ◌<◌, ℕ, true, List, ◌++◌, length, Option, Result, Ok}
 use Rattle.io_traits.specs.Reads.{bytes_of}
+use Rattle.store_trait.specs.Images.{FileImage}
 use Rattle.store_disk.specs.declared.pages.PageState.{PageState}
 use Rattle.queue_page.specs.Pages.{opened}
 use Rattle.queue_laws.specs.Folders.{head, page, checkpoint, Folder, AreApart, names_in}
 use Rattle.queue_laws.specs.Checkpoints.{told}
 use Rattle.queue_laws.specs.Found.{found}
-use Rattle.queue_laws.specs.Kept.{Queue, IsQueue, Stands, Kept}
+use Rattle.queue_laws.specs.Kept.{Page, Queue, first_open_of, state_at, IsTail, IsTop, IsSound, IsQueue, Stands, Kept}
+use Rattle.queue_laws.specs.Resting.{MayRecord, TailHeld, TopHeld, MayHoldTail}
 
 -- a folder that holds a queue file by file holds its rows
 abbrev pub StandingIsKept : Type 0
@@ -23,3 +25,23 @@ FoundGoesByPages =
     (a b : Folder) (s : PageState) → told (a head) ≡ Ok s → told (b head) ≡ Ok s → ((n : ℕ) → n < s.page → b (page n) ≡ a (page n))
     → ((n : ℕ) → n < s.page → b (checkpoint n) ≡ a (checkpoint n))
     → opened true s (bytes_of (b (page s.page))) ≡ opened true s (bytes_of (a (page s.page))) → found b ≡ found a
+
+-- ---- what a stop leaves of one file of a queue
+
+-- A page below the head stands, be the slot that records what is acknowledged now written, torn, or not yet written.
+abbrev pub TailsStand : Type 0
+TailsStand =
+    (p : Page) (slots file : Option (List ℕ)) (f : FileImage) → IsSound p → (held : TailHeld p slots file)
+    → MayRecord slots p.turn (state_at p (first_open_of p) p.rows (length held.bytes)) f → IsTail p f.file file
+
+-- So does the head page, while all its rows are settled and the slot that records them is written.
+abbrev pub MarkedHeadsStand : Type 0
+MarkedHeadsStand =
+    (q : Queue) (slots file : Option (List ℕ)) (f : FileImage) → IsSound q.top → (held : TopHeld q slots file)
+    → MayRecord slots q.top.turn (state_at q.top (first_open_of q.top) q.top.rows (length (held.front ++ held.tail))) f → IsTop q f.file file
+
+-- And while rows behind those that were recorded may be there or not, as long as its checkpoint rests.
+abbrev pub OpenHeadsStand : Type 0
+OpenHeadsStand =
+    (q : Queue) (slots file : Option (List ℕ)) (f : FileImage) → IsSound q.top → (held : TopHeld q slots file) → MayHoldTail held.front held.tail f
+    → IsTop q slots f.file

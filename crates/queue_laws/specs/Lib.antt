@@ -2,4 +2,5 @@ pub mod Folders
 pub mod Checkpoints
 pub mod Found
 pub mod Kept
+pub mod Resting
 pub mod Laws

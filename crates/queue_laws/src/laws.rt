@@ -1,5 +1,5 @@
 //! What holds of the folder of a queue. Each function here does nothing: its clauses are theorems.
-ghost use Rattle.queue_laws.specs.Laws.{StandingIsKept, NamesDiffer, FoundGoesByPages};
+ghost use Rattle.queue_laws.specs.Laws.{StandingIsKept, NamesDiffer, FoundGoesByPages, TailsStand, MarkedHeadsStand, OpenHeadsStand};
 
 /// A folder whose files are those of a queue, each for itself, holds the rows of the queue.
 pub fn what_stands_is_kept()
@@ -15,4 +15,16 @@ pub fn names_differ()
 /// page change nothing of what a folder holds.
 pub fn what_is_found_goes_by_pages()
     ensures { FoundGoesByPages }
+{}
+
+/// Whatever a stop leaves while marks are written, each page stands: its checkpoint says what it said before,
+/// or what is acknowledged now.
+pub fn marks_may_be_torn()
+    ensures tails { TailsStand }
+    ensures head { MarkedHeadsStand }
+{}
+
+/// Whatever a stop leaves of rows behind the last mark, the head page stands with the first of them.
+pub fn rows_may_be_torn()
+    ensures { OpenHeadsStand }
 {}

@@ -1,0 +1,52 @@
+-- What the files of a queue are between two calls, and what a stop may leave of each while a call changes it.
+use Rattle.std.specs.Prelude.{◌≡◌, ◌⊎◌, ◌≤◌, ◌<◌, ◌^◌, ℕ, ◌+◌, List, [], ◌∷◌, ◌++◌, length, take, drop, Option, Some, None}
+use Rattle.io_traits.specs.Reads.{bytes_of}
+use Rattle.crc_frame.specs.Slots.{place_of, is_slot, slot_of, next_turn, NewestIs}
+use Rattle.store_trait.specs.Images.{FileImage, TornFile, at_rest}
+use Rattle.store_trait.specs.Chance.{NoChance}
+use Rattle.store_trait.specs.Tails.{passes, TailImage}
+use Rattle.store_disk.specs.declared.pages.PageState.{PageState}
+use Rattle.queue_checkpoint.specs.Checkpoints.{FitsSlot, slot_spelling}
+use Rattle.queue_page.specs.Elements.{is_element}
+use Rattle.queue_page.specs.Grammar.{IsPage, AreElements}
+use Rattle.queue_laws.specs.Kept.{Page, Queue, first_open_of, state_at}
+
+-- ---- checkpoint files
+
+-- the newest slot of a checkpoint file is that of this turn, which says this
+pub record Records (file : List ℕ) (turn : ℕ) (s : PageState) : Type 0 where
+  pub fits : FitsSlot turn s
+  pub newest : NewestIs 48 file (slot_of 48 (slot_spelling turn s)) (slot_spelling turn s)
+
+-- a checkpoint file at rest, or in which the next slot is written, which says this; a stop may leave it torn, and no slot stands by chance
+pub record MayRecord (slots : Option (List ℕ)) (turn : ℕ) (s : PageState) (f : FileImage) : Type 0 where
+  pub rests_or_torn : (f ≡ at_rest slots) ⊎ TornFile (place_of 48 (next_turn turn)) (slot_spelling (next_turn turn) s) (at_rest slots) f
+  pub no_chance : NoChance (passes (is_slot 48)) f
+
+-- ---- pages below the head
+
+-- the file of the page is its rows, and its checkpoint says where it was recorded
+pub record TailHeld (p : Page) (slots file : Option (List ℕ)) : Type 0 where
+  pub bytes : List ℕ
+  pub stands : file ≡ Some bytes
+  pub is_page : IsPage bytes p.version p.least p.rows
+  pub short : length bytes < 2 ^ 64
+  pub records : Records (bytes_of slots) p.turn (state_at p p.from p.rows (length bytes))
+
+-- ---- the head page
+
+-- The file of the head page is its rows: the first of them were recorded, and are settled.
+pub record TopHeld (q : Queue) (slots file : Option (List ℕ)) : Type 0 where
+  pub front : List ℕ
+  pub tail : List ℕ
+  pub stands : file ≡ Some (front ++ tail)
+  pub marked : q.marked ≤ length q.top.rows
+  pub is_page : IsPage front q.top.version q.top.least (take q.marked q.top.rows)
+  pub behind : AreElements q.top.version (q.top.least + q.marked) (length front) (drop q.marked q.top.rows) tail
+  pub short : length (front ++ tail) < 2 ^ 64
+  pub records : Records (bytes_of slots) q.top.turn (state_at q.top q.top.from (take q.marked q.top.rows) (length front))
+
+-- the recorded rows are settled, and those behind them may be; no element stands by chance
+pub record MayHoldTail (front tail : List ℕ) (f : FileImage) : Type 0 where
+  pub image : TailImage front tail f
+  pub no_chance : NoChance (passes is_element) f
