@@ -4,3 +4,5 @@ pub mod ApartNames
 pub mod Others
 pub mod Recording
 pub mod Torn
+pub mod Keeping
+pub mod Whole

@@ -110,6 +110,11 @@ pub record Stands (q : Queue) (folder : Folder) : Type 0 where
 
 -- ---- queues as they can be
 
+-- rows with consecutive numbers, the first of which is this
+abbrev pub AreNumbered : ℕ → List PageRow → Type 0
+AreNumbered number [] = ⊤
+AreNumbered number (r ∷ rows) = (r.number ≡ number) × AreNumbered (suc number) rows
+
 -- a page that can be recorded: each of its rows is acknowledged or not, and no number is recorded as acknowledged that isn't
 pub record IsSound (p : Page) : Type 0 where
   pub number : p.number < 2 ^ 32 - 1
@@ -117,6 +122,7 @@ pub record IsSound (p : Page) : Type 0 where
   pub least : 1 ≤ p.least
   pub numbers : p.least + length p.rows < 2 ^ 63
   pub count : length p.rows < 2 ^ 32
+  pub numbered : AreNumbered p.least p.rows
   pub each : length p.acknowledged ≡ length p.rows
   pub begins : p.least ≤ p.from
   pub from : p.from ≤ first_open_of p

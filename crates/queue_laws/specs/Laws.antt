@@ -1,14 +1,16 @@
 -- Laws of folders.
-use Rattle.std.specs.Prelude.{◌≡◌, ◌<◌, ℕ, true, List, ◌++◌, length, Option, Result, Ok}
+use Rattle.std.specs.Prelude.{◌≡◌, ◌≤◌, ◌<◌, ℕ, true, List, ◌∷◌, ◌++◌, length, Option, Result, Ok}
 use Rattle.io_traits.specs.Reads.{bytes_of}
-use Rattle.store_trait.specs.Images.{FileImage}
+use Rattle.store_trait.specs.Images.{Image, FileImage}
 use Rattle.store_disk.specs.declared.pages.PageState.{PageState}
 use Rattle.queue_page.specs.Pages.{opened}
-use Rattle.queue_laws.specs.Folders.{head, page, checkpoint, Folder, AreApart, names_in}
+use Rattle.queue_page.specs.declared.row.PageRow.{PageRow}
+use Rattle.queue_laws.specs.Folders.{head, page, checkpoint, Folder, Names, AreApart, names_in, folder_in}
 use Rattle.queue_laws.specs.Checkpoints.{told}
 use Rattle.queue_laws.specs.Found.{found}
 use Rattle.queue_laws.specs.Kept.{Page, Queue, first_open_of, state_at, IsTail, IsTop, IsSound, IsQueue, Stands, Kept}
-use Rattle.queue_laws.specs.Resting.{MayRecord, TailHeld, TopHeld, MayHoldTail}
+use Rattle.queue_laws.specs.Resting.{MayRecord, TailHeld, TopHeld, MayHoldTail, Held, Rests, Marks}
+use Rattle.queue_laws.specs.Steps.{marked, with_row, rolled, IsSpent, with_tails}
 
 -- a folder that holds a queue file by file holds its rows
 abbrev pub StandingIsKept : Type 0
@@ -45,3 +47,29 @@ abbrev pub OpenHeadsStand : Type 0
 OpenHeadsStand =
     (q : Queue) (slots file : Option (List ℕ)) (f : FileImage) → IsSound q.top → (held : TopHeld q slots file) → MayHoldTail held.front held.tail f
     → IsTop q slots f.file
+
+-- ---- what a stop leaves of a whole queue
+
+-- between two calls
+abbrev pub RestingIsKept : Type 0
+RestingIsKept = (q : Queue) (names : Names) (folder : Folder) (i : Image) → IsQueue q → (held : Held q folder) → Rests q names folder held i → Kept q (folder_in names i)
+
+-- while a mark is written
+abbrev pub MarkingIsKept : Type 0
+MarkingIsKept = (q : Queue) (names : Names) (folder : Folder) (i : Image) → IsQueue q → (held : Held q folder) → Marks q names folder held i → Kept q (folder_in names i)
+
+-- ---- what a call makes of a queue keeps the queue before it
+
+abbrev pub MarkedKeeps : Type 0
+MarkedKeeps = (q : Queue) (folder : Folder) → q.marked ≤ length q.top.rows → Kept (marked q) folder → Kept q folder
+
+abbrev pub RowKeeps : Type 0
+RowKeeps = (q : Queue) (row : PageRow) (folder : Folder) → Kept q folder → Kept (with_row row q) folder
+
+abbrev pub RolledKeeps : Type 0
+RolledKeeps = (q : Queue) (folder : Folder) → q.marked ≤ length q.top.rows → Kept (rolled q) folder → Kept q folder
+
+abbrev pub PurgedKeeps : Type 0
+PurgedKeeps =
+    (q : Queue) (before behind : List Page) (p : Page) (folder : Folder) → q.tails ≡ before ++ p ∷ behind → IsSound p → IsSpent p
+    → Kept (with_tails (before ++ behind) q) folder → Kept q folder

@@ -3,4 +3,5 @@ pub mod Checkpoints
 pub mod Found
 pub mod Kept
 pub mod Resting
+pub mod Steps
 pub mod Laws

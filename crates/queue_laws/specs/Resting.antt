@@ -1,15 +1,16 @@
 -- What the files of a queue are between two calls, and what a stop may leave of each while a call changes it.
-use Rattle.std.specs.Prelude.{◌≡◌, ◌⊎◌, ◌≤◌, ◌<◌, ◌^◌, ℕ, ◌+◌, List, [], ◌∷◌, ◌++◌, length, take, drop, Option, Some, None}
+use Rattle.std.specs.Prelude.{◌≡◌, ◌≢◌, ◌⊎◌, ◌≤◌, ◌<◌, ◌^◌, ℕ, ◌+◌, ⊤, List, [], ◌∷◌, ◌++◌, length, take, drop, Option, Some, None}
 use Rattle.io_traits.specs.Reads.{bytes_of}
 use Rattle.crc_frame.specs.Slots.{place_of, is_slot, slot_of, next_turn, NewestIs}
-use Rattle.store_trait.specs.Images.{FileImage, TornFile, at_rest}
+use Rattle.store_trait.specs.Images.{Image, FileImage, TornFile, at_rest}
 use Rattle.store_trait.specs.Chance.{NoChance}
 use Rattle.store_trait.specs.Tails.{passes, TailImage}
 use Rattle.store_disk.specs.declared.pages.PageState.{PageState}
 use Rattle.queue_checkpoint.specs.Checkpoints.{FitsSlot, slot_spelling}
 use Rattle.queue_page.specs.Elements.{is_element}
 use Rattle.queue_page.specs.Grammar.{IsPage, AreElements}
-use Rattle.queue_laws.specs.Kept.{Page, Queue, first_open_of, state_at}
+use Rattle.queue_laws.specs.Folders.{head, page, checkpoint, Folder, Names}
+use Rattle.queue_laws.specs.Kept.{Page, Queue, first_open_of, state_at, NoTail}
 
 -- ---- checkpoint files
 
@@ -50,3 +51,41 @@ pub record TopHeld (q : Queue) (slots file : Option (List ℕ)) : Type 0 where
 pub record MayHoldTail (front tail : List ℕ) (f : FileImage) : Type 0 where
   pub image : TailImage front tail f
   pub no_chance : NoChance (passes is_element) f
+
+-- ---- the whole folder
+
+abbrev pub TailsHeld : List Page → Folder → Type 0
+TailsHeld [] folder = ⊤
+TailsHeld (p ∷ tails) folder = TailHeld p (folder (checkpoint p.number)) (folder (page p.number)) × TailsHeld tails folder
+
+-- what reads give of a queue between two calls; of checkpoints without a page below the head nothing is said
+pub record Held (q : Queue) (folder : Folder) : Type 0 where
+  pub tails : TailsHeld q.tails folder
+  pub gone : (n : ℕ) → n < q.top.number → NoTail n q.tails → folder (page n) ≡ None
+  pub top : TopHeld q (folder head) (folder (page q.top.number))
+  pub no_pages : (n : ℕ) → q.top.number < n → folder (page n) ≡ None
+  pub no_checkpoints : (n : ℕ) → q.top.number ≤ n → folder (checkpoint n) ≡ None
+
+abbrev pub TailsRest : List Page → Names → Folder → Image → Type 0
+TailsRest [] names folder i = ⊤
+TailsRest (p ∷ tails) names folder i = (i (names (checkpoint p.number)) ≡ at_rest (folder (checkpoint p.number))) × TailsRest tails names folder i
+
+-- Each file is at rest, but the rows of the head page behind the last mark, and checkpoints without a page.
+pub record Rests (q : Queue) (names : Names) (folder : Folder) (held : Held q folder) (i : Image) : Type 0 where
+  pub top_slot : i (names head) ≡ at_rest (folder head)
+  pub tails : TailsRest q.tails names folder i
+  pub pages : (n : ℕ) → n ≢ q.top.number → i (names (page n)) ≡ at_rest (folder (page n))
+  pub no_checkpoints : (n : ℕ) → q.top.number ≤ n → i (names (checkpoint n)) ≡ at_rest None
+  pub top_page : MayHoldTail held.top.front held.top.tail (i (names (page q.top.number)))
+
+abbrev pub TailsMark : (tails : List Page) (names : Names) (folder : Folder) → TailsHeld tails folder → Image → Type 0
+TailsMark [] names folder held i = ⊤
+TailsMark (p ∷ tails) names folder held i =
+    MayRecord (folder (checkpoint p.number)) p.turn (state_at p (first_open_of p) p.rows (length held.0.bytes)) (i (names (checkpoint p.number)))
+    × TailsMark tails names folder held.1 i
+
+-- While a mark is written all pages are at rest, and so is each checkpoint, or its next slot is being written, which records its page.
+pub record Marks (q : Queue) (names : Names) (folder : Folder) (held : Held q folder) (i : Image) : Type 0 where
+  pub tails : TailsMark q.tails names folder held.tails i
+  pub head : MayRecord (folder head) q.top.turn (state_at q.top (first_open_of q.top) q.top.rows (length (held.top.front ++ held.top.tail))) (i (names head))
+  pub pages : (n : ℕ) → n ≤ q.top.number → i (names (page n)) ≡ at_rest (folder (page n))

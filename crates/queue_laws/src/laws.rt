@@ -1,5 +1,5 @@
 //! What holds of the folder of a queue. Each function here does nothing: its clauses are theorems.
-ghost use Rattle.queue_laws.specs.Laws.{StandingIsKept, NamesDiffer, FoundGoesByPages, TailsStand, MarkedHeadsStand, OpenHeadsStand};
+ghost use Rattle.queue_laws.specs.Laws.{StandingIsKept, NamesDiffer, FoundGoesByPages, TailsStand, MarkedHeadsStand, OpenHeadsStand, RestingIsKept, MarkingIsKept, MarkedKeeps, RowKeeps, RolledKeeps, PurgedKeeps};
 
 /// A folder whose files are those of a queue, each for itself, holds the rows of the queue.
 pub fn what_stands_is_kept()
@@ -27,4 +27,19 @@ pub fn marks_may_be_torn()
 /// Whatever a stop leaves of rows behind the last mark, the head page stands with the first of them.
 pub fn rows_may_be_torn()
     ensures { OpenHeadsStand }
+{}
+
+/// Whatever a stop leaves of a queue between two calls, and while a mark is written, holds the queue.
+pub fn whatever_stops_is_kept()
+    ensures resting { RestingIsKept }
+    ensures marking { MarkingIsKept }
+{}
+
+/// A folder that holds what a call makes of a queue holds the queue before the call, too: after a mark, a new
+/// head page or a purge. And one that holds a queue holds it with a row more, which may be missing.
+pub fn what_follows_keeps_what_was()
+    ensures marked { MarkedKeeps }
+    ensures rolled { RolledKeeps }
+    ensures purged { PurgedKeeps }
+    ensures row { RowKeeps }
 {}

@@ -1,0 +1,14 @@
+use Rattle.queue_laws.proofs.Keeping.{marked_keeps, rolled_keeps, purged_keeps, row_keeps}
+use Rattle.queue_laws.proofs.laws.what_follows_keeps_what_was.Goals as goal
+
+pub returns-clause-marked : goal.returns-clause-marked
+returns-clause-marked c = marked_keeps
+
+pub returns-clause-rolled : goal.returns-clause-rolled
+returns-clause-rolled c = rolled_keeps
+
+pub returns-clause-purged : goal.returns-clause-purged
+returns-clause-purged c = purged_keeps
+
+pub returns-clause-row : goal.returns-clause-row
+returns-clause-row c = row_keeps
