@@ -1,0 +1,20 @@
+use Rattle.queue_core.specs.Writes.{writes_of}
+use Rattle.queue_core.proofs.MarkRun.{run_synced, run_written, run_settled, is_settled}
+use Rattle.queue_core.proofs.marking.mark_pages.Goals as goal
+
+pub returns-in_err-sync-clause-any_moment : goal.returns-in_err-sync-clause-any_moment
+returns-in_err-sync-clause-any_moment g c = run_synced g.S.Store g.met.S.Store.images_tell (writes_of c.args.marks.now) c.args.store.now c.sync.new.self c.sync.ensures.settled
+
+pub returns-in_err-write_marks-clause-any_moment : goal.returns-in_err-write_marks-clause-any_moment
+returns-in_err-write_marks-clause-any_moment g c =
+    run_written g.S.Store g.met.S.Store.images_tell (writes_of c.args.marks.now) c.args.store.now c.sync.new.self c.sync.ensures.settled c.in_ok-sync.ensures.durable c.write_marks.new.store c.write_marks.ensures.images
+
+pub returns-clause-any_moment : goal.returns-clause-any_moment
+returns-clause-any_moment g c =
+    run_settled g.S.Store g.met.S.Store.images_tell (writes_of c.args.marks.now) c.args.store.now c.sync.new.self c.sync.ensures.settled c.in_ok-sync.ensures.durable c.write_marks.new.store c.write_marks.ensures.images
+    c.in_ok-write_marks.ensures.wrote c.sync-2.new.self c.sync-2.ensures.settled
+
+pub returns-clause-settled : goal.returns-clause-settled
+returns-clause-settled g c =
+    is_settled g.S.Store g.met.S.Store.images_tell (writes_of c.args.marks.now) c.args.store.now c.sync.new.self c.sync.ensures.settled c.in_ok-sync.ensures.durable c.write_marks.new.store c.write_marks.ensures.images
+    c.in_ok-write_marks.ensures.wrote c.sync-2.new.self c.sync-2.ensures.settled c.sync-2.result c.sync-2.ensures.durable

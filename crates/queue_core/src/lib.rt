@@ -1,0 +1,6 @@
+//! The persistent queue of a pipeline, over its page files and checkpoints.
+#![tactic(auto)]
+
+mod marking;
+
+pub use marking::{Mark, mark_pages};
