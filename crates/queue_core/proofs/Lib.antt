@@ -1,3 +1,4 @@
 pub mod WriteLemmas
 pub mod MarkRun
 pub mod TornMarks
+pub mod WholeMarks

@@ -20,10 +20,10 @@ untouched name [] d i apart same = same name
 untouched name (w ∷ writes) d i apart change = untouched name writes change.0 i apart.1 change.2 ∙ change.1.there name apart.0
 
 -- a mark that is due, and one that isn't
-due_is : (m : Mark) → m.due ≡ true → due_of m ≡ write_of m ∷ []
+pub due_is : (m : Mark) → m.due ≡ true → due_of m ≡ write_of m ∷ []
 due_is m is = cond-true m.due (write_of m ∷ []) [] is
 
-not_due : (m : Mark) → m.due ≡ false → due_of m ≡ []
+pub not_due : (m : Mark) → m.due ≡ false → due_of m ≡ []
 not_due m is = cond-false m.due (write_of m ∷ []) [] is
 
 beside_due : (name : List ℕ) (m : Mark) (writes : List Write) → name ≢ m.file → IsBeside name writes → IsBeside name (due_of m ++ writes)
@@ -33,21 +33,21 @@ beside_due name m writes apart beside = at m.due refl
     at true is = subst (λ (ws : List Write). IsBeside name (ws ++ writes)) (sym (due_is m is)) (apart, beside)
     at false is = subst (λ (ws : List Write). IsBeside name (ws ++ writes)) (sym (not_due m is)) beside
 
-abbrev number_of : Role → ℕ
+abbrev pub number_of : Role → ℕ
 number_of head = 0
 number_of (page n) = n
 number_of (checkpoint n) = n
 
 module _ (names : Names) (apart : AreApart names) (top : Page) (len : ℕ) (folder : Folder) where
-  differs : (role other : Role) (name : List ℕ) → name ≡ names other → (role ≡ other → ⊥) → names role ≢ name
+  pub differs : (role other : Role) (name : List ℕ) → name ≡ names other → (role ≡ other → ⊥) → names role ≢ name
   differs role other name is apart_from same = apart_from (apart role other (same ∙ is))
 
   -- of a file that plays none of these parts there is no mark
-  abbrev IsOther : Role → List Page → Type 0
+  abbrev pub IsOther : Role → List Page → Type 0
   IsOther role [] = role ≡ head → ⊥
   IsOther role (p ∷ tails) = (role ≡ checkpoint p.number → ⊥) × IsOther role tails
 
-  all_beside : (role : Role) (tails : List Page) (held : TailsHeld tails folder) (marks : List Mark) → IsOther role tails → AreMarksOf names top len tails folder held marks → IsBeside (names role) (writes_of marks)
+  pub all_beside : (role : Role) (tails : List Page) (held : TailsHeld tails folder) (marks : List Mark) → IsOther role tails → AreMarksOf names top len tails folder held marks → IsBeside (names role) (writes_of marks)
   all_beside role [] held marks other are =
       let m = are.0 in
       subst (λ (ms : List Mark). IsBeside (names role) (writes_of ms)) (sym are.1) (beside_due (names role) m [] (differs role head m.file are.2.file other) tt)
@@ -56,9 +56,20 @@ module _ (names : Names) (apart : AreApart names) (top : Page) (len : ℕ) (fold
       subst (λ (ms : List Mark). IsBeside (names role) (writes_of ms)) (sym are.2)
       (beside_due (names role) m (writes_of are.1) (differs role (checkpoint p.number) m.file are.3.file other.0) (all_beside role tails held.1 are.1 other.1 are.5))
 
-  page_other : (n : ℕ) (tails : List Page) → IsOther (page n) tails
+  pub page_other : (n : ℕ) (tails : List Page) → IsOther (page n) tails
   page_other n [] = λ same. absurd cc
   page_other n (p ∷ tails) = ((λ same. absurd cc), page_other n tails)
+
+  pub later_role : (n number end : ℕ) (tails : List Page) → n < number → Rising number end tails top → IsOther (checkpoint n) tails
+  later_role n number end [] less rising = λ same. absurd cc
+  later_role n number end (p ∷ tails) less rising =
+      ((λ same. let is : n ≡ p.number = ap number_of same in absurd (omega (arith, less, rising.0, is))), later_role n (suc p.number) (p.least + length p.rows) tails (omega (arith, less, rising.0)) rising.4)
+
+  -- from the head on there is no mark of a checkpoint
+  pub above_role : (n number end : ℕ) (tails : List Page) → top.number ≤ n → Rising number end tails top → IsOther (checkpoint n) tails
+  above_role n number end [] above rising = λ same. absurd cc
+  above_role n number end (p ∷ tails) above rising =
+      ((λ same. let is : n ≡ p.number = ap number_of same in absurd (omega (arith, above, rising.1, is))), above_role n (suc p.number) (p.least + length p.rows) tails above rising.4)
 
   -- the slot of a mark, torn
   torn_mark : (role : Role) (p : Page) (bytes : ℕ) (m : Mark) (d e f : FileImage) → IsMarkOf names role p bytes m → d ≡ at_rest (folder role) → TornFile (place_of 48 m.turn) (slot_spelling m.turn m.state) d e → f ≡ e
@@ -87,11 +98,6 @@ module _ (names : Names) (apart : AreApart names) (top : Page) (len : ℕ) (fold
     abbrev Pending : ℕ → Image → Type 0
     Pending number d = (d (names head) ≡ at_rest (folder head)) × ((n : ℕ) → number ≤ n → d (names (checkpoint n)) ≡ at_rest (folder (checkpoint n)))
 
-    later_other : (n number end : ℕ) (tails : List Page) → n < number → Rising number end tails top → IsOther (checkpoint n) tails
-    later_other n number end [] less rising = λ same. absurd cc
-    later_other n number end (p ∷ tails) less rising =
-        ((λ same. let is : n ≡ p.number = ap number_of same in absurd (omega (arith, less, rising.0, is))), later_other n (suc p.number) (p.least + length p.rows) tails (omega (arith, less, rising.0)) rising.4)
-
     record All (tails : List Page) (held : TailsHeld tails folder) : Type 0 where
       each : TailsMark tails names folder held i
       last : MayRecord (folder head) top.turn (state_at top (first_open_of top) top.rows len) (i (names head))
@@ -106,7 +112,7 @@ module _ (names : Names) (apart : AreApart names) (top : Page) (len : ℕ) (fold
         whole = subst (λ (ms : List Mark). MayChange (writes_of ms) d i) are.2 change
 
         beside : IsBeside (names (checkpoint p.number)) (writes_of are.1)
-        beside = all_beside (checkpoint p.number) tails held.1 are.1 (later_other p.number (suc p.number) (p.least + length p.rows) tails (omega arith) rising.4) are.5
+        beside = all_beside (checkpoint p.number) tails held.1 are.1 (later_role p.number (suc p.number) (p.least + length p.rows) tails (omega arith) rising.4) are.5
 
         at : (b : Bool) → are.0.due ≡ b → All (p ∷ tails) held
         at false none =

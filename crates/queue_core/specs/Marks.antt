@@ -1,5 +1,6 @@
 -- The marks of a queue.
 use Rattle.std.specs.Prelude.{◌≡◌, ℕ, ◌+◌, ◌==◌, not, true, List, [], ◌∷◌, ◌++◌, length}
+use Rattle.io_traits.specs.Folders.{Content}
 use Rattle.crc_frame.specs.Slots.{is_slot, next_turn}
 use Rattle.store_trait.specs.Images.{Image, at_rest}
 use Rattle.store_trait.specs.Chance.{NoChance}
@@ -8,8 +9,13 @@ use Rattle.queue_page.specs.Elements.{is_element}
 use Rattle.queue_laws.specs.Folders.{Role, head, page, checkpoint, Folder, Names, AreApart, folder_in}
 use Rattle.queue_laws.specs.Kept.{Page, Queue, first_open_of, state_at, IsQueue, Kept}
 use Rattle.queue_laws.specs.Resting.{TailsHeld, Held}
-use Rattle.queue_core.specs.Writes.{Write, writes_of, MayChange}
+use Rattle.queue_laws.specs.Steps.{marked}
+use Rattle.queue_core.specs.Writes.{writes_of, MayChange, Wrote}
 use Rattle.queue_core.specs.declared.marking.Mark.{Mark}
+
+-- the files of these names, as reads give them
+abbrev pub read_in : Names → Content → Folder
+read_in names content role = content (names role)
 
 -- the mark of a page that has so many bytes: the next slot of its checkpoint, which says what is acknowledged now
 pub record IsMarkOf (names : Names) (role : Role) (p : Page) (len : ℕ) (m : Mark) : Type 0 where
@@ -37,3 +43,9 @@ abbrev pub MarksKeep : Type 0
 MarksKeep =
     (names : Names) (q : Queue) (folder : Folder) (marks : List Mark) (d i : Image) → AreApart names → IsQueue q → (held : Held q folder) → MarksOf names q folder held marks
     → ((role : Role) → d (names role) ≡ at_rest (folder role)) → MayChange (writes_of marks) d i → NoChances names i → Kept q (folder_in names i)
+
+-- Once the marks of a queue are written, reads give the queue of which all is recorded.
+abbrev pub MarksRecord : Type 0
+MarksRecord =
+    (names : Names) (q : Queue) (old new : Content) (marks : List Mark) → AreApart names → IsQueue q → (held : Held q (read_in names old)) → MarksOf names q (read_in names old) held marks
+    → Wrote (writes_of marks) old new → IsQueue (marked q) × Held (marked q) (read_in names new)

@@ -1,7 +1,9 @@
 //! What holds of the steps of a queue. Each function here does nothing: its clauses are theorems.
-ghost use Rattle.queue_core.specs.Marks.{MarksKeep};
+ghost use Rattle.queue_core.specs.Marks.{MarksKeep, MarksRecord};
 
-/// Whatever a stop leaves while the marks of a queue are written holds the queue.
+/// Whatever a stop leaves while the marks of a queue are written holds the queue, and once they are written
+/// all of it is recorded.
 pub fn marks_keep_the_queue()
-    ensures { MarksKeep }
+    ensures any_moment { MarksKeep }
+    ensures recorded { MarksRecord }
 {}

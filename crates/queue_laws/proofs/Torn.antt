@@ -31,10 +31,10 @@ leading_few [] = omega arith
 leading_few (true ∷ rest) = let again = leading_few rest in omega (arith, again)
 leading_few (false ∷ rest) = omega arith
 
-open_fits : (p : Page) → IsSound p → first_open_of p < 2 ^ 64
+pub open_fits : (p : Page) → IsSound p → first_open_of p < 2 ^ 64
 open_fits p sound = omega (arith, leading_few p.acknowledged, sound.each, sound.numbers)
 
-next_fits : (turn : ℕ) → next_turn turn < 2 ^ 64
+pub next_fits : (turn : ℕ) → next_turn turn < 2 ^ 64
 next_fits turn = mod_below (turn + 1) (2 ^ 64) (omega arith)
 
 -- ---- pages below the head
@@ -151,7 +151,7 @@ module _ (q : Queue) (slots file : Option (List ℕ)) (sound : IsSound q.top) (h
 
   -- ---- while all rows are recorded
 
-  abbrev all : List ℕ
+  abbrev pub all : List ℕ
   all = held.front ++ held.tail
 
   rests : HoldsTail is_element held.front held.tail (at_rest (Some all))
@@ -160,7 +160,7 @@ module _ (q : Queue) (slots file : Option (List ℕ)) (sound : IsSound q.top) (h
   whole : HoldsTail is_element all [] (at_rest (Some all))
   whole = holds_tail all [] is_element (at_rest (Some all)) (subst (λ (b : List ℕ). TailImage all [] (at_rest (Some b))) (append-nil all) (at_rest_tail all [])) (no_chance_at_rest (Some all))
 
-  is_whole : IsPage all q.top.version q.top.least q.top.rows
+  pub is_whole : IsPage all q.top.version q.top.least q.top.rows
   is_whole = record {
     is_version = held.is_page.is_version;
     elements = held.is_page.elements ++ held.tail;
