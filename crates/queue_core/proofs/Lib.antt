@@ -2,3 +2,4 @@ pub mod WriteLemmas
 pub mod MarkRun
 pub mod TornMarks
 pub mod WholeMarks
+pub mod Keeping

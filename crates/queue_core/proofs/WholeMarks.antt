@@ -70,7 +70,7 @@ marked_turn p sound = at (first_open_of p == p.from)
     at true = sound.turn
     at false = next_fits p.turn
 
-marked_rising : (number end : ℕ) (tails : List Page) (top : Page) → Rising number end tails top → Rising number end (marked_pages tails) (recorded_page top)
+pub marked_rising : (number end : ℕ) (tails : List Page) (top : Page) → Rising number end tails top → Rising number end (marked_pages tails) (recorded_page top)
 marked_rising number end [] top rising = (rising.0, rising.1, marked_sound top (next_turn top.turn) (next_fits top.turn) rising.2)
 marked_rising number end (p ∷ tails) top rising =
     (rising.0, rising.1, rising.2, marked_sound p _ (marked_turn p rising.3) rising.3, marked_rising (suc p.number) (p.least + length p.rows) tails top rising.4)

@@ -1,6 +1,7 @@
 ghost use Rattle.std.specs.Prelude.{IsTrue, OnOk, IsErr};
 ghost use Rattle.io_traits.specs.Counts.{HasCause};
 ghost use Rattle.store_trait.specs.Moments.{EachMoment};
+ghost use Rattle.queue_core.specs.Ready.{MarkKeeps, MarkRecords};
 ghost use Rattle.queue_core.specs.Writes.{due_of, writes_of, CanWrite, MayLeave, Wrote, MayStop, Settled};
 
 use plain_data::Text;
@@ -62,6 +63,11 @@ pub fn mark_pages<S: Store>(store: &mut S, marks: &[Mark]) -> Result<(), Failed>
     ensures any_moment { EachMoment S.Store store.old store.new
         (MayStop S.Store store.old (writes_of marks.now)) }
     ensures settled { OnOk result (Settled S.Store store.old (writes_of marks.now) store.new) }
+
+    // Of a queue that is ready, with these marks: each moment keeps it, and then all of it is recorded.
+    ensures keeps { MarkKeeps S.Store marks.now store.old store.new }
+    ensures records { OnOk result (MarkRecords S.Store marks.now store.old store.new) }
+
     ensures cause { HasCause (S.faults store.old) (S.faults store.new) (IsErr result) }
 {
     store.sync()?;

@@ -1,5 +1,6 @@
 use Rattle.queue_core.specs.Writes.{writes_of}
 use Rattle.queue_core.proofs.MarkRun.{run_synced, run_written, run_settled, is_settled}
+use Rattle.queue_core.proofs.Keeping.{mark_keeps, mark_records}
 use Rattle.queue_core.proofs.marking.mark_pages.Goals as goal
 
 pub returns-in_err-sync-clause-any_moment : goal.returns-in_err-sync-clause-any_moment
@@ -18,3 +19,15 @@ pub returns-clause-settled : goal.returns-clause-settled
 returns-clause-settled g c =
     is_settled g.S.Store g.met.S.Store.images_tell (writes_of c.args.marks.now) c.args.store.now c.sync.new.self c.sync.ensures.settled c.in_ok-sync.ensures.durable c.write_marks.new.store c.write_marks.ensures.images
     c.in_ok-write_marks.ensures.wrote c.sync-2.new.self c.sync-2.ensures.settled c.sync-2.result c.sync-2.ensures.durable
+
+pub returns-in_err-sync-clause-keeps : goal.returns-in_err-sync-clause-keeps
+returns-in_err-sync-clause-keeps g c = mark_keeps g.S.Store g.met.S.Store.images_tell c.args.marks.now c.args.store.now c.sync.new.self (returns-in_err-sync-clause-any_moment g c)
+
+pub returns-in_err-write_marks-clause-keeps : goal.returns-in_err-write_marks-clause-keeps
+returns-in_err-write_marks-clause-keeps g c = mark_keeps g.S.Store g.met.S.Store.images_tell c.args.marks.now c.args.store.now c.write_marks.new.store (returns-in_err-write_marks-clause-any_moment g c)
+
+pub returns-clause-keeps : goal.returns-clause-keeps
+returns-clause-keeps g c = mark_keeps g.S.Store g.met.S.Store.images_tell c.args.marks.now c.args.store.now c.sync-2.new.self (returns-clause-any_moment g c)
+
+pub returns-clause-records : goal.returns-clause-records
+returns-clause-records g c = mark_records g.S.Store g.met.S.Store.images_tell c.args.marks.now c.args.store.now c.sync-2.new.self c.sync-2.result (returns-clause-settled g c)

@@ -1,0 +1,62 @@
+-- A mark keeps its queue.
+use Rattle.std.proofs.Common.{◌≡◌, ◌≢◌, ℕ, ◌≤◌, IsTrue, List, [], ◌∷◌, ◌++◌, length, Option, Some, None, Result, Ok, Err, OnOk, sym, ◌∙◌, ap, subst}
+use Rattle.io_traits.specs.Folders.{Content}
+use Rattle.store_trait.specs.Images.{Image, FileImage, IsAtRest, at_rest}
+use Rattle.store_trait.specs.Tails.{TailImage}
+use Rattle.store_trait.specs.Moments.{MayLeaveNow, EachMoment, ImagesTell}
+use Rattle.store_trait.specs.declared.stores.Store.{Ghosts as StoreWords}
+use Rattle.store_trait.proofs.Moments.{weaker}
+use Rattle.store_trait.proofs.TailImages.{at_rest_tail}
+use Rattle.queue_laws.specs.Folders.{Role, head, page, checkpoint, Folder, Names, AreApart, folder_in}
+use Rattle.queue_laws.specs.Kept.{Page, Queue, IsQueue, Kept}
+use Rattle.queue_laws.specs.Resting.{Held, TailsRest, Rests}
+use Rattle.queue_laws.specs.Steps.{marked}
+use Rattle.queue_laws.proofs.Whole.{resting_is_kept}
+use Rattle.queue_laws.proofs.Keeping.{marked_keeps}
+use Rattle.queue_core.specs.Writes.{writes_of, MayStop, before, writing, written, Settled}
+use Rattle.queue_core.specs.Marks.{read_in, NoChances}
+use Rattle.queue_core.specs.Ready.{Ready, AreMarks, MarkKeeps, MarkRecords}
+use Rattle.queue_core.specs.declared.marking.Mark.{Mark}
+use Rattle.queue_core.proofs.TornMarks.{marks_keep}
+use Rattle.queue_core.proofs.WholeMarks.{marked_rising, marks_record}
+
+-- all files at rest, as reads give them
+tails_rest : (names : Names) (content : Content) (i : Image) → IsAtRest content i → (tails : List Page) → TailsRest tails names (read_in names content) i
+tails_rest names content i rests [] = tt
+tails_rest names content i rests (p ∷ tails) = (rests (names (checkpoint p.number)), tails_rest names content i rests tails)
+
+pub at_rest_rests : (names : Names) (q : Queue) (content : Content) (held : Held q (read_in names content)) (i : Image) → IsAtRest content i → NoChances names i → Rests q names (read_in names content) held i
+at_rest_rests names q content held i rests chances = record {
+  top_slot = rests (names head);
+  tails = tails_rest names content i rests q.tails;
+  pages = λ n other. rests (names (page n));
+  no_checkpoints = λ n above. rests (names (checkpoint n)) ∙ ap at_rest (held.no_checkpoints n above);
+  top_page = record {
+    image = subst (TailImage held.top.front held.top.tail) (sym (rests (names (page q.top.number)) ∙ ap at_rest held.top.stands)) (at_rest_tail held.top.front held.top.tail);
+    no_chance = chances.elements (page q.top.number);
+  };
+}
+
+module _ {S : Type 0} (store : StoreWords S) (tell : ImagesTell store) (marks : List Mark) (old new : S) where
+  pub mark_keeps : EachMoment store old new (MayStop store old (writes_of marks)) → MarkKeeps store marks old new
+  mark_keeps stops names q apart ready are = weaker store tell old new (MayStop store old (writes_of marks)) (λ i. NoChances names i → Kept q (folder_in names i)) stops
+      (λ i told stop chances. kept i told chances stop)
+    where
+      kept : (i : Image) → IsTrue store.tells → NoChances names i → MayStop store old (writes_of marks) i → Kept q (folder_in names i)
+      kept i told chances (before left) = resting_is_kept q names (read_in names (store.seen old)) i ready.is (ready.held told) (ready.images told i left chances)
+      kept i told chances (writing d rests change) =
+          marks_keep names q (read_in names (store.seen old)) marks d i apart ready.is (ready.held told) (are told) (λ role. rests (names role)) change chances
+      kept i told chances (written content wrote rests) =
+          let m = marks_record names q (store.seen old) content marks apart ready.is (ready.held told) (are told) wrote in
+          marked_keeps q (folder_in names i) (ready.held told).top.marked
+          (resting_is_kept (marked q) names (read_in names content) i m.0 m.1 (at_rest_rests names (marked q) content m.1 i rests chances))
+
+  pub mark_records : {A E : Type 0} (result : Result A E) → OnOk result (Settled store old (writes_of marks) new) → OnOk result (MarkRecords store marks old new)
+  mark_records (Ok x) settled = λ names q apart ready are.
+      let m : (told : IsTrue store.tells) → IsQueue (marked q) × Held (marked q) (read_in names (store.seen new)) = λ told. marks_record names q (store.seen old) (store.seen new) marks apart ready.is (ready.held told) (are told) (settled.wrote told) in
+      record {
+        is = marked_rising 0 0 q.tails q.top ready.is;
+        held = λ told. (m told).1;
+        images = λ told i left chances. at_rest_rests names (marked q) (store.seen new) (m told).1 i (settled.rests i left) chances;
+      }
+  mark_records (Err e) settled = tt
