@@ -1,13 +1,13 @@
 -- A mark keeps its queue.
-use Rattle.std.proofs.Common.{◌≡◌, ◌≢◌, ℕ, ◌≤◌, IsTrue, List, [], ◌∷◌, ◌++◌, length, Option, Some, None, Result, Ok, Err, OnOk, sym, ◌∙◌, ap, subst}
+use Rattle.std.proofs.Common.{IsTrue, List, [], ◌∷◌, Result, Ok, Err, OnOk, sym, ◌∙◌, ap, subst}
 use Rattle.io_traits.specs.Folders.{Content}
-use Rattle.store_trait.specs.Images.{Image, FileImage, IsAtRest, at_rest}
+use Rattle.store_trait.specs.Images.{Image, IsAtRest, at_rest}
 use Rattle.store_trait.specs.Tails.{TailImage}
-use Rattle.store_trait.specs.Moments.{MayLeaveNow, EachMoment, ImagesTell}
+use Rattle.store_trait.specs.Moments.{EachMoment, ImagesTell}
 use Rattle.store_trait.specs.declared.stores.Store.{Ghosts as StoreWords}
 use Rattle.store_trait.proofs.Moments.{weaker}
 use Rattle.store_trait.proofs.TailImages.{at_rest_tail}
-use Rattle.queue_laws.specs.Folders.{Role, head, page, checkpoint, Folder, Names, AreApart, folder_in}
+use Rattle.queue_laws.specs.Folders.{head, page, checkpoint, Names, folder_in}
 use Rattle.queue_laws.specs.Kept.{Page, Queue, IsQueue, Kept}
 use Rattle.queue_laws.specs.Resting.{Held, TailsRest, Rests}
 use Rattle.queue_laws.specs.Steps.{marked}
@@ -15,7 +15,7 @@ use Rattle.queue_laws.proofs.Whole.{resting_is_kept}
 use Rattle.queue_laws.proofs.Keeping.{marked_keeps}
 use Rattle.queue_core.specs.Writes.{writes_of, MayStop, before, writing, written, Settled}
 use Rattle.queue_core.specs.Marks.{read_in, NoChances}
-use Rattle.queue_core.specs.Ready.{Ready, AreMarks, MarkKeeps, MarkRecords}
+use Rattle.queue_core.specs.Ready.{MarkKeeps, MarkRecords}
 use Rattle.queue_core.specs.declared.marking.Mark.{Mark}
 use Rattle.queue_core.proofs.TornMarks.{marks_keep}
 use Rattle.queue_core.proofs.WholeMarks.{marked_rising, marks_record}

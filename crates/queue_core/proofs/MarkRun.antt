@@ -1,12 +1,12 @@
 -- A mark, call by call.
-use Rattle.std.proofs.Common.{◌≡◌, ◌⊎◌, ⊎_elim, IsTrue, List, Result, Ok, Err, OnOk, sym, ◌∙◌, ap, subst}
+use Rattle.std.proofs.Common.{⊎_elim, IsTrue, List, Result, Ok, Err, OnOk, sym, subst}
 use Rattle.io_traits.specs.Folders.{Content}
 use Rattle.store_trait.specs.Images.{Image, IsAtRest}
 use Rattle.store_trait.specs.Moments.{MayLeaveNow, EachMoment, ImagesTell}
 use Rattle.store_trait.specs.declared.stores.Store.{Ghosts as StoreWords}
 use Rattle.store_trait.proofs.Moments.{by_call, goes_on, one_then_other, holds_now}
 use Rattle.store_trait.proofs.TailRuns.{Settles}
-use Rattle.queue_core.specs.Writes.{Write, MayChange, Wrote, MayLeave, MayStop, before, writing, written, Settled}
+use Rattle.queue_core.specs.Writes.{Write, Wrote, MayLeave, MayStop, before, writing, written, Settled}
 use Rattle.queue_core.proofs.WriteLemmas.{made_none}
 
 module _ {S : Type 0} (store : StoreWords S) (tell : ImagesTell store) (writes : List Write) (old first : S) (settles : Settles store old first) where

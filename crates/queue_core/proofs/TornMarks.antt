@@ -1,14 +1,13 @@
 -- The marks of a queue, of which each may be torn.
-use Rattle.std.proofs.Common.{◌≡◌, ◌≢◌, ◌⊎◌, inl, inr, ⊎_elim, ℕ, suc, ◌+◌, ◌<◌, ◌≤◌, ◌==◌, not, Bool, true, false, List, [], ◌∷◌, ◌++◌, length, Option, if◌then◌else◌, refl, sym, ◌∙◌, ap, subst, arith, append-nil}
-use Rattle.std.proofs.Math.Path.{ap₂}
+use Rattle.std.proofs.Common.{◌≡◌, ◌≢◌, ◌⊎◌, inl, inr, ℕ, suc, ◌+◌, ◌<◌, ◌≤◌, Bool, true, false, List, [], ◌∷◌, ◌++◌, length, refl, sym, ◌∙◌, ap, subst, arith, append-nil}
 use Rattle.std.proofs.lemmas.Bool.{cond-true, cond-false}
 use Rattle.crc_frame.specs.Slots.{place_of, next_turn}
-use Rattle.store_trait.specs.Images.{Image, FileImage, TornFile, On, at_rest}
+use Rattle.store_trait.specs.Images.{Image, FileImage, TornFile, at_rest}
 use Rattle.store_disk.specs.declared.pages.PageState.{PageState}
 use Rattle.queue_checkpoint.specs.Checkpoints.{slot_spelling}
-use Rattle.queue_laws.specs.Folders.{Role, head, page, checkpoint, Folder, Names, AreApart, folder_in}
-use Rattle.queue_laws.specs.Kept.{Page, Queue, first_open_of, state_at, Rising, IsQueue}
-use Rattle.queue_laws.specs.Resting.{MayRecord, TailsHeld, Held, TailsMark, Marks}
+use Rattle.queue_laws.specs.Folders.{Role, head, page, checkpoint, Folder, Names, AreApart}
+use Rattle.queue_laws.specs.Kept.{Page, first_open_of, state_at, Rising}
+use Rattle.queue_laws.specs.Resting.{MayRecord, TailsHeld, TailsMark}
 use Rattle.queue_laws.proofs.Whole.{marking_is_kept}
 use Rattle.queue_core.specs.Writes.{Write, write_of, due_of, writes_of, IsBeside, MayChange}
 use Rattle.queue_core.specs.Marks.{IsMarkOf, AreMarksOf, NoChances, MarksKeep}
@@ -133,7 +132,7 @@ module _ (names : Names) (apart : AreApart names) (top : Page) (len : ℕ) (fold
             record {
               each = (
                 may (checkpoint p.number) p (length held.0.bytes) (inr (torn_mark (checkpoint p.number) p (length held.0.bytes) are.0 (d (names (checkpoint p.number))) (e (names (checkpoint p.number))) (i (names (checkpoint p.number))) are.3
-                (pending.1 p.number rising.0) here (untouched (names (checkpoint p.number)) (writes_of are.1) e i beside c.2))),
+                    (pending.1 p.number rising.0) here (untouched (names (checkpoint p.number)) (writes_of are.1) e i beside c.2))),
                 more.each,
               );
               last = more.last;

@@ -1,5 +1,5 @@
 -- The marks of a queue, written whole.
-use Rattle.std.proofs.Common.{◌≡◌, ◌≢◌, ◌⊎◌, inl, inr, ⊎_elim, ℕ, suc, ◌+◌, ◌-◌, ◌<◌, ◌≤◌, ◌^◌, ◌==◌, not, Bool, true, false, List, [], ◌∷◌, ◌++◌, length, take, drop, Option, Some, None, if◌then◌else◌, refl, sym, ◌∙◌, ap, subst, arith, append-nil, length-append}
+use Rattle.std.proofs.Common.{◌≡◌, ◌⊎◌, inl, inr, ⊎_elim, ℕ, suc, ◌+◌, ◌<◌, ◌≤◌, ◌^◌, ◌==◌, not, Bool, true, false, List, [], ◌∷◌, ◌++◌, length, take, drop, Option, Some, if◌then◌else◌, refl, sym, ◌∙◌, ap, subst, arith, append-nil}
 use Rattle.std.proofs.Math.Seq.{drop-append_seam}
 use Rattle.std.proofs.lemmas.Bool.{cond-true, cond-false, eqb-true}
 use Rattle.std.proofs.lemmas.List.{take_all}
@@ -132,8 +132,7 @@ module _ (names : Names) (apart : AreApart names) (top : Page) (len : ℕ) (fold
           let w : Wrote (write_of are.0 ∷ writes_of are.1) old new = subst (λ (ws : List Write). Wrote (ws ++ writes_of are.1) old new) (due_is are.0 due) whole in
           let other : (first_open_of p == p.from) ≡ false = not_true (first_open_of p == p.from) (sym are.4 ∙ due) in
           let mid = w.0 in
-          let stays : (role : Role) → (role ≡ checkpoint p.number → ⊥) → mid (names role) ≡ old (names role) = λ role differ. w.2 (names role) (differs names apart top len folder role (checkpoint p.number) are.0.file are.3.file differ) in
-          (
+          let stays : (role : Role) → (role ≡ checkpoint p.number → ⊥) → mid (names role) ≡ old (names role) = λ role differ. w.2 (names role) (differs names apart top len folder role (checkpoint p.number) are.0.file are.3.file differ) in (
             inr (other, still (names (checkpoint p.number)) (writes_of are.1) mid new beside w.3 ∙ written (checkpoint p.number) p (length held.0.bytes) are.0 old mid are.3 (waits.1 p.number rising.0) w.1),
             again mid (stays head (λ same. absurd cc) ∙ waits.0, λ n from. stays (checkpoint n) (λ same. absurd (omega (arith, from, ap number_of same))) ∙ waits.1 n (omega (arith, from, rising.0))) w.3,
           )

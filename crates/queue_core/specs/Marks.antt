@@ -1,12 +1,12 @@
 -- The marks of a queue.
-use Rattle.std.specs.Prelude.{◌≡◌, ℕ, ◌+◌, ◌==◌, not, true, List, [], ◌∷◌, ◌++◌, length}
+use Rattle.std.specs.Prelude.{◌≡◌, ℕ, ◌==◌, not, true, List, [], ◌∷◌, ◌++◌, length}
 use Rattle.io_traits.specs.Folders.{Content}
 use Rattle.crc_frame.specs.Slots.{is_slot, next_turn}
 use Rattle.store_trait.specs.Images.{Image, at_rest}
 use Rattle.store_trait.specs.Chance.{NoChance}
 use Rattle.store_trait.specs.Tails.{passes}
 use Rattle.queue_page.specs.Elements.{is_element}
-use Rattle.queue_laws.specs.Folders.{Role, head, page, checkpoint, Folder, Names, AreApart, folder_in}
+use Rattle.queue_laws.specs.Folders.{Role, head, checkpoint, Folder, Names, AreApart, folder_in}
 use Rattle.queue_laws.specs.Kept.{Page, Queue, first_open_of, state_at, IsQueue, Kept}
 use Rattle.queue_laws.specs.Resting.{TailsHeld, Held}
 use Rattle.queue_laws.specs.Steps.{marked}

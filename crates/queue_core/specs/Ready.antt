@@ -1,5 +1,5 @@
 -- When a store holds a queue, whatever a stop leaves of it now.
-use Rattle.std.specs.Prelude.{◌≡◌, IsTrue, List, Result, OnOk}
+use Rattle.std.specs.Prelude.{IsTrue, List}
 use Rattle.store_trait.specs.Images.{Image}
 use Rattle.store_trait.specs.Moments.{MayLeaveNow, EachMoment}
 use Rattle.store_trait.specs.declared.stores.Store.{Ghosts as StoreWords}

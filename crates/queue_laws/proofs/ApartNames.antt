@@ -6,7 +6,7 @@ use Rattle.std.proofs.lemmas.List.{append_cancel_left, length-replicate}
 use Rattle.std.proofs.Math.Seq.{get_or-append_seam}
 use Rattle.std.proofs.lemmas.Fmt.{decimal_injective, decimal_by_steps, length-decimal-le_succ}
 use Rattle.std.specs.Fmt.{decimal}
-use Rattle.queue_laws.specs.Folders.{head, page, checkpoint, number_text, names_in}
+use Rattle.queue_laws.specs.Folders.{head, page, checkpoint, number_text}
 use Rattle.queue_laws.specs.Laws.{NamesDiffer}
 
 abbrev EndsInDigit : ℕ → List ℕ → Type 0

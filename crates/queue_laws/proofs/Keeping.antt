@@ -1,13 +1,12 @@
 -- What is kept of a queue behind a call is kept of the queue before it.
-use Rattle.std.proofs.Common.{◌≡◌, ◌⊎◌, inl, inr, ⊎_elim, ℕ, zero, suc, ◌+◌, ◌<◌, ◌≤◌, nat_lt, Bool, true, false, List, [], ◌∷◌, ◌++◌, length, take, refl, sym, ◌∙◌, ap, subst, arith, append-nil, length-append}
+use Rattle.std.proofs.Common.{◌≡◌, inl, inr, ⊎_elim, ℕ, zero, suc, ◌+◌, ◌≤◌, nat_lt, Bool, true, false, List, [], ◌∷◌, ◌++◌, length, take, refl, sym, ◌∙◌, ap, subst, arith, append-nil, length-append}
 use Rattle.std.proofs.lemmas.Bool.{cond-true}
 use Rattle.std.proofs.lemmas.Bool.Decides.{nat_tests}
 use Rattle.std.proofs.lemmas.List.{take_all, take-append-le}
 use Rattle.queue_page.specs.declared.row.PageRow.{PageRow}
-use Rattle.queue_laws.specs.Folders.{Folder}
-use Rattle.queue_laws.specs.Found.{Row, row_of, since}
-use Rattle.queue_laws.specs.Kept.{Page, Queue, leading, first_open_of, IsSince, TopKept, RowsKept, Kept, AreNumbered, IsSound}
-use Rattle.queue_laws.specs.Steps.{marked, marked_pages, marked_page, recorded_page, with_row, page_with, rolled, sealed, next_top, IsSpent, with_tails}
+use Rattle.queue_laws.specs.Found.{Row, since}
+use Rattle.queue_laws.specs.Kept.{Page, Queue, leading, first_open_of, IsSince, TopKept, RowsKept, AreNumbered, IsSound}
+use Rattle.queue_laws.specs.Steps.{marked, marked_pages, with_row, page_with, rolled, sealed, IsSpent, with_tails}
 use Rattle.queue_laws.specs.Laws.{MarkedKeeps, RowKeeps, RolledKeeps, PurgedKeeps}
 
 -- ---- a mark

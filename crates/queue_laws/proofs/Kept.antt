@@ -1,17 +1,15 @@
 -- A folder that holds a queue file by file keeps its rows.
-use Rattle.std.proofs.Common.{◌≡◌, ◌⊎◌, ℕ, ◌+◌, ◌<◌, ◌≤◌, ◌==◌, ◌&&◌, not, nat_lt, true, false, Bool, List, [], ◌∷◌, ◌++◌, length, take, Option, Some, None, is_some, Result, Ok, Err, if◌then◌else◌, refl, sym, ◌∙◌, ap, arith, length-take}
-use Rattle.std.proofs.lemmas.Bool.{cond-true, cond-false, cases_eq}
+use Rattle.std.proofs.Common.{◌≡◌, ℕ, ◌&&◌, not, nat_lt, true, false, Bool, List, length, take, Option, Some, None, is_some, Result, Ok, refl, ◌∙◌, ap, arith, length-take}
+use Rattle.std.proofs.lemmas.Bool.{cond-false}
 use Rattle.io_traits.specs.Reads.{bytes_of}
 use Rattle.store_disk.specs.declared.pages.PageState.{PageState}
 use Rattle.queue_checkpoint.specs.Checkpoints.{slots_of}
 use Rattle.queue_page.specs.Elements.{and_then}
-use Rattle.queue_page.specs.Pages.{PageRows, opened}
-use Rattle.queue_laws.specs.Folders.{Role, head, page, checkpoint, Folder}
+use Rattle.queue_laws.specs.Folders.{head, page, Folder}
 use Rattle.queue_laws.specs.Checkpoints.{Misfit, misfit, told, told_by}
-use Rattle.queue_laws.specs.Found.{Row, Damaged, or_damage, told_at, Found, is_new, is_bare, Held, held, head_held, falling, unless, opened_page, read_all, found_in, of_head, nothing_found, found}
-use Rattle.queue_laws.specs.Kept.{Queue, IsQueue, Stands, Kept, RowsKept}
+use Rattle.queue_laws.specs.Found.{Damaged, or_damage, told_at, is_new, is_bare, Held, head_held, unless, opened_page, read_all, found_in, of_head, nothing_found, found}
 use Rattle.queue_laws.specs.Laws.{StandingIsKept}
-use Rattle.queue_laws.proofs.Standing.{fits, none_falls, reads, HeldAs, ReadAs}
+use Rattle.queue_laws.proofs.Standing.{fits, none_falls, reads}
 
 some_newest : (slots : _) (o : Option (ℕ × PageState)) (s : PageState) → told_by slots o ≡ Ok s → is_some o ≡ true
 some_newest slots None s is = absurd cc

@@ -1,13 +1,13 @@
 -- What a folder holds goes by the pages up to the head.
-use Rattle.std.proofs.Common.{◌≡◌, ℕ, zero, suc, ◌+◌, ◌<◌, ◌≤◌, nat_lt, true, false, List, [], ◌∷◌, ◌++◌, Option, Some, Result, Ok, Err, refl, sym, ◌∙◌, ap, arith, if◌then◌else◌}
+use Rattle.std.proofs.Common.{◌≡◌, ℕ, zero, suc, ◌+◌, ◌<◌, nat_lt, true, false, List, [], ◌∷◌, ◌++◌, Option, Some, Result, Ok, Err, refl, sym, ◌∙◌, ap, arith, if◌then◌else◌}
 use Rattle.std.proofs.Math.Path.{ap₂}
 use Rattle.io_traits.specs.Reads.{bytes_of}
 use Rattle.store_disk.specs.declared.pages.PageState.{PageState}
 use Rattle.queue_page.specs.Elements.{and_then}
-use Rattle.queue_page.specs.Pages.{PageRows, opened}
-use Rattle.queue_laws.specs.Folders.{Role, head, page, checkpoint, Folder}
-use Rattle.queue_laws.specs.Checkpoints.{Misfit, misfit, told}
-use Rattle.queue_laws.specs.Found.{Damaged, or_damage, told_at, Found, Held, held_by, held, head_held, falling, unless, opened_page, top_found, with_page, read_all, found_in, of_head, found}
+use Rattle.queue_page.specs.Pages.{opened}
+use Rattle.queue_laws.specs.Folders.{page, checkpoint, Folder}
+use Rattle.queue_laws.specs.Checkpoints.{misfit}
+use Rattle.queue_laws.specs.Found.{Damaged, or_damage, Found, Held, held_by, held, head_held, falling, unless, opened_page, top_found, with_page, read_all, found_in}
 use Rattle.queue_laws.specs.Laws.{FoundGoesByPages}
 use Rattle.queue_laws.proofs.Kept.{found_as}
 

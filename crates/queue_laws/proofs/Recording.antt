@@ -1,19 +1,18 @@
 -- What a checkpoint tells, whose newest slot records a page.
-use Rattle.std.proofs.Common.{◌≡◌, ◌⊎◌, inl, inr, ⊎_elim, ℕ, ◌+◌, ◌-◌, ◌<◌, ◌≤◌, ◌^◌, ◌==◌, nat_lt, true, false, List, length, Option, Some, Result, Ok, Err, if◌then◌else◌, refl, sym, ◌∙◌, ap, subst, arith}
+use Rattle.std.proofs.Common.{◌≡◌, ◌⊎◌, inl, inr, ⊎_elim, ℕ, ◌+◌, ◌<◌, ◌≤◌, ◌^◌, ◌==◌, nat_lt, false, List, length, Option, Some, Ok, sym, ◌∙◌, ap, subst, arith}
 use Rattle.std.proofs.lemmas.Bool.{cond-true, cond-false, eq-eqb}
 use Rattle.std.proofs.lemmas.Bool.Decides.{nat_tests}
 use Rattle.io_traits.specs.Reads.{bytes_of}
-use Rattle.crc_frame.specs.Slots.{place_of, slot_of, turn_of, next_turn, newest_slot, NewestIs, IsSlotOf, MayHoldSlot}
-use Rattle.crc_frame.specs.declared.slots.Slot.{Slot}
+use Rattle.crc_frame.specs.Slots.{place_of, slot_of, next_turn, IsSlotOf, MayHoldSlot}
 use Rattle.crc_frame.proofs.TornSlots.{next_slot_is_old_or_new}
-use Rattle.store_trait.specs.Images.{FileImage, TornFile, at_rest}
+use Rattle.store_trait.specs.Images.{FileImage, at_rest}
 use Rattle.store_disk.specs.declared.pages.PageState.{PageState}
-use Rattle.queue_checkpoint.specs.Checkpoints.{FitsSlot, slot_spelling, says, newest_in, version_at, version_of, slots_of}
+use Rattle.queue_checkpoint.specs.Checkpoints.{FitsSlot, slot_spelling, says, version_at, version_of, slots_of}
 use Rattle.queue_checkpoint.proofs.SlotBytes.{read_version, read_state, spelling_is_slot}
 use Rattle.queue_checkpoint.proofs.FileReads.{newest_says}
 use Rattle.queue_checkpoint.proofs.SlotWrites.{may_hold}
 use Rattle.queue_page.specs.declared.row.PageRow.{PageRow}
-use Rattle.queue_laws.specs.Checkpoints.{Misfit, misfit, bounded, told, told_by}
+use Rattle.queue_laws.specs.Checkpoints.{bounded, told, told_by}
 use Rattle.queue_laws.specs.Kept.{Page, state_at, IsSound}
 use Rattle.queue_laws.specs.Resting.{Records, MayRecord}
 

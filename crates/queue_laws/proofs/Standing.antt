@@ -1,19 +1,18 @@
 -- The pages of a folder that holds a queue file by file.
-use Rattle.std.proofs.Common.{◌≡◌, ◌≢◌, ◌⊎◌, inl, inr, ⊎_elim, ℕ, zero, suc, ◌+◌, ◌<◌, ◌≤◌, nat_lt, true, false, List, [], ◌∷◌, ◌++◌, length, take, Option, Some, None, Result, Ok, Err, if◌then◌else◌, refl, sym, ◌∙◌, ap, subst, arith, append-nil}
+use Rattle.std.proofs.Common.{◌≡◌, ◌≢◌, ◌⊎◌, inl, inr, ⊎_elim, ℕ, zero, suc, ◌+◌, ◌<◌, ◌≤◌, nat_lt, true, false, List, [], ◌∷◌, ◌++◌, length, take, Option, None, Result, Ok, refl, sym, ◌∙◌, ap, subst, arith, append-nil}
 use Rattle.std.specs.Bool.{⊤}
-use Rattle.std.proofs.lemmas.Bool.{cond-true, cond-false, cases_eq}
+use Rattle.std.proofs.lemmas.Bool.{cond-false, cases_eq}
 use Rattle.std.proofs.lemmas.Bool.Decides.{nat_tests}
-use Rattle.io_traits.specs.Reads.{bytes_of}
 use Rattle.store_disk.specs.declared.pages.PageState.{PageState}
 use Rattle.queue_page.specs.Elements.{and_then}
 use Rattle.queue_page.specs.Grammar.{IsPage}
-use Rattle.queue_page.specs.Pages.{PageRows, recorded, extended, opened}
+use Rattle.queue_page.specs.Pages.{PageRows, recorded, extended}
 use Rattle.queue_page.specs.declared.row.PageRow.{PageRow}
 use Rattle.queue_page.proofs.Spelling.{pages_are_read}
-use Rattle.queue_laws.specs.Folders.{Role, head, page, checkpoint, Folder}
+use Rattle.queue_laws.specs.Folders.{page, checkpoint, Folder}
 use Rattle.queue_laws.specs.Checkpoints.{Misfit, misfit, told}
-use Rattle.queue_laws.specs.Found.{Row, since, Damaged, or_damage, told_at, Found, Held, held_by, held, falling, opened_page, top_found, with_page, read_all}
-use Rattle.queue_laws.specs.Kept.{Page, Queue, first_open_of, IsSince, RowsKept, TopKept, state_at, Tells, IsTail, AreTails, NoTail, Rising}
+use Rattle.queue_laws.specs.Found.{since, Damaged, or_damage, Found, Held, held_by, held, falling, opened_page, top_found, with_page, read_all}
+use Rattle.queue_laws.specs.Kept.{Page, Queue, first_open_of, IsSince, RowsKept, state_at, Tells, IsTail, AreTails, NoTail, Rising}
 
 -- a page that is held, with one of its numbers
 pub record FitsOne (p : Page) (h : Held) : Type 0 where

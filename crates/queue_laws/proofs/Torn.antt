@@ -1,5 +1,5 @@
 -- What a stop leaves of the pages of a queue.
-use Rattle.std.proofs.Common.{◌≡◌, ◌⊎◌, inl, inr, ⊎_elim, ℕ, ◌+◌, ◌-◌, ◌<◌, ◌≤◌, ◌^◌, ◌%◌, Bool, true, false, List, [], ◌∷◌, ◌++◌, length, take, drop, Option, Some, None, Result, Ok, refl, sym, ◌∙◌, ap, subst, arith, append-nil, append_assoc, length-append, length-take, length-drop, take-append-drop}
+use Rattle.std.proofs.Common.{◌≡◌, ◌⊎◌, inl, inr, ⊎_elim, ℕ, ◌+◌, ◌<◌, ◌≤◌, ◌^◌, Bool, true, false, List, [], ◌∷◌, ◌++◌, length, take, drop, Option, Some, None, Ok, refl, sym, ◌∙◌, ap, subst, arith, append-nil, append_assoc, length-append, length-take, length-drop, take-append-drop}
 use Rattle.std.proofs.Math.Path.{ap₂}
 use Rattle.std.proofs.Math.Seq.{take-add, drop-append_seam}
 use Rattle.std.proofs.lemmas.Nat.{mod_below}
@@ -12,8 +12,8 @@ use Rattle.store_trait.specs.Tails.{passes, TailImage, HoldsTail}
 use Rattle.store_trait.proofs.TailImages.{holds_tail, at_rest_tail}
 use Rattle.store_disk.specs.declared.pages.PageState.{PageState}
 use Rattle.queue_page.specs.Elements.{is_element, and_then}
-use Rattle.queue_page.specs.Grammar.{IsElement, AreElements, IsPage}
-use Rattle.queue_page.specs.Leaving.{IsOpenPage, SaysFirst}
+use Rattle.queue_page.specs.Grammar.{AreElements, IsPage}
+use Rattle.queue_page.specs.Leaving.{IsOpenPage}
 use Rattle.queue_page.specs.Pages.{PageRows, recorded, opened, extended, room_of, run_behind, with_run}
 use Rattle.queue_page.specs.Runs.{no_run}
 use Rattle.queue_page.proofs.RunReads.{run_empty}
@@ -21,8 +21,8 @@ use Rattle.queue_page.specs.declared.row.PageRow.{PageRow}
 use Rattle.queue_page.proofs.Spelling.{pages_are_read}
 use Rattle.queue_page.proofs.Appending.{says_first}
 use Rattle.queue_laws.specs.Checkpoints.{told}
-use Rattle.queue_laws.specs.Kept.{Page, Queue, first_open_of, leading, state_at, Tells, IsTail, IsTop, IsSound}
-use Rattle.queue_laws.specs.Resting.{Records, MayRecord, TailHeld, TopHeld, MayHoldTail}
+use Rattle.queue_laws.specs.Kept.{Page, Queue, first_open_of, leading, state_at, IsTop, IsSound}
+use Rattle.queue_laws.specs.Resting.{Records, MayRecord, TopHeld, MayHoldTail}
 use Rattle.queue_laws.specs.Laws.{TailsStand, MarkedHeadsStand, OpenHeadsStand}
 use Rattle.queue_laws.proofs.Recording.{within_bounds, fits_slot, records_told, torn_records}
 
@@ -49,8 +49,8 @@ tails_stand p slots file f sound held may =
       stands = held.stands;
       is_page = held.is_page;
       told = ⊎_elim (λ old. inl (records_told f.file p.turn (state_at p p.from p.rows len) old (good p.from)))
-      (λ new. inr (records_told f.file (next_turn p.turn) (state_at p (first_open_of p) p.rows len) new (good (first_open_of p))))
-      (torn_records slots p.turn (state_at p p.from p.rows len) (state_at p (first_open_of p) p.rows len) f held.records fits may);
+          (λ new. inr (records_told f.file (next_turn p.turn) (state_at p (first_open_of p) p.rows len) new (good (first_open_of p))))
+          (torn_records slots p.turn (state_at p p.from p.rows len) (state_at p (first_open_of p) p.rows len) f held.records fits may);
     }
 
 -- ---- the head page
@@ -67,15 +67,14 @@ more_elements version number place (row ∷ rows) more bytes tail are behind =
     let rest = are.1 in
     let long : length bytes ≡ length front + length rest = ap length (sym are.2) ∙ length-append front rest in
     let there : place + length bytes ≡ row.next + length rest = omega (arith, long, are.4.next) in
-    let numbers : number + length (row ∷ rows) ≡ number + 1 + length rows = omega arith in
-    (
+    let numbers : number + length (row ∷ rows) ≡ number + 1 + length rows = omega arith in (
       front,
       rest ++ tail,
       sym (append_assoc front rest tail) ∙ ap (λ b. b ++ tail) are.2,
       are.3,
       are.4,
       more_elements version (number + 1) row.next rows more rest tail are.5
-      (subst (λ p. AreElements version (number + 1 + length rows) p more tail) there (subst (λ n. AreElements version n (place + length bytes) more tail) numbers behind)),
+          (subst (λ p. AreElements version (number + 1 + length rows) p more tail) there (subst (λ n. AreElements version n (place + length bytes) more tail) numbers behind)),
     )
 
 no_chance_at_rest : (file : Option (List ℕ)) → NoChance (passes is_element) (at_rest file)

@@ -1,13 +1,12 @@
 -- What a stop leaves of a whole queue.
-use Rattle.std.proofs.Common.{◌≡◌, ◌≢◌, ◌⊎◌, inl, inr, ℕ, suc, ◌+◌, ◌<◌, ◌≤◌, List, [], ◌∷◌, ◌++◌, length, Option, Some, None, refl, sym, ◌∙◌, ap, subst, arith}
-use Rattle.io_traits.specs.Reads.{bytes_of}
+use Rattle.std.proofs.Common.{◌≡◌, inl, ℕ, suc, ◌+◌, ◌<◌, List, [], ◌∷◌, length, Option, sym, ◌∙◌, ap, subst, arith}
 use Rattle.crc_frame.specs.Slots.{is_slot}
 use Rattle.store_trait.specs.Images.{Image, FileImage, at_rest}
 use Rattle.store_trait.specs.Chance.{NoChance}
 use Rattle.store_trait.specs.Tails.{passes}
-use Rattle.queue_laws.specs.Folders.{Role, head, page, checkpoint, Folder, Names, folder_in}
-use Rattle.queue_laws.specs.Kept.{Page, Queue, first_open_of, state_at, IsTail, AreTails, IsTop, NoTail, Stands, Kept, Rising, IsSound, IsQueue}
-use Rattle.queue_laws.specs.Resting.{MayRecord, TailHeld, TailsHeld, TopHeld, MayHoldTail, Held, TailsRest, Rests, TailsMark, Marks}
+use Rattle.queue_laws.specs.Folders.{head, page, checkpoint, Folder, Names, folder_in}
+use Rattle.queue_laws.specs.Kept.{Page, Queue, first_open_of, state_at, IsTail, AreTails, IsTop, Stands, Rising, IsSound, IsQueue}
+use Rattle.queue_laws.specs.Resting.{MayRecord, TailHeld, TailsHeld, Held, TailsRest, Rests, TailsMark, Marks}
 use Rattle.queue_laws.specs.Laws.{RestingIsKept, MarkingIsKept}
 use Rattle.queue_laws.proofs.Kept.{standing_is_kept}
 use Rattle.queue_laws.proofs.Torn.{tails_stand, marked_heads_stand, open_heads_stand}
@@ -39,9 +38,10 @@ tail_marks p names folder i sound held may rests =
 marking_tails : (number end : ℕ) (tails : List Page) (top : Page) (names : Names) (folder : Folder) (i : Image) → Rising number end tails top → (held : TailsHeld tails folder)
     → TailsMark tails names folder held i → ((n : ℕ) → n < top.number → i (names (page n)) ≡ at_rest (folder (page n))) → AreTails tails (folder_in names i)
 marking_tails number end [] top names folder i rising held may rests = tt
-marking_tails number end (p ∷ tails) top names folder i rising held may rests =
-    (tail_marks p names folder i rising.3 held.0 may.0 (rests p.number rising.1),
-    marking_tails (suc p.number) (p.least + length p.rows) tails top names folder i rising.4 held.1 may.1 rests)
+marking_tails number end (p ∷ tails) top names folder i rising held may rests = (
+  tail_marks p names folder i rising.3 held.0 may.0 (rests p.number rising.1),
+  marking_tails (suc p.number) (p.least + length p.rows) tails top names folder i rising.4 held.1 may.1 rests,
+)
 
 marking_stands : (q : Queue) (names : Names) (folder : Folder) (i : Image) → IsQueue q → (held : Held q folder) → Marks q names folder held i → Stands q (folder_in names i)
 marking_stands q names folder i is held may =

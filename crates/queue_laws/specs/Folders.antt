@@ -1,5 +1,5 @@
 -- The files of a queue's folder, by what each is for, and their names (this project's tables).
-use Rattle.std.specs.Prelude.{◌≡◌, ℕ, ◌+◌, ◌^◌, nat_lt, List, ◌++◌, replicate, codes, Option, if◌then◌else◌}
+use Rattle.std.specs.Prelude.{◌≡◌, ℕ, ◌+◌, nat_lt, List, ◌++◌, replicate, codes, Option, if◌then◌else◌}
 use Rattle.std.specs.Fmt.{decimal}
 use Rattle.store_trait.specs.Images.{Image}
 

@@ -1,5 +1,5 @@
 -- When a folder holds a queue that was written to it.
-use Rattle.std.specs.Prelude.{◌≡◌, ◌≢◌, ◌⊎◌, ◌≤◌, ◌<◌, ◌^◌, ℕ, suc, ◌+◌, ◌-◌, Bool, true, if◌then◌else◌, ⊤, List, [], ◌∷◌, ◌++◌, length, take, Option, Some, None, Result, Ok}
+use Rattle.std.specs.Prelude.{◌≡◌, ◌≢◌, ◌⊎◌, ◌≤◌, ◌<◌, ◌^◌, ℕ, suc, ◌+◌, ◌-◌, Bool, true, if◌then◌else◌, ⊤, List, [], ◌∷◌, ◌++◌, length, take, Option, Some, None, Ok}
 use Rattle.io_traits.specs.Reads.{bytes_of}
 use Rattle.store_disk.specs.declared.pages.PageState.{PageState}
 use Rattle.queue_page.specs.Grammar.{IsPage}

@@ -1,4 +1,4 @@
-use Rattle.std.proofs.Common.{◌≡◌, ◌++◌, ◌∷◌, List, [], get_or, drop, refl, sym, ◌∙◌, ap, subst, append_assoc, ◌+◌}
+use Rattle.std.proofs.Common.{◌≡◌, ◌++◌, List, [], drop, refl, sym, ◌∙◌, ap, subst, append_assoc, ◌+◌}
 use Rattle.store_trait.specs.Moments.{EachMoment}
 use Rattle.queue_core.specs.Writes.{Write, due_of, writes_of, CanWrite, MayLeave}
 use Rattle.queue_core.proofs.WriteLemmas.{left_none, left_more, left_cut, wrote_append, can_still, marks_on}
