@@ -1,4 +1,4 @@
-ghost use Rattle.std.specs.Prelude.{Some};
+ghost use Rattle.std.specs.Prelude.{◌≡◌, Some};
 ghost use Rattle.logstash_settings.specs.Texts.{option_text, words_fault_text};
 
 use std::alloc::AllocError;
@@ -37,18 +37,27 @@ pub enum WordsFault {
     Memory,
 }
 
-impl fmt::Display for RangedOption {
-    ghost output = { λ option. Some (option_text option) };
-
-    fn fmt<W: fmt::Write>(&self, f: &mut fmt::Formatter<W>) -> fmt::Result {
-        f.write_str(match self {
+impl RangedOption {
+    /// Its long word, with the dashes.
+    pub fn as_str(&self) -> &'static str
+        ensures { result.now ≡ option_text self.now }
+    {
+        match self {
             RangedOption::Workers => "--pipeline.workers",
             RangedOption::BatchSize => "--pipeline.batch.size",
             RangedOption::PipelineId => "--pipeline.id",
             RangedOption::Sample => "--sample",
             RangedOption::QueueCheck => "--pqcheck",
             RangedOption::QueueRepair => "--pqrepair",
-        })
+        }
+    }
+}
+
+impl fmt::Display for RangedOption {
+    ghost output = { λ option. Some (option_text option) };
+
+    fn fmt<W: fmt::Write>(&self, f: &mut fmt::Formatter<W>) -> fmt::Result {
+        f.write_str(self.as_str())
     }
 }
 
@@ -69,7 +78,6 @@ impl fmt::Display for WordsFault {
 }
 
 impl From<AllocError> for WordsFault {
-    ghost use Rattle.std.specs.Prelude.{◌≡◌};
     ghost use Rattle.logstash_settings.specs.declared.fault.WordsFault.TheVariants.{Memory};
 
     ghost from_gives = { λ _ fault. fault ≡ Memory };
