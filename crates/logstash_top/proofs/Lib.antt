@@ -1,6 +1,6 @@
 pub mod RowLemmas
 pub mod PumpLemmas
-pub mod TwoItems
 pub mod PartsLemmas
 pub mod Statuses
 pub mod Answering
+pub mod Starting

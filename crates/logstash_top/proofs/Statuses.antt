@@ -1,27 +1,46 @@
--- Statuses that are not Done, and the lines of statuses.
-use Rattle.std.proofs.Common.{◌≡◌, ◌⊎◌, inl, inr, ◌++◌, ℕ, List, codes, decimal, ap, sym, ◌∙◌}
+-- The statuses of calls that meet no fault, and the lines of statuses.
+use Rattle.std.proofs.Common.{◌≡◌, ◌⊎◌, inl, inr, ⊎_elim, ◌++◌, ℕ, List, codes, decimal, refl, ap, sym, ◌∙◌, subst, arith}
+use Rattle.io_traits.specs.Counts.{Rose, HasCauseUnless}
+use Rattle.io_traits.proofs.Causes.{no_cause}
 use Rattle.config_parse.specs.declared.fault.ConfigFault.{ConfigFault}
 use Rattle.config_parse.specs.declared.fault.ConfigFault.TheVariants as text_fault
+use Rattle.logstash_settings.specs.declared.fault.RangedOption.{RangedOption}
+use Rattle.logstash_settings.specs.declared.fault.WordsFault.{WordsFault}
+use Rattle.logstash_settings.specs.declared.fault.WordsFault.TheVariants as words_fault
+use Rattle.logstash_settings.specs.Texts.{option_text}
 use Rattle.logstash_top.specs.declared.status.Status.{Status}
 use Rattle.logstash_top.specs.declared.status.Status.TheVariants.{Done, BadConfig, NotBuilt, InputFault, NoMemory}
-use Rattle.logstash_top.specs.Status.{config_fault, not_built, placed_line, config_line, line_of, status_of_fault}
+use Rattle.logstash_top.specs.Answers.{Answers, Completes, MayRun, MayTest}
+use Rattle.logstash_top.specs.Status.{IsInputFault, output_fault, test_output_fault, placed_line, config_line, words_line, line_of}
 
-apart : (s : Status) (fault : ConfigFault) → s ≡ config_fault fault → s ≡ Done → ⊥
-apart s fault one other = cc
+-- what didn't change has no fault
+pub untouched : {P Q : Type 0} (n : ℕ) → (Q → ⊥) → HasCauseUnless n n P Q
+untouched n none = record { later = omega arith; cause = λ other. no_cause refl none }
 
-apart_memory : (s : Status) → s ≡ NoMemory → s ≡ Done → ⊥
-apart_memory s one other = cc
+-- where no fault was counted
+pub completes : (words : List (List ℕ)) (s : Status) (a b c d : ℕ) → Answers words MayRun s
+    → HasCauseUnless a b ((s ≡ output_fault) ⊎ (s ≡ NoMemory)) (IsInputFault s) → HasCauseUnless c d (s ≡ NoMemory) (s ≡ output_fault)
+    → (Rose a b → ⊥) → (Rose c d → ⊥) → Completes words s
+completes words s a b c d answers input output calm quiet pipeline text command run = by (answers.runs pipeline text command run)
+  where
+    by : MayRun pipeline s → (s ≡ Done) ⊎ (s ≡ NoMemory)
+    by (inl done) = inl done
+    by (inr (inl is)) = absurd (calm ((input.cause (λ other. ⊎_elim (λ e. cc) (λ e. cc) other)).rose (subst IsInputFault (sym is) tt)))
+    by (inr (inr (inl is))) = absurd (quiet ((output.cause (λ memory. cc)).rose is))
+    by (inr (inr (inr memory))) = inr memory
 
-pub unbuilt_not_done : (s : Status) → (s ≡ not_built) ⊎ (s ≡ NoMemory) → s ≡ Done → ⊥
-unbuilt_not_done s (inl is) done = cc
-unbuilt_not_done s (inr memory) done = apart_memory s memory done
+pub test_completes : (words : List (List ℕ)) (s : Status) (a b : ℕ) → Answers words MayTest s → HasCauseUnless a b (s ≡ NoMemory) (s ≡ test_output_fault) → (Rose a b → ⊥) → Completes words s
+test_completes words s a b answers output quiet pipeline text command run = by (answers.runs pipeline text command run)
+  where
+    by : MayTest pipeline s → (s ≡ Done) ⊎ (s ≡ NoMemory)
+    by (inl done) = inl done
+    by (inr (inl is)) = absurd (quiet ((output.cause (λ memory. cc)).rose is))
+    by (inr (inr memory)) = inr memory
 
-pub refused_not_done : (s : Status) (fault : ConfigFault) → (s ≡ status_of_fault fault) ⊎ (s ≡ NoMemory) → s ≡ Done → ⊥
-refused_not_done s text_fault.Long (inl is) done = apart s text_fault.Long is done
-refused_not_done s (text_fault.Syntax at) (inl is) done = apart s (text_fault.Syntax at) is done
-refused_not_done s (text_fault.Deep at) (inl is) done = apart s (text_fault.Deep at) is done
-refused_not_done s text_fault.Memory (inl is) done = apart_memory s is done
-refused_not_done s fault (inr memory) done = apart_memory s memory done
+-- the line of a word out of its range, by its parts
+pub range_line : (fault : WordsFault) (option : RangedOption) (text : List ℕ) → fault ≡ words_fault.Range option → text ≡ option_text option
+    → codes "logstash: words: range " ++ (text ++ codes "\n") ≡ words_line fault
+range_line fault option text is same = ap (λ t. codes "logstash: words: range " ++ (t ++ codes "\n")) same ∙ sym (ap words_line is)
 
 -- the lines of statuses with ids, by their parts
 pub config_lines : (s : Status) (pipeline text : List ℕ) (fault : ConfigFault) → s ≡ BadConfig pipeline fault → text ≡ pipeline → config_line text fault ≡ line_of s

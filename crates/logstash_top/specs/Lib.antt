@@ -2,6 +2,7 @@ pub mod Words
 pub mod Built
 pub mod Refused
 pub mod Status
+pub mod Answers
 pub mod Sinks
 pub mod Rows
 pub mod Runs

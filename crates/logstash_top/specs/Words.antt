@@ -1,10 +1,49 @@
--- The words of the command line.
-use Rattle.std.specs.Prelude.{◌≡◌, ℕ, List, [], ◌∷◌, codes}
+-- What the words of the command line ask of the program.
+use Rattle.std.specs.Prelude.{◌≡◌, ℕ, ◌||◌, Bool, List, if◌then◌else◌, Option, Some, None, option_map, is_some, Ok, Err}
+use Rattle.settings_lines.specs.declared.orders.ConfigSource.{ConfigSource}
+use Rattle.settings_lines.specs.declared.orders.ConfigSource.TheVariants as source
+use Rattle.settings_lines.specs.declared.orders.Orders.{Orders}
+use Rattle.logstash_settings.specs.declared.fault.WordsFault.{WordsFault}
+use Rattle.logstash_settings.specs.Words.{Answer, answer_of}
+use Rattle.logstash_top.specs.declared.words.Command.{Command}
+use Rattle.logstash_top.specs.declared.calls.Which.{Which}
+use Rattle.logstash_top.specs.declared.calls.Which.TheVariants.{Run, Test, Apart}
 
--- the words are `-e` and the text of a configuration
-abbrev pub IsCommand : List (List ℕ) → List ℕ → Type 0
-IsCommand words text = words ≡ codes "-e" ∷ text ∷ []
+-- the text of `-e`
+abbrev pub text_of : ConfigSource → Option (List ℕ)
+text_of (source.Text text) = Some text
+text_of (source.Path path) = None
+text_of (source.Sample events) = None
+text_of source.Pipelines = None
 
--- the words are nothing of the kind
-abbrev pub IsNoCommand : List (List ℕ) → Type 0
-IsNoCommand words = (text : List ℕ) → ¬ (IsCommand words text)
+-- orders that have what isn't built yet besides: a look for changes, threads apart, or a tool
+abbrev pub has_more : Orders → Bool
+has_more orders = orders.reload || orders.apart || is_some orders.tool
+
+-- the text that is run, and the id of its pipeline; none where the orders have what isn't built yet
+abbrev pub command_of : Orders → Option Command
+command_of orders =
+    if has_more orders then None
+    else option_map (λ text. record { pipeline = orders.pipeline_id; text = text }) (text_of orders.source)
+
+-- the words order the run of this text, as the pipeline of this id
+abbrev pub IsCommand : List (List ℕ) → List ℕ → List ℕ → Type 0
+IsCommand words pipeline text = (orders : Orders) × (answer_of words ≡ Ok orders) × (command_of orders ≡ Some (record { pipeline = pipeline; text = text }))
+
+-- the words read, and have what isn't built yet
+abbrev pub AreNotBuilt : List (List ℕ) → Type 0
+AreNotBuilt words = (orders : Orders) × (answer_of words ≡ Ok orders) × (command_of orders ≡ None)
+
+-- the words don't read, for this reason
+abbrev pub AreRefusedFor : List (List ℕ) → WordsFault → Type 0
+AreRefusedFor words fault = answer_of words ≡ Err fault
+
+-- the call that words are for; `-t` comes before `--apart`
+abbrev pub which_of : Answer → Which
+which_of (Ok orders) = if orders.test then Test else (if orders.apart then Apart else Run)
+which_of (Err fault) = Run
+
+-- the workers of words, or the default
+abbrev pub workers_of : Answer → ℕ
+workers_of (Ok orders) = orders.workers
+workers_of (Err fault) = 2

@@ -1,19 +1,26 @@
-//! The top call of the program `logstash`: all that the program does, over the objects of the outside
-//! that it is handed.
+//! The calls of the program `logstash`, over the objects of the outside that they are handed: [`which`] names the one that the
+//! words are for, [`logstash`] is a run, and [`test_config`] a test of the configuration alone.
 #![tactic(auto)]
 
 mod built;
+mod calls;
 mod config;
+mod config_test;
 mod line;
 mod parts;
 mod pump;
 mod rows;
 mod run_fault;
+mod start;
 mod status;
 mod top;
 mod words;
 mod world;
 
-pub use status::{Status, WordsFault};
+pub use calls::Which;
+pub use config_test::test_config;
+pub use logstash_settings::{RangedOption, WordsFault};
+pub use status::Status;
 pub use top::logstash;
+pub use words::{which, workers_wanted};
 pub use world::ThinWorld;

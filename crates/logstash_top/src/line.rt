@@ -3,13 +3,14 @@
 ghost use Rattle.std.specs.Prelude.{IsErr, OnOk};
 ghost use Rattle.io_traits.specs.Counts.{HasCause};
 ghost use Rattle.logstash_top.specs.Sinks.{Took, TookInPart, AllFlushed};
-ghost use Rattle.logstash_top.specs.Status.{config_line, placed_line, line_of};
+ghost use Rattle.logstash_top.specs.Status.{config_line, placed_line, words_line, line_of};
 
 use crate::parts::write_parts;
-use crate::status::{Status, WordsFault};
+use crate::status::Status;
 use config_parse::ConfigFault;
 use io_traits::{Failed, Sink};
 use itoa::Buffer;
+use logstash_settings::WordsFault;
 
 /// Writes the line of a status, if it has one, and flushes it.
 pub(crate) fn tell<O: Sink>(status: &Status, stderr: &mut O) -> Result<(), Failed>
@@ -29,9 +30,8 @@ fn write_line<O: Sink>(status: &Status, stderr: &mut O) -> Result<(), Failed>
 {
     match status {
         Status::Done => Ok(()),
-        Status::BadWords(WordsFault::Unread) => {
-            write_parts(stderr, &["logstash: words: unread\n"])
-        }
+        Status::BadWords(fault) => write_words_line(*fault, stderr),
+        Status::WordsNotBuilt => write_parts(stderr, &["logstash: words: not built\n"]),
         Status::BadConfig(pipeline, fault) => write_config_line(pipeline.as_str(), fault, stderr),
         Status::NotBuilt(pipeline) => write_parts(
             stderr,
@@ -52,6 +52,24 @@ fn write_line<O: Sink>(status: &Status, stderr: &mut O) -> Result<(), Failed>
             &["logstash: output fault ", output.as_str(), "\n"],
         ),
         Status::NoMemory => write_parts(stderr, &["logstash: no memory\n"]),
+    }
+}
+
+/// Writes the line of refused words.
+fn write_words_line<O: Sink>(fault: WordsFault, sink: &mut O) -> Result<(), Failed>
+    ensures ok { OnOk result (Took O.Sink sink.old sink.new (words_line fault)) }
+    ensures part { TookInPart O.Sink sink.old sink.new (words_line fault) }
+    ensures cause { HasCause (O.faults sink.old) (O.faults sink.new) (IsErr result) }
+{
+    match fault {
+        WordsFault::Unread => write_parts(sink, &["logstash: words: unread\n"]),
+        WordsFault::Both => write_parts(sink, &["logstash: words: both\n"]),
+        WordsFault::Range(option) => write_parts(
+            sink,
+            &["logstash: words: range ", option.as_str(), "\n"],
+        ),
+        WordsFault::Apart => write_parts(sink, &["logstash: words: apart\n"]),
+        WordsFault::Memory => write_parts(sink, &["logstash: words: out of memory\n"]),
     }
 }
 

@@ -2,24 +2,18 @@ ghost use Rattle.std.specs.Prelude.{◌≡◌};
 ghost use Rattle.logstash_top.specs.Status.{number_of};
 
 use config_parse::ConfigFault;
+use logstash_settings::WordsFault;
 use plain_data::Text;
-use thiserror::Error;
 
-/// Why the words of the command line are refused.
-#[derive(Clone, Copy, Debug, PartialEq, Eq, Error)]
-pub enum WordsFault {
-    /// They are not `-e` and one text.
-    #[error("unread")]
-    Unread,
-}
-
-/// How a run ended.
+/// How a call ended.
 #[derive(Drop)]
 pub enum Status {
-    /// All of stdin was read, and all its events were written and flushed.
+    /// All of stdin was read, and all its events were written and flushed; or the configuration passed its test.
     Done,
-    /// The words of the command line are refused.
+    /// The words of the command line are refused. The fault is never want of memory.
     BadWords(WordsFault),
+    /// The words of the command line read, and have what the program doesn't do yet.
+    WordsNotBuilt,
     /// The text of this pipeline is no configuration. The fault is never want of memory.
     BadConfig(Text, ConfigFault),
     /// The configuration of this pipeline is one that the program doesn't run yet.
@@ -39,7 +33,7 @@ impl Status {
     {
         match self {
             Status::Done => 0,
-            Status::BadWords(_) => 1,
+            Status::BadWords(_) | Status::WordsNotBuilt => 1,
             Status::BadConfig(_, _) | Status::NotBuilt(_) => 3,
             Status::InputFault(_, _) => 5,
             Status::OutputFault(_) => 6,

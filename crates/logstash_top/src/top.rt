@@ -1,24 +1,25 @@
 ghost use Rattle.std.specs.Prelude.{◌≡◌, ◌⊎◌, IfOk, map, string_bytes};
+ghost use Rattle.logstash_top.specs.Answers.{Answers, MayRun};
 ghost use Rattle.logstash_top.specs.Outcomes.{RanAs, FlushedOrUntouched, InputFaultHasCause, OutputFaultHasCause, CompletesUnlessFaulted};
 ghost use Rattle.logstash_top.specs.Runs.{IsUntouched};
 ghost use Rattle.logstash_top.specs.Sinks.{Took, TookInPart, AllFlushed, Faulted};
-ghost use Rattle.logstash_top.specs.Status.{Answers, IsRefused, not_built, status_of, status_of_fault, line_of};
+ghost use Rattle.logstash_top.specs.Status.{IsRefused, status_of, line_of};
 
-use crate::config::is_run;
 use crate::line::tell;
 use crate::pump::run;
 use crate::run_fault::RunFault;
-use crate::status::{Status, WordsFault};
-use crate::words::config_text;
+use crate::start::start;
+use crate::status::Status;
 use crate::world::ThinWorld;
-use config_parse::ConfigFault;
 use io_traits::{Clock, Sink, Source};
 use plain_data::Text;
 use std::alloc::{AllocError, Global};
 use std::sync::Wait;
 
-/// Does what the words of the command line ask for: `-e` and the text of a configuration that reads
-/// lines from stdin and writes their events to stdout as JSON lines.
+/// Does what the words of the command line ask for: runs the configuration of `-e`, if it is one that
+/// reads lines from stdin and writes their events to stdout as JSON lines. `-t` changes nothing here:
+/// a test is `test_config`'s, and `which` says what the words are for. The numbers of workers and of
+/// events in a batch have no effect on such a run, and neither have the folders.
 ///
 /// Each event's row is written before the next one is made. The rows of what one read brought are
 /// flushed before the next read, and all rows are flushed before the call returns, unless a fault of
@@ -27,12 +28,15 @@ use std::sync::Wait;
 /// paused before the next read. No clause says what happens between two reads: the flush and the pause
 /// there, and that each row is written before the next.
 ///
-/// - `Status::BadWords` comes exactly where the words are not `-e` and one text.
-/// - `Status::BadConfig` comes exactly where that text is no configuration, with the reason: it is
-///   longer than 1,048,576 bytes, its first token that no configuration has there stands at the place,
-///   or its token at the place opens level 65; unless memory ran out.
+/// - `Status::BadWords` comes exactly where `logstash_settings::read_words` refuses the words, with that fault,
+///   unless memory ran out.
+/// - `Status::WordsNotBuilt` comes exactly where the words read and have `-f`, `-r`, `--sample`, `--apart`,
+///   `--pqcheck` or `--pqrepair`, or have no `-e`, unless memory ran out.
+/// - `Status::BadConfig` comes exactly where the text is no configuration, with the id of its pipeline and
+///   the reason: it is longer than 1,048,576 bytes, its first token that no configuration has there stands
+///   at the place, or its token at the place opens level 65; unless memory ran out.
 /// - `Status::NotBuilt` comes exactly where it is a configuration that isn't built, unless memory ran
-///   out. At these three nothing was read and nothing written to stdout.
+///   out. At these four nothing was read and nothing written to stdout.
 /// - `Status::InputFault` and `Status::OutputFault` come only where the count of stdin's, or of
 ///   stdout's, faults rose in this call, or stands at the last value of u64. At another status no fault
 ///   was counted: but for a fault of stdin where the last flush of stdout failed too, which ends in
@@ -48,7 +52,7 @@ pub fn logstash<R: Wait, I: Source, O: Sink, K: Clock>(
     words: &[String],
     world: &mut ThinWorld<I, O, K>,
 ) -> Status
-    ensures answers { Answers (map string_bytes words.now) result }
+    ensures answers { Answers (map string_bytes words.now) MayRun result }
     ensures refused { IsRefused result → IsUntouched world.old world.new }
 
     // What stdout holds.
@@ -81,7 +85,7 @@ fn outcome<R: Wait, I: Source, O: Sink, K: Clock>(
     words: &[String],
     world: &mut ThinWorld<I, O, K>,
 ) -> Status
-    ensures answers { Answers (map string_bytes words.now) result }
+    ensures answers { Answers (map string_bytes words.now) MayRun result }
     ensures refused { IsRefused result → IsUntouched world.old world.new }
     ensures ran { RanAs I.Source O.Sink K.Clock world.old world.new result }
     ensures flushed { FlushedOrUntouched O.Sink world.old world.new }
@@ -90,57 +94,30 @@ fn outcome<R: Wait, I: Source, O: Sink, K: Clock>(
     ensures output_fault { OutputFaultHasCause O.Sink world.old world.new result }
     ensures stderr { world.new.stderr ≡ world.old.stderr }
 {
-    let Some(text) = config_text(words) else {
-        return Status::BadWords(WordsFault::Unread);
-    };
-    match is_run(alloc, text) {
-        Ok(true) => match run(rt, alloc, world) {
+    match start(alloc, words) {
+        Ok(pipeline) => match run(rt, alloc, world) {
             Ok(()) => Status::Done,
-            Err(stop) => stopped(alloc, stop),
+            Err(stop) => stopped(alloc, pipeline, stop),
         },
-        Ok(false) => unbuilt(alloc),
-        Err(fault) => refused(alloc, fault),
-    }
-}
-
-/// The status of a configuration that isn't built.
-fn unbuilt(alloc: Global) -> Status
-    ensures { (result ≡ not_built) ⊎ (result ≡ Status.NoMemory) }
-{
-    match Text::of(alloc, "main") {
-        Ok(pipeline) => Status::NotBuilt(pipeline),
-        Err(_) => Status::NoMemory,
-    }
-}
-
-/// The status of a text that is no configuration.
-fn refused(alloc: Global, fault: ConfigFault) -> Status
-    ensures { (result ≡ status_of_fault fault) ⊎ (result ≡ Status.NoMemory) }
-{
-    match (fault, Text::of(alloc, "main")) {
-        (ConfigFault::Memory, _) | (_, Err(_)) => Status::NoMemory,
-        (_, Ok(pipeline)) => Status::BadConfig(pipeline, fault),
+        Err(status) => status,
     }
 }
 
 /// The status of a run that stopped before its end.
-fn stopped(alloc: Global, stop: RunFault) -> Status
-    ensures { (result ≡ status_of stop) ⊎ (result ≡ Status.NoMemory) }
+fn stopped(alloc: Global, pipeline: Text, stop: RunFault) -> Status
+    ensures { (result ≡ status_of pipeline stop) ⊎ (result ≡ Status.NoMemory) }
 {
-    match fault_status(alloc, stop) {
+    match fault_status(alloc, pipeline, stop) {
         Ok(status) => status,
         Err(_) => Status::NoMemory,
     }
 }
 
-fn fault_status(alloc: Global, stop: RunFault) -> Result<Status, AllocError>
-    ensures { IfOk result (λ status. status ≡ status_of stop) }
+fn fault_status(alloc: Global, pipeline: Text, stop: RunFault) -> Result<Status, AllocError>
+    ensures { IfOk result (λ status. status ≡ status_of pipeline stop) }
 {
     match stop {
-        RunFault::Input => Ok(Status::InputFault(
-            Text::of(alloc, "main")?,
-            Text::of(alloc, "input_1")?,
-        )),
+        RunFault::Input => Ok(Status::InputFault(pipeline, Text::of(alloc, "input_1")?)),
         RunFault::Output => Ok(Status::OutputFault(Text::of(alloc, "output_1")?)),
         RunFault::Memory => Ok(Status::NoMemory),
     }

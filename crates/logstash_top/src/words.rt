@@ -1,13 +1,91 @@
-ghost use Rattle.std.specs.Prelude.{map, string_bytes, IfSome, IfNone};
-ghost use Rattle.logstash_top.specs.Words.{IsCommand, IsNoCommand};
+//! What the words of the command line ask of the program.
 
-/// The text of the configuration, where the words are `-e` and that text.
-pub(crate) fn config_text(words: &[String]) -> Option<&str>
-    ensures some { IfSome result (λ text. IsCommand (map string_bytes words.now) text.now) }
-    ensures none { IfNone result (IsNoCommand (map string_bytes words.now)) }
+ghost use Rattle.std.specs.Prelude.{◌≡◌, ◌⊎◌, Err, IfOk, map, string_bytes};
+ghost use Rattle.logstash_settings.specs.Words.{answer_of};
+ghost use Rattle.logstash_top.specs.Answers.{asked};
+ghost use Rattle.logstash_top.specs.Words as spec;
+ghost use Rattle.logstash_top.specs.Words.{which_of, workers_of};
+
+use crate::calls::Which;
+use crate::status::Status;
+use logstash_settings::{ConfigSource, Orders, WordsFault, read_words};
+use plain_data::Text;
+use std::alloc::{AllocError, Global};
+
+/// A text that is run, and the id of its pipeline.
+#[derive(Drop)]
+pub(crate) struct Command {
+    pub(crate) pipeline: Text,
+    pub(crate) text: Text,
+}
+
+/// Says which call the words of a command line are for: `Test` where they read and have `-t`, else `Apart` where they read
+/// and have `--apart`, and else `Run`. The only error is want of memory.
+pub fn which(alloc: Global, words: &[String]) -> Result<Which, AllocError>
+    ensures { IfOk result (λ which. which ≡ which_of (answer_of (map string_bytes words.now))) }
 {
-    match words {
-        [flag, text] if flag.as_str() == "-e" => Some(text.as_str()),
+    match answered(alloc, words)? {
+        Ok(orders) if orders.test => Ok(Which::Test),
+        Ok(orders) if orders.apart => Ok(Which::Apart),
+        _ => Ok(Which::Run),
+    }
+}
+
+/// How many workers the words of a command line want: the value of `-w` where they read, and else 2. The only error is
+/// want of memory.
+pub fn workers_wanted(alloc: Global, words: &[String]) -> Result<u32, AllocError>
+    ensures { let answer = answer_of (map string_bytes words.now) in
+        IfOk result (λ workers. workers ≡ workers_of answer) }
+{
+    match answered(alloc, words)? {
+        Ok(orders) => Ok(orders.workers),
+        Err(_) => Ok(2),
+    }
+}
+
+/// The text that the words run, or why there is none.
+pub(crate) fn ordered(alloc: Global, words: &[String]) -> Result<Command, Status>
+    ensures { (result ≡ asked (answer_of (map string_bytes words.now)))
+        ⊎ (result ≡ Err Status.NoMemory) }
+{
+    match answered(alloc, words) {
+        Ok(Ok(orders)) => match built(orders) {
+            Some(command) => Ok(command),
+            None => Err(Status::WordsNotBuilt),
+        },
+        Ok(Err(fault)) => Err(Status::BadWords(fault)),
+        Err(_) => Err(Status::NoMemory),
+    }
+}
+
+/// The text that orders run, where they have nothing that isn't built yet.
+fn built(orders: Orders) -> Option<Command>
+    ensures { result ≡ spec.command_of orders }
+{
+    if orders.reload || orders.apart || orders.tool.is_some() {
+        return None;
+    }
+    let Orders {
+        source,
+        pipeline_id,
+        ..
+    } = orders;
+    match source {
+        ConfigSource::Text(text) => Some(Command {
+            pipeline: pipeline_id,
+            text,
+        }),
         _ => None,
+    }
+}
+
+/// What the words are answered. The outer error is want of memory.
+fn answered(alloc: Global, words: &[String]) -> Result<Result<Orders, WordsFault>, AllocError>
+    ensures { IfOk result (λ answer. answer ≡ answer_of (map string_bytes words.now)) }
+{
+    match read_words(alloc, words) {
+        Ok(orders) => Ok(Ok(orders)),
+        Err(WordsFault::Memory) => Err(AllocError),
+        Err(fault) => Ok(Err(fault)),
     }
 }

@@ -1,0 +1,93 @@
+ghost use Rattle.std.specs.Prelude.{◌≡◌, ◌⊎◌, IsErr, OnOk, map, string_bytes};
+ghost use Rattle.io_traits.specs.Counts.{HasCause};
+ghost use Rattle.logstash_top.specs.Answers.{Answers, MayTest};
+ghost use Rattle.logstash_top.specs.Outcomes.{Confirmed, TestCompletes, TestFaultHasCause, confirmation};
+ghost use Rattle.logstash_top.specs.Sinks.{Took, TookInPart, AllFlushed, Faulted};
+ghost use Rattle.logstash_top.specs.Status.{IsRefused, test_output_fault, line_of};
+
+use crate::line::tell;
+use crate::parts::write_parts;
+use crate::start::start;
+use crate::status::Status;
+use io_traits::{Failed, Sink};
+use plain_data::Text;
+use std::alloc::Global;
+
+/// Tests the configuration that the words of the command line name, and runs nothing. Where the program runs it, stdout
+/// gets the line `Configuration OK`, which is flushed.
+///
+/// The line of the status goes to stderr and is flushed there, unless a fault of stderr was counted; such a fault changes
+/// nothing else.
+///
+/// - `Status::BadWords`, `Status::WordsNotBuilt`, `Status::BadConfig` and `Status::NotBuilt` come as `logstash` says, and
+///   nothing was written to stdout.
+/// - `Status::OutputFault` of `stdout` comes only where the count of stdout's faults rose in this call, or stands at the last
+///   value of u64. At another status none was counted, unless memory for that status ran out. A first part of the line may
+///   stand there.
+/// - `Status::NoMemory` may come anywhere.
+pub fn test_config<O: Sink>(
+    alloc: Global,
+    words: &[String],
+    stdout: &mut O,
+    stderr: &mut O,
+) -> Status
+    ensures answers { Answers (map string_bytes words.now) MayTest result }
+
+    // What stdout holds.
+    ensures refused { IsRefused result → stdout.new ≡ stdout.old }
+    ensures done { result ≡ Status.Done → Confirmed O.Sink stdout.old stdout.new }
+    ensures part { TookInPart O.Sink stdout.old stdout.new confirmation }
+
+    // When a fault comes.
+    ensures output_fault { TestFaultHasCause O.Sink stdout.old stdout.new result }
+    ensures complete { let all = map string_bytes words.now in
+        TestCompletes O.Sink stdout.old stdout.new all result }
+
+    // What stderr holds.
+    ensures line { TookInPart O.Sink stderr.old stderr.new (line_of result) }
+    ensures told { Faulted O.Sink stderr.old stderr.new
+        ⊎ Took O.Sink stderr.old stderr.new (line_of result) }
+    ensures told_flushed { Faulted O.Sink stderr.old stderr.new
+        ⊎ AllFlushed O.Sink stderr.new }
+{
+    let status = tested(alloc, words, stdout);
+    let _ = tell(&status, stderr);
+    status
+}
+
+/// The status, before its line is told.
+fn tested<O: Sink>(alloc: Global, words: &[String], stdout: &mut O) -> Status
+    ensures answers { Answers (map string_bytes words.now) MayTest result }
+    ensures refused { IsRefused result → stdout.new ≡ stdout.old }
+    ensures done { result ≡ Status.Done → Confirmed O.Sink stdout.old stdout.new }
+    ensures part { TookInPart O.Sink stdout.old stdout.new confirmation }
+    ensures output_fault { TestFaultHasCause O.Sink stdout.old stdout.new result }
+{
+    match start(alloc, words) {
+        Ok(_) => match confirm(stdout) {
+            Ok(()) => Status::Done,
+            Err(_) => unconfirmed(alloc),
+        },
+        Err(status) => status,
+    }
+}
+
+/// Writes the line of a configuration that passed, and flushes it.
+fn confirm<O: Sink>(stdout: &mut O) -> Result<(), Failed>
+    ensures ok { OnOk result (Confirmed O.Sink stdout.old stdout.new) }
+    ensures part { TookInPart O.Sink stdout.old stdout.new confirmation }
+    ensures cause { HasCause (O.faults stdout.old) (O.faults stdout.new) (IsErr result) }
+{
+    write_parts(stdout, &["Configuration OK\n"])?;
+    stdout.flush()
+}
+
+/// The status of a line that stdout didn't take.
+fn unconfirmed(alloc: Global) -> Status
+    ensures { (result ≡ test_output_fault) ⊎ (result ≡ Status.NoMemory) }
+{
+    match Text::of(alloc, "stdout") {
+        Ok(output) => Status::OutputFault(output),
+        Err(_) => Status::NoMemory,
+    }
+}
