@@ -1,10 +1,11 @@
-//! The program `logstash`: runs what its words ask for over the real stdin, stdout, stderr and clock.
+//! The program `logstash`: runs or tests what its words ask for, over the real stdin, stdout, stderr and clock. What it does is
+//! the contract of the call that it makes: `logstash`, or `test_config`, as `which` says.
 #![tactic(auto)]
 
 mod standard;
 
 use io_real::{StdinSource, SystemClock, WriteSink};
-use logstash_top::{ThinWorld, logstash};
+use logstash_top::{Status, ThinWorld, Which, logstash, test_config, which};
 use standard::StandardOutput;
 use std::env;
 use std::io::{self, ErrorKind, Stdin};
@@ -21,12 +22,35 @@ type RealWorld<'a> = ThinWorld<
 >;
 
 fn main(rt: HostRuntime) -> ExitCode {
-    let (Ok(words), Ok(world)) = (words(&rt), real_world(&rt)) else {
+    let Ok((words, call, world)) = beginning(&rt) else {
         let _ = eprintln!(rt; "logstash: no memory");
         return ExitCode::from(NO_MEMORY);
     };
-    let mut world = world;
-    ExitCode::from(logstash(&rt, rt.alloc(), &words, &mut world).number())
+    let status = match call {
+        Which::Test => tested(&rt, &words, world),
+        Which::Run | Which::Apart => {
+            let mut world = world;
+            logstash(&rt, rt.alloc(), &words, &mut world)
+        }
+    };
+    ExitCode::from(status.number())
+}
+
+/// Tests the configuration that the words name, over the real stdout and stderr.
+fn tested(rt: &HostRuntime, words: &[String], world: RealWorld<'_>) -> Status {
+    let ThinWorld {
+        mut stdout,
+        mut stderr,
+        ..
+    } = world;
+    test_config(rt.alloc(), words, &mut stdout, &mut stderr)
+}
+
+/// The words, the call that they are for, and the real objects. The only error is want of memory.
+fn beginning(rt: &HostRuntime) -> io::Result<(Vec<String>, Which, RealWorld<'_>)> {
+    let words = words(rt)?;
+    let call = which(rt.alloc(), &words)?;
+    Ok((words, call, real_world(rt)?))
 }
 
 /// Makes the real objects. The only error is want of memory.
@@ -39,12 +63,12 @@ fn real_world(rt: &HostRuntime) -> io::Result<RealWorld<'_>> {
     })
 }
 
-/// The words behind the program's name; none where one of them is no text, which no command has. The
-/// only error is want of memory.
+/// The words behind the program's name. Where one of them is no text, an empty word stands for all: the
+/// command doesn't take it. The only error is want of memory.
 fn words(rt: &HostRuntime) -> io::Result<Vec<String>> {
     match env::args(rt) {
         Ok(args) => Ok(args.skip(1).collect(rt.alloc())?),
         Err(e) if e.kind() == ErrorKind::OutOfMemory => Err(e),
-        Err(_) => Ok(Vec::new(rt.alloc())),
+        Err(_) => Ok(vec![in rt.alloc(); String::new(rt.alloc())]?),
     }
 }
