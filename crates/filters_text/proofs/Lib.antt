@@ -1,0 +1,5 @@
+pub mod CutChars
+pub mod Missing
+pub mod Pieces
+pub mod Grouping
+pub mod Wanted

@@ -1,0 +1,5 @@
+pub mod Json
+pub mod KvText
+pub mod KvViews
+pub mod Targets
+pub mod Kv

@@ -1,0 +1,12 @@
+//! The filters `json` and `kv`: a text becomes fields.
+#![tactic(auto)]
+
+mod json_filter;
+mod kv_filter;
+mod kv_text;
+mod target;
+
+pub use filter_settings::Applied;
+pub use json_filter::Json;
+pub use kv_filter::Kv;
+pub use kv_text::Splits;
