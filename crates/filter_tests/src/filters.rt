@@ -4,6 +4,7 @@ use filter_settings::{Applied, FromFault};
 use filters_date::DateFilter;
 use filters_mutate::Mutate;
 use filters_shape::{CloneFilter, DropFilter, SplitFilter};
+use filters_text::{Json, Kv};
 use std::alloc::AllocError;
 
 /// A filter of any kind.
@@ -13,6 +14,8 @@ pub enum Filter {
     Clone(CloneFilter),
     Split(SplitFilter),
     Drop(DropFilter),
+    Json(Json),
+    Kv(Kv),
     Date(DateFilter),
 }
 
@@ -25,6 +28,8 @@ impl Filter {
             "clone" => Ok(Some(Filter::Clone(CloneFilter::from_settings(settings)?))),
             "split" => Ok(Some(Filter::Split(SplitFilter::from_settings(settings)?))),
             "drop" => Ok(Some(Filter::Drop(DropFilter::from_settings(settings)?))),
+            "json" => Ok(Some(Filter::Json(Json::from_settings(settings)?))),
+            "kv" => Ok(Some(Filter::Kv(Kv::from_settings(settings)?))),
             "date" => Ok(Some(Filter::Date(DateFilter::from_settings(settings)?))),
             _ => Ok(None),
         }
@@ -36,6 +41,8 @@ impl Filter {
             Filter::Clone(filter) => filter.apply(event),
             Filter::Split(filter) => filter.apply(event),
             Filter::Drop(filter) => filter.apply(event),
+            Filter::Json(filter) => filter.apply(event),
+            Filter::Kv(filter) => filter.apply(event),
             Filter::Date(filter) => filter.apply(event),
         }
     }

@@ -8,7 +8,8 @@
 //! - `FILTER` alone: whether its settings are read, or why they are refused.
 //!
 //! The answers in `stdout` were worked out by hand from the tables of the plugins: whether the filter matched, and the
-//! events that stand in the event's place.
+//! events that stand in the event's place. Those of `json` and `kv` were made with Python's `json` and `re`, and then
+//! looked through.
 //!
 //! With the words of `timing` it applies one filter many times over instead, to be timed from outside.
 #![tactic(auto)]
@@ -20,11 +21,16 @@ mod timing;
 
 use std::{env, fs, io};
 
-const TABLES: [&str; 18] = [
+const TABLES: [&str; 23] = [
     "settings",
     "clone",
     "split",
     "drop",
+    "json_settings",
+    "json",
+    "kv_settings",
+    "kv",
+    "json_kv_hostile",
     "options",
     "tags",
     "refused",
