@@ -1,0 +1,6 @@
+mod Scanning
+mod Adding
+mod Finding
+mod Cutting
+mod Matching
+mod Fields

@@ -1,0 +1,23 @@
+//! The filter `grok`: patterns with names find fields in texts.
+//!
+//! A grok pattern is a regular expression in which `%{NAME}` stands for the pattern of that name. It is
+//! expanded and compiled once, when the filter is made.
+#![tactic(auto)]
+
+mod expansion;
+mod grok;
+mod grok_pattern;
+mod library;
+mod piece;
+mod scan;
+mod searching;
+mod settings;
+
+pub use expansion::{Capture, Expanded, Known, Rules, expand, known_patterns};
+pub use filter_settings::Applied;
+pub use grok::Grok;
+pub use grok_pattern::{GrokPattern, Put};
+pub use library::LIBRARY;
+pub use piece::{Coercion, Field, Piece, Pieces, read_pieces};
+pub use scan::{Place, Scan};
+pub use settings::{FieldPatterns, pattern_of};
