@@ -2,6 +2,7 @@ use config_tree::Plugin;
 use event_tree::Event;
 use filter_settings::{Applied, FromFault};
 use filters_date::DateFilter;
+use filters_grok::Grok;
 use filters_mutate::Mutate;
 use filters_shape::{CloneFilter, DropFilter, SplitFilter};
 use filters_text::{Json, Kv};
@@ -17,6 +18,7 @@ pub enum Filter {
     Json(Json),
     Kv(Kv),
     Date(DateFilter),
+    Grok(Grok),
 }
 
 impl Filter {
@@ -31,6 +33,7 @@ impl Filter {
             "json" => Ok(Some(Filter::Json(Json::from_settings(settings)?))),
             "kv" => Ok(Some(Filter::Kv(Kv::from_settings(settings)?))),
             "date" => Ok(Some(Filter::Date(DateFilter::from_settings(settings)?))),
+            "grok" => Ok(Some(Filter::Grok(Grok::from_settings(settings)?))),
             _ => Ok(None),
         }
     }
@@ -44,6 +47,7 @@ impl Filter {
             Filter::Json(filter) => filter.apply(event),
             Filter::Kv(filter) => filter.apply(event),
             Filter::Date(filter) => filter.apply(event),
+            Filter::Grok(filter) => filter.apply(event),
         }
     }
 }

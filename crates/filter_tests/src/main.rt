@@ -9,7 +9,7 @@
 //!
 //! The answers in `stdout` were worked out by hand from the tables of the plugins: whether the filter matched, and the
 //! events that stand in the event's place. Those of `json` and `kv` were made with Python's `json` and `re`, and then
-//! looked through.
+//! looked through. Those of `grok` and `grok_library` are what Python's `re` finds by the same regular expressions.
 //!
 //! With the words of `timing` it applies one filter many times over instead, to be timed from outside.
 #![tactic(auto)]
@@ -21,7 +21,7 @@ mod timing;
 
 use std::{env, fs, io};
 
-const TABLES: [&str; 23] = [
+const TABLES: [&str; 27] = [
     "settings",
     "clone",
     "split",
@@ -45,6 +45,10 @@ const TABLES: [&str; 23] = [
     "date_settings",
     "date",
     "worked",
+    "grok",
+    "grok_library",
+    "grok_settings",
+    "grok_hostile",
 ];
 
 fn main(rt: HostRuntime) -> io::Result<()> {
