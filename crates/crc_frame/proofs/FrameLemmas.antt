@@ -6,7 +6,7 @@ use Rattle.std.specs.List.{starts_with}
 use Rattle.std.proofs.lemmas.Slice.Eq.{starts_is}
 use Rattle.std.proofs.lemmas.Bool.{cond-true, cond-false, false_from_ne_true, false≢true}
 use Rattle.std.proofs.lemmas.Bool.Decides.{Decides-eqb}
-use Rattle.std.proofs.lemmas.List.{take_at, take-take, take-append-drop, length-take-le, append_cancel_left}
+use Rattle.std.proofs.lemmas.List.{take_at, drop_at, take-take, take-append-drop, length-take-le, append_cancel_left}
 use Rattle.byteorder.specs.Endian.{big_bytes, big_number}
 use Rattle.byteorder.specs.Numbers.{big_from-lt, big_number-reads_back, length-bytes_high_first}
 use Rattle.crc_frame.specs.Crc.{crc32, is_checked}
@@ -35,6 +35,17 @@ length-frame_of number body =
     let sum = big_bytes 4 (crc32 (covered number body)) in
     let four : length sum ≡ 4 = length-bytes_high_first 4 (crc32 (covered number body)) in
     omega (arith, length-append (covered number body) sum, length-covered number body, four)
+
+-- a frame that is appended part after part: what stands before the body, the body, and the CRC-32 of both
+pub frame_joined : (number start : ℕ) (body old head sum items : List ℕ) → head ≡ big_bytes 8 number ++ big_bytes 4 (length body)
+    → start ≡ length old → items ≡ old ++ head ++ body → sum ≡ big_bytes 4 (crc32 (drop start items)) → items ++ sum ≡ old ++ frame_of number body
+unfolding frame_of covered
+frame_joined number start body old head sum items head_is start_is items_are sum_is =
+    let whole = big_bytes 8 number ++ big_bytes 4 (length body) ++ body in
+    let is_whole : items ≡ old ++ whole = items_are ∙ append_assoc old head body ∙ ap (λ (h : List ℕ). old ++ (h ++ body)) head_is in
+    let rest : drop start items ≡ whole = ap (drop start) is_whole ∙ drop_at old whole start (sym start_is) in
+    ap (λ (xs : List ℕ). xs ++ sum) is_whole ∙ append_assoc old whole sum
+    ∙ ap (λ (xs : List ℕ). old ++ (whole ++ xs)) (sum_is ∙ ap (λ (xs : List ℕ). big_bytes 4 (crc32 xs)) rest)
 
 -- what is read of bytes that a frame begins
 pub record ReadsAs (bytes : List ℕ) (number : ℕ) (body : List ℕ) : Type 0 where

@@ -10,8 +10,9 @@ use std::alloc::AllocError;
 /// The length in bytes of what stands before a body in a frame.
 pub(crate) const HEAD_LEN: usize = 12;
 
-// What stands before the body.
-fn head_of(number: u64, body_len: u32) -> [u8; HEAD_LEN]
+/// What stands before a body of so many bytes in a frame. Who writes a body straight into its frame begins
+/// with this, and ends with [`frame_crc`].
+pub fn frame_head(number: u64, body_len: u32) -> [u8; HEAD_LEN]
     ensures { result ≡ big_bytes 8 number ++ big_bytes 4 body_len }
 {
     let mut head = [0; HEAD_LEN];
@@ -20,7 +21,8 @@ fn head_of(number: u64, body_len: u32) -> [u8; HEAD_LEN]
     head
 }
 
-fn crc_bytes(covered: &[u8]) -> [u8; CRC_LEN]
+/// What stands behind the body in a frame: the CRC-32 of all that stands before.
+pub fn frame_crc(covered: &[u8]) -> [u8; CRC_LEN]
     ensures { result ≡ big_bytes 4 (crc32 covered.now) }
 {
     let mut bytes = [0; CRC_LEN];
@@ -41,8 +43,8 @@ pub fn frame(number: u64, body: &[u8], to: &mut Vec<u8>) -> Result<(), AllocErro
 {
     let start = to.len();
     to.reserve(HEAD_LEN + body.len() + CRC_LEN)?;
-    to.extend_from_slice(&head_of(number, body.len() as u32))?;
+    to.extend_from_slice(&frame_head(number, body.len() as u32))?;
     to.extend_from_slice(body)?;
-    let crc = crc_bytes(&to[start..]);
+    let crc = frame_crc(&to[start..]);
     to.extend_from_slice(&crc)
 }

@@ -9,6 +9,6 @@ mod tables;
 mod unframing;
 
 pub use crc::crc32;
-pub use framing::frame;
+pub use framing::{frame, frame_crc, frame_head};
 pub use slots::{Slot, newest};
 pub use unframing::{Frame, unframe};
