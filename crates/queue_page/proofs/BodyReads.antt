@@ -1,10 +1,11 @@
 -- What the body of a row says, by what `decode` and `decode_row` answer.
-use Rattle.std.proofs.Common.{◌≡◌, ◌≢◌, ◌⊎◌, inl, inr, ℕ, ◌-◌, ◌≤◌, ◌==◌, nat_lt, Bool, true, false, List, length, Result, Ok, Err, refl, sym, ap, ◌∙◌, subst, arith, if◌then◌else◌}
+use Rattle.std.proofs.Common.{◌≡◌, ◌≢◌, ◌⊎◌, inl, inr, ℕ, ◌-◌, ◌≤◌, ◌==◌, nat_lt, true, false, List, length, Result, Ok, Err, refl, sym, ap, ◌∙◌, subst, arith}
 use Rattle.std.proofs.lemmas.Bool.{cond-true, cond-false, cases_lt, eq-eqb}
 use Rattle.std.proofs.lemmas.Bool.Decides.{nat_tests}
 use Rattle.crc_frame.proofs.Numbers.{IsBytes}
 use Rattle.event_tree.specs.Events.{Ev}
 use Rattle.byte_reader.specs.Fronts.{◌>>=◌}
+use Rattle.byte_reader.proofs.Fronts.{chosen}
 use Rattle.element_code.specs.Parts.{event_spelling}
 use Rattle.element_code.specs.Values.{IsWhole}
 use Rattle.element_code.specs.Reading.{event_at}
@@ -103,10 +104,6 @@ body_lost_row version bytes (At at) is fit refused = row_refused version bytes a
 body_lost_row version bytes NoMemory is fit refused = refused
 
 -- ---- what is read is a body
-
-chosen : {A : Type 0} (b : Bool) (x y z : A) → (if b then x else y) ≡ z → ((b ≡ true) × (x ≡ z)) ⊎ ((b ≡ false) × (y ≡ z))
-chosen true x y z h = inl (refl, h)
-chosen false x y z h = inr (refl, h)
 
 abbrev said : Origin → Ev → Result (Origin × Ev) ℕ
 said origin event = Ok (origin, event)

@@ -1,29 +1,26 @@
 -- What is told of a damage are two numbers that differ.
-use Rattle.std.proofs.Common.{◌≡◌, ◌≢◌, ◌⊎◌, inl, inr, ℕ, zero, suc, ◌+◌, ◌-◌, ◌%◌, ◌^◌, ◌==◌, ◌<◌, nat_lt, Bool, true, false, List, [], ◌∷◌, length, take, drop, Option, Some, None, Result, Ok, Err, refl, sym, ap, ◌∙◌, subst, arith, length-take, length-drop, if◌then◌else◌}
+use Rattle.std.proofs.Common.{◌≡◌, ◌≢◌, ◌⊎◌, inl, inr, ℕ, ◌+◌, ◌-◌, ◌%◌, ◌^◌, ◌==◌, ◌<◌, nat_lt, true, false, List, [], ◌∷◌, length, take, drop, Option, Some, None, Result, Ok, Err, refl, sym, ◌∙◌, subst, arith, length-take, length-drop, if◌then◌else◌}
 use Rattle.std.proofs.lemmas.Bool.{cond-true, cond-false, cases_lt, cases_eq, eq-eqb, false≢true}
 use Rattle.std.proofs.lemmas.Bool.Decides.{nat_tests}
 use Rattle.byteorder.specs.Numbers.{big_from-lt}
 use Rattle.crc_frame.proofs.Numbers.{IsBytes, IsBytes-drop, IsBytes-take}
 use Rattle.event_tree.specs.Events.{Ev}
+use Rattle.byte_reader.proofs.Fronts.{chosen}
 use Rattle.element_code.specs.declared.row.Origin.{Origin}
 use Rattle.store_disk.specs.declared.pages.PageState.{PageState}
 use Rattle.queue_page.specs.Bodies.{body_at}
 use Rattle.queue_page.specs.Elements.{number_of, size_of, total_of, body_of, stored_crc, computed_crc, element_at, frame_at, head_at, row_by, misfit, body_misfit}
-use Rattle.queue_page.specs.Runs.{Run, run, run_by}
+use Rattle.queue_page.specs.Runs.{Run, run}
 use Rattle.queue_page.specs.Pages.{PageRows, counted, counted_by, is_version, version_of, within}
 use Rattle.queue_page.specs.Laws.{DamageDiffers}
 use Rattle.queue_page.specs.declared.fault.Misfit.{Misfit}
 use Rattle.queue_page.specs.declared.row.PageRow.{PageRow}
 use Rattle.queue_page.proofs.ElementReads.{size_short, size_long, element_took, element_is, element_misfit}
-use Rattle.queue_page.proofs.RunReads.{run_none, run_empty, run_more}
+use Rattle.queue_page.proofs.RunReads.{each_run}
 use Rattle.queue_page.proofs.PageReads.{recorded_long_if, recorded_short_if}
 
 abbrev Differs : Misfit → Type 0
 Differs m = m.found ≢ m.expected
-
-chosen : {A : Type 0} (b : Bool) (x y z : A) → (if b then x else y) ≡ z → ((b ≡ true) × (x ≡ z)) ⊎ ((b ≡ false) × (y ≡ z))
-chosen true x y z h = inl (refl, h)
-chosen false x y z h = inr (refl, h)
 
 abbrev at_fault : {A : Type 0} → Misfit → Result A Misfit
 at_fault m = Err m
@@ -81,28 +78,17 @@ element_by version number place bytes m fit fits (Ok total) is h = frame_differs
 element_by version number place bytes m fit fits (Err fault) is h =
     as_told {A = PageRow} fault m (sym (element_misfit version number place bytes (length bytes) fault refl is) ∙ h) (head_differs number place (length bytes) bytes fault fit fits is)
 
--- the fault at which a run stops
-StopDiffers : Run → Type 0
-StopDiffers r = (m : Misfit) → r.stop ≡ Some m → Differs m
-
-stops_by : (limit version number place : ℕ) (bytes : List ℕ) → ((n p : ℕ) (b : List ℕ) → IsBytes b → p + length b < 2 ^ 64 → (m : Misfit) → (run limit version n p b).stop ≡ Some m → Differs m) → IsBytes bytes → place + length bytes < 2 ^ 64
-    → 0 < length bytes → (e : Result PageRow Misfit) → element_at version number place bytes ≡ e → (m : Misfit) → (run (suc limit) version number place bytes).stop ≡ Some m → Differs m
-stops_by limit version number place bytes rec fit fits some (Err fault) read m stop =
-    let is : Some fault ≡ Some m =
-    ap (λ (r : Run). r.stop) (sym (run_more limit version number place bytes some ∙ ap (λ e. run_by place e (run limit version (number + 1) (place + total_of bytes) (drop (total_of bytes) bytes))) read)) ∙ stop in
-    let same : fault ≡ m = cc in
-    subst Differs same (element_by version number place bytes fault fit fits (head_at number place (length bytes) bytes) refl read)
-stops_by limit version number place bytes rec fit fits some (Ok row) read m stop =
-    let took = element_took version number place bytes row read in
-    rec (number + 1) (place + total_of bytes) (drop (total_of bytes) bytes) (IsBytes-drop (total_of bytes) bytes fit) (omega (arith, fits, length-drop (total_of bytes) bytes, took.within)) m
-    (ap (λ (r : Run). r.stop) (sym (run_more limit version number place bytes some ∙ ap (λ e. run_by place e (run limit version (number + 1) (place + total_of bytes) (drop (total_of bytes) bytes))) read)) ∙ stop)
-
 run_differs : (limit version number place : ℕ) (bytes : List ℕ) → IsBytes bytes → place + length bytes < 2 ^ 64 → (m : Misfit) → (run limit version number place bytes).stop ≡ Some m → Differs m
-run_differs zero version number place bytes fit fits m stop = let none : None ≡ Some m = ap (λ (r : Run). r.stop) (sym (run_none version number place bytes)) ∙ stop in absurd cc
-run_differs (suc limit) version number place bytes fit fits m stop = elim (cases_lt 0 (length bytes)) [
-  | inl some ↦ stops_by limit version number place bytes (λ n p b f g q t. run_differs limit version n p b f g q t) fit fits some (element_at version number place bytes) refl m stop
-  | inr empty ↦ let none : None ≡ Some m = ap (λ (r : Run). r.stop) (sym (run_empty (suc limit) version number place bytes (omega arith))) ∙ stop in absurd cc
-]
+run_differs limit version = each_run version (λ l n p b r. IsBytes b → p + length b < 2 ^ 64 → (m : Misfit) → r.stop ≡ Some m → Differs m)
+    (λ l n p b empty fit fits m stop. let none : None ≡ Some m = stop in absurd cc)
+    (λ l n p b fault some read fit fits m stop.
+    let is : Some fault ≡ Some m = stop in
+    let same : fault ≡ m = cc in
+    subst Differs same (element_by version n p b fault fit fits (head_at n p (length b) b) refl read))
+    (λ l n p b row some read rest fit fits m stop.
+    let took = element_took version n p b row read in
+    rest (IsBytes-drop (total_of b) b fit) (omega (arith, fits, length-drop (total_of b) b, took.within)) m stop)
+    limit
 
 counted_differs : (s : PageState) (version : ℕ) (found : Run) (stop : Option Misfit) (m : Misfit) → found.stop ≡ stop → ((fault : Misfit) → found.stop ≡ Some fault → Differs fault) → counted_by s version found stop ≡ Err m → Differs m
 counted_differs s version found (Some fault) m is differs h = as_told {A = PageRows} fault m h (differs fault is)

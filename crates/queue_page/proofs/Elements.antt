@@ -1,5 +1,5 @@
 -- The elements of the grammar are what is read, and what is read is an element.
-use Rattle.std.proofs.Common.{◌≡◌, ◌⊎◌, inl, inr, ℕ, ◌+◌, ◌-◌, ◌≤◌, ◌<◌, ◌^◌, Bool, true, false, List, [], ◌++◌, length, take, drop, nat_eq, Some, None, Ok, refl, sym, ap, ◌∙◌, subst, arith, length-append, length-take, length-drop, append-nil, if◌then◌else◌}
+use Rattle.std.proofs.Common.{◌≡◌, inl, inr, ℕ, ◌+◌, ◌-◌, ◌≤◌, ◌<◌, ◌^◌, List, [], ◌++◌, length, take, drop, nat_eq, Some, None, Ok, refl, sym, ap, ◌∙◌, subst, arith, length-append, length-take, length-drop, append-nil}
 use Rattle.std.proofs.lemmas.Bool.{eqb-true}
 use Rattle.std.proofs.lemmas.List.{take_at, drop-take}
 use Rattle.std.specs.List.{starts_with}
@@ -9,6 +9,7 @@ use Rattle.crc_frame.specs.Frames.{Element, covered, frame_of, unframed}
 use Rattle.crc_frame.proofs.CrcLemmas.{is_checked-append}
 use Rattle.crc_frame.proofs.FrameLemmas.{length-frame_of, unframed-frame_of}
 use Rattle.event_tree.specs.Events.{Ev}
+use Rattle.byte_reader.proofs.Fronts.{chosen}
 use Rattle.element_code.specs.declared.row.Origin.{Origin}
 use Rattle.element_code.specs.declared.row.Origin.TheVariants.{Unknown, Id}
 use Rattle.queue_page.specs.Bodies.{IsBody, body_at}
@@ -30,10 +31,6 @@ body_again version body (Id id) event is = row_said version body id event (λ on
 record FrameParts (number : ℕ) (body bytes : List ℕ) : Type 0 where
   number_is : big_number 8 bytes ≡ number
   body_is : take (big_number 4 (drop 8 bytes)) (drop 12 bytes) ≡ body
-
-chosen : {A : Type 0} (b : Bool) (x y z : A) → (if b then x else y) ≡ z → ((b ≡ true) × (x ≡ z)) ⊎ ((b ≡ false) × (y ≡ z))
-chosen true x y z h = inl (refl, h)
-chosen false x y z h = inr (refl, h)
 
 abbrev an_element : ℕ → List ℕ → Element
 an_element number body = record { number = number; body = body }

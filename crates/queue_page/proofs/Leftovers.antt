@@ -2,6 +2,7 @@
 use Rattle.std.proofs.Common.{◌≡◌, ℕ, ◌+◌, ◌-◌, ◌≤◌, Bool, true, false, IsTrue, List, [], ◌++◌, length, take, drop, Option, Some, None, option_map, unwrap_or, Result, Ok, Err, sym, ap, ◌∙◌, subst, arith, append-nil, take-append-drop, length-take, if◌then◌else◌}
 use Rattle.std.proofs.lemmas.Bool.{false≢true}
 use Rattle.std.proofs.lemmas.List.{take-take, take_all, drop-take, drop-drop}
+use Rattle.io_traits.specs.Folders.{Content}
 use Rattle.io_traits.specs.Reads.{bytes_of}
 use Rattle.store_trait.specs.Images.{Image, FileImage, at_rest}
 use Rattle.store_trait.specs.Chance.{StandsAt}
@@ -150,12 +151,12 @@ cut_same store tell name head s (Some bytes) page mid new P rests seen read run 
 cut_same store tell name head s None page mid new P rests seen read run cut =
     record { later = run.later; each = λ t i from to left chance. absurd (none_opened head s page (read (tell new t i left)).0); past = run.past }
 
-pub len_is : (file : Option (List ℕ)) (o : Option ℕ) (len : ℕ) → o ≡ option_map length file → len ≡ unwrap_or o 0 → len ≡ length (bytes_of file)
+len_is : (file : Option (List ℕ)) (o : Option ℕ) (len : ℕ) → o ≡ option_map length file → len ≡ unwrap_or o 0 → len ≡ length (bytes_of file)
 len_is None o len told read = read ∙ ap (λ x. unwrap_or x 0) told
 len_is (Some bytes) o len told read = read ∙ ap (λ x. unwrap_or x 0) told
 
 -- a look and then a cut behind what was read
-pub opened_run : {S : Type 0} (store : StoreWords S) → ImagesTell store → (name : List ℕ) (head : Bool) (s : PageState) (file : Option (List ℕ)) (page : PageView) (old mid new : S) (P : Image → Type 0)
+opened_run : {S : Type 0} (store : StoreWords S) → ImagesTell store → (name : List ℕ) (head : Bool) (s : PageState) (file : Option (List ℕ)) (page : PageView) (old mid new : S) (P : Image → Type 0)
     → ((now : S) → IsTrue store.tells → (i : Image) × store.may_leave now (store.moment now) i × ((n : List ℕ) → (i n).file ≡ store.seen now n)) → ((i : Image) → MayLeaveNow store old i → i name ≡ at_rest file) → Nothing store old mid
     → (IsTrue store.tells → (opened_view head s (bytes_of (store.seen old name)) ≡ Ok page) × (page.state.length ≤ length (bytes_of (store.seen old name)))) → EachMoment store mid new P → HoldsCut store name page.state.length mid new
     → EachMoment store old new (SaysSame name head s file)
@@ -167,3 +168,17 @@ opened_run store tell name head s file page old mid new P law rests nothing read
     λ told. subst (λ (f : Option (List ℕ)). (opened_view head s (bytes_of f) ≡ Ok page) × (page.state.length ≤ length (bytes_of f))) (seen_old told) (read told) in
     one_then_other store tell old mid new (SaysSame name head s file) (SaysSame name head s file) (SaysSame name head s file)
     (looked store tell name head s file old mid nothing rests) (cut_same store tell name head s file page mid new P rests_mid seen_mid read_of run cut) (λ i told p. p) (λ i told p. p)
+
+-- the same, by what the calls told: the length of the file, the page, and how many bytes of it are kept
+pub scanned : {S : Type 0} (store : StoreWords S) → ImagesTell store → (name : List ℕ) (head : Bool) (s : PageState) (file : Option (List ℕ)) (page : PageView) (old between mid new : S) (P : Image → Type 0)
+    → ((now : S) → IsTrue store.tells → (i : Image) × store.may_leave now (store.moment now) i × ((n : List ℕ) → (i n).file ≡ store.seen now n)) → ((i : Image) → MayLeaveNow store old i → i name ≡ at_rest file) → Nothing store old mid
+    → (IsTrue store.tells → store.seen between ≡ store.seen old) → (told : Option ℕ) (len kept : ℕ) → (IsTrue store.tells → told ≡ option_map length (store.seen old name)) → len ≡ unwrap_or told 0
+    → (IsTrue store.tells → len ≡ length (bytes_of (store.seen between name)) → opened_view head s (bytes_of (store.seen between name)) ≡ Ok page) → (kept ≡ page.state.length) × (page.state.length ≤ len)
+    → EachMoment store mid new P → HoldsCut store name kept mid new → EachMoment store old new (SaysSame name head s file)
+scanned store tell name head s file page old between mid new P law rests nothing same_reads told len kept length_told len_is_told read kept_is run cut =
+    opened_run store tell name head s file page old mid new P law rests nothing
+    (λ t.
+    let same : store.seen between name ≡ store.seen old name = ap (λ (c : Content). c name) (same_reads t) in
+    let there = len_is (store.seen old name) told len (length_told t) len_is_told in
+    (sym (ap (λ (f : Option (List ℕ)). opened_view head s (bytes_of f)) same) ∙ read t (there ∙ sym (ap (λ (f : Option (List ℕ)). length (bytes_of f)) same)), omega (arith, there, kept_is.1)))
+    run (subst (λ n. HoldsCut store name n mid new) kept_is.0 cut)

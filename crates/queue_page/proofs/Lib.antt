@@ -7,6 +7,7 @@ pub mod PageReads
 pub mod RunLemmas
 pub mod Leftovers
 pub mod Elements
+pub mod NextRows
 pub mod Prefixes
 pub mod Appending
 pub mod Spelling

@@ -1,7 +1,8 @@
 -- A page, as it is opened.
-use Rattle.std.proofs.Common.{◌≡◌, ◌⊎◌, inl, inr, ℕ, ◌+◌, ◌==◌, ◌≤◌, ◌<◌, nat_lt, Bool, true, false, List, ◌++◌, length, take, Option, Some, None, Result, Ok, Err, sym, ap, ◌∙◌, arith, refl, length-append, if◌then◌else◌}
+use Rattle.std.proofs.Common.{◌≡◌, inl, inr, ℕ, ◌+◌, ◌==◌, ◌≤◌, ◌<◌, nat_lt, true, false, List, ◌++◌, length, take, Option, Some, None, Result, Ok, Err, sym, ap, ◌∙◌, arith, refl, length-append, if◌then◌else◌}
 use Rattle.std.proofs.lemmas.Bool.{cond-true, cond-false, cases_lt, eqb-true}
 use Rattle.std.proofs.lemmas.Bool.Decides.{nat_tests}
+use Rattle.byte_reader.proofs.Fronts.{chosen}
 use Rattle.store_disk.specs.declared.pages.PageState.{PageState}
 use Rattle.queue_page.specs.Elements.{misfit, and_then}
 use Rattle.queue_page.specs.Views.{PageView}
@@ -76,10 +77,6 @@ pub opened_tail : (s : PageState) (page : PageView) (file : List ℕ) → record
 opened_tail s page file read = let r = as_rows s (recorded s file) page read in ap (λ x. and_then (and_then x (λ rows. Ok (extended false s file rows))) (λ rows. Ok (view_of s rows))) r.is ∙ ap Ok r.seen
 
 -- ---- what a page that was read has
-
-chosen : {A : Type 0} (b : Bool) (x y z : A) → (if b then x else y) ≡ z → ((b ≡ true) × (x ≡ z)) ⊎ ((b ≡ false) × (y ≡ z))
-chosen true x y z h = inl (refl, h)
-chosen false x y z h = inr (refl, h)
 
 pub record RecordedTook (s : PageState) (file : List ℕ) (rows : PageRows) : Type 0 where
   pub long : s.length ≤ length file

@@ -1,14 +1,13 @@
 -- A run goes by the bytes of its elements alone.
-use Rattle.std.proofs.Common.{◌≡◌, inl, inr, ℕ, zero, suc, ◌+◌, ◌-◌, ◌≤◌, ◌<◌, List, [], ◌∷◌, ◌++◌, length, take, drop, Option, Some, None, Result, Ok, Err, refl, sym, ap, ◌∙◌, subst, arith, length-append, length-take, length-drop}
-use Rattle.std.proofs.lemmas.Bool.{cases_lt}
+use Rattle.std.proofs.Common.{◌≡◌, ℕ, suc, ◌+◌, ◌-◌, ◌≤◌, ◌<◌, List, [], ◌∷◌, ◌++◌, length, take, drop, Option, Some, None, Ok, refl, sym, ap, ◌∙◌, arith, length-append, length-take, length-drop}
 use Rattle.std.proofs.lemmas.List.{take-take, drop-take, drop-drop, nil_from_length}
 use Rattle.store_trait.specs.Tails.{passes}
 use Rattle.queue_page.specs.Elements.{element_at, total_of, is_element}
-use Rattle.queue_page.specs.Runs.{Run, run, no_run, behind, run_by}
+use Rattle.queue_page.specs.Runs.{Run, run, no_run, behind}
 use Rattle.queue_page.specs.declared.fault.Misfit.{Misfit}
 use Rattle.queue_page.specs.declared.row.PageRow.{PageRow}
 use Rattle.queue_page.proofs.ElementReads.{element_took, element_again, took_element}
-use Rattle.queue_page.proofs.RunReads.{run_none, run_empty, run_more}
+use Rattle.queue_page.proofs.RunReads.{run_rest, run_with, each_run}
 
 -- how many bytes its elements have, and that other bytes that begin with these have the same run in front
 pub record RunTook (limit version number place : ℕ) (bytes : List ℕ) (r : Run) : Type 0 where
@@ -48,9 +47,7 @@ module _ (limit version number place : ℕ) (bytes : List ℕ) (row : PageRow) (
       let took = element_took version number place bytes row read in
       let again = element_again version number place bytes other row read same in
       let there : 0 < length other = omega (arith, ap length same, length-take total bytes, length-take total other, took.within) in
-      run_more limit version number place other there
-      ∙ ap (λ e. run_by place e (run limit version (number + 1) (place + total_of other) (drop (total_of other) other))) again.0
-      ∙ ap (λ t. behind (row ∷ []) (run limit version (number + 1) (place + t) (drop t other))) again.1
+      run_with limit version number place other (Ok row) there again.0 ∙ ap (λ t. behind (row ∷ []) (run limit version (number + 1) (place + t) (drop t other))) again.1
 
   more_took : (r : Run) → RunTook limit version (number + 1) (place + total) (drop total bytes) r → RunTook (suc limit) version number place bytes (behind (row ∷ []) r)
   more_took r rest =
@@ -69,22 +66,12 @@ module _ (limit version number place : ℕ) (bytes : List ℕ) (row : PageRow) (
             ∙ (λ i. behind (row ∷ r.rows) (run (less i) version (numbers i) (places i) (drop-drop rest.size total other i)));
       }
 
-took_by : (limit version number place : ℕ) (bytes : List ℕ) → ((v n p : ℕ) (b : List ℕ) → RunTook limit v n p b (run limit v n p b)) → 0 < length bytes → (e : Result PageRow Misfit) → element_at version number place bytes ≡ e
-    → RunTook (suc limit) version number place bytes (run (suc limit) version number place bytes)
-took_by limit version number place bytes rec some (Ok row) read =
-    subst (RunTook (suc limit) version number place bytes) (sym (one_more limit version number place bytes row some read bytes refl))
-    (more_took limit version number place bytes row some read (run limit version (number + 1) (place + total_of bytes) (drop (total_of bytes) bytes)) (rec version (number + 1) (place + total_of bytes) (drop (total_of bytes) bytes)))
-took_by limit version number place bytes rec some (Err fault) read =
-    subst (RunTook (suc limit) version number place bytes)
-    (sym (run_more limit version number place bytes some ∙ ap (λ e. run_by place e (run limit version (number + 1) (place + total_of bytes) (drop (total_of bytes) bytes))) read))
-    (nothing_took (suc limit) version number place bytes (Some fault))
-
 pub run_took : (limit version number place : ℕ) (bytes : List ℕ) → RunTook limit version number place bytes (run limit version number place bytes)
-run_took zero version number place bytes = subst (RunTook 0 version number place bytes) (sym (run_none version number place bytes)) (nothing_took 0 version number place bytes None)
-run_took (suc limit) version number place bytes = elim (cases_lt 0 (length bytes)) [
-  | inl some ↦ took_by limit version number place bytes (run_took limit) some (element_at version number place bytes) refl
-  | inr none ↦ subst (RunTook (suc limit) version number place bytes) (sym (run_empty (suc limit) version number place bytes (omega arith))) (nothing_took (suc limit) version number place bytes None)
-]
+run_took limit version = each_run version (λ l n p b r. RunTook l version n p b r)
+    (λ l n p b empty. nothing_took l version n p b None)
+    (λ l n p b fault some read. nothing_took (suc l) version n p b (Some fault))
+    (λ l n p b row some read rest. more_took l version n p b row some read (run_rest l version n p b) rest)
+    limit
 
 -- behind a run there is none
 pub none_behind : (limit version number place : ℕ) (bytes : List ℕ) (took : RunTook limit version number place bytes (run limit version number place bytes))
@@ -119,21 +106,13 @@ pub record IsNone (place : ℕ) (r : Run) : Type 0 where
   pub rows : r.rows ≡ []
   pub end : r.end ≡ place
 
-none_by : (limit version number place : ℕ) (bytes tail : List ℕ) → FrontStands bytes tail → (run (suc limit) version number place tail).rows ≡ [] → 0 < length bytes → (e : Result PageRow Misfit)
-    → element_at version number place bytes ≡ e → IsNone place (run (suc limit) version number place bytes)
-none_by limit version number place bytes tail stands none some (Err fault) read =
-    subst (IsNone place)
-    (sym (run_more limit version number place bytes some ∙ ap (λ e. run_by place e (run limit version (number + 1) (place + total_of bytes) (drop (total_of bytes) bytes))) read))
-    (record { rows = refl; end = refl })
-none_by limit version number place bytes tail stands none some (Ok row) read =
-    let of_tail = read_of_tail version number place bytes tail row stands read in
-    let took = element_took version number place tail row of_tail.0 in
-    let more = one_more limit version number place tail row (omega (arith, took.within)) of_tail.0 tail refl in
-    absurd (let some_rows : row ∷ (run limit version (number + 1) (place + total_of tail) (drop (total_of tail) tail)).rows ≡ [] = ap (λ (x : Run). x.rows) (sym more) ∙ none in cc)
-
 pub none_there : (limit version number place : ℕ) (bytes tail : List ℕ) → FrontStands bytes tail → (run limit version number place tail).rows ≡ [] → IsNone place (run limit version number place bytes)
-none_there zero version number place bytes tail stands none = subst (IsNone place) (sym (run_none version number place bytes)) (record { rows = refl; end = refl })
-none_there (suc limit) version number place bytes tail stands none = elim (cases_lt 0 (length bytes)) [
-  | inl some ↦ none_by limit version number place bytes tail stands none some (element_at version number place bytes) refl
-  | inr empty ↦ subst (IsNone place) (sym (run_empty (suc limit) version number place bytes (omega arith))) (record { rows = refl; end = refl })
-]
+none_there limit version = each_run version (λ l n p b r. (tail : List ℕ) → FrontStands b tail → (run l version n p tail).rows ≡ [] → IsNone p r)
+    (λ l n p b empty tail stands none. record { rows = refl; end = refl })
+    (λ l n p b fault some read tail stands none. record { rows = refl; end = refl })
+    (λ l n p b row some read rest tail stands none.
+    let of_tail = read_of_tail version n p b tail row stands read in
+    let took = element_took version n p tail row of_tail.0 in
+    let more = run_with l version n p tail (Ok row) (omega (arith, took.within)) of_tail.0 in
+    absurd (let some_rows : row ∷ (run_rest l version n p tail).rows ≡ [] = ap (λ (x : Run). x.rows) (sym more) ∙ none in cc))
+    limit

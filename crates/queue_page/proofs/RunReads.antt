@@ -1,7 +1,7 @@
 -- A run of elements, read one behind the other.
-use Rattle.std.proofs.Common.{◌≡◌, ℕ, zero, suc, ◌+◌, ◌-◌, ◌==◌, ◌≤◌, ◌<◌, false, List, [], ◌∷◌, ◌++◌, length, take, drop, Option, Some, None, Result, Ok, Err, refl, sym, ap, ◌∙◌, arith, if◌then◌else◌, append_assoc, append-nil, length-append}
+use Rattle.std.proofs.Common.{◌≡◌, ◌⊎◌, inl, inr, ℕ, zero, suc, ◌+◌, ◌-◌, ◌==◌, ◌≤◌, ◌<◌, false, List, [], ◌∷◌, ◌++◌, length, take, drop, Option, Some, None, Result, Ok, Err, refl, sym, ap, ◌∙◌, subst, arith, if◌then◌else◌, append_assoc, append-nil, length-append}
 use Rattle.std.proofs.Math.Path.{ap₂}
-use Rattle.std.proofs.lemmas.Bool.{cond-true, cond-false, eq-eqb}
+use Rattle.std.proofs.lemmas.Bool.{cond-true, cond-false, cases_lt, eq-eqb}
 use Rattle.std.proofs.lemmas.Bool.Decides.{nat_tests}
 use Rattle.std.proofs.lemmas.List.{drop-drop}
 use Rattle.queue_page.specs.Blocks.{left_of}
@@ -34,8 +34,34 @@ module _ (limit version number place : ℕ) (bytes : List ℕ) where
       by_limit zero = refl
       by_limit (suc n) = cond-true _ _ _ (eq-eqb _ _ none)
 
-  pub run_more : 0 < length bytes → run (suc limit) version number place bytes ≡ run_by place (element_at version number place bytes) (run limit version (number + 1) (place + total_of bytes) (drop (total_of bytes) bytes))
-  run_more some = let t : (length bytes == 0) ≡ false = grind (arith, nat_tests, some) in run_if ∙ cond-false _ _ _ t
+  -- what stands behind its first element
+  abbrev pub run_rest : Run
+  run_rest = run limit version (number + 1) (place + total_of bytes) (drop (total_of bytes) bytes)
+
+  pub run_with : (read : Result PageRow Misfit) → 0 < length bytes → element_at version number place bytes ≡ read → run (suc limit) version number place bytes ≡ run_by place read run_rest
+  run_with read some is = let t : (length bytes == 0) ≡ false = grind (arith, nat_tests, some) in run_if ∙ cond-false _ _ _ t ∙ ap (λ e. run_by place e run_rest) is
+
+-- What holds of no element, of a fault, and of an element with a run behind it for which it holds, holds of each run.
+module _ (version : ℕ) (Holds : ℕ → ℕ → ℕ → List ℕ → Run → Type 0)
+    (none : (limit number place : ℕ) (bytes : List ℕ) → (limit ≡ 0) ⊎ (length bytes ≡ 0) → Holds limit number place bytes (no_run place None))
+    (fault : (limit number place : ℕ) (bytes : List ℕ) (m : Misfit) → 0 < length bytes → element_at version number place bytes ≡ Err m → Holds (suc limit) number place bytes (no_run place (Some m)))
+    (more : (limit number place : ℕ) (bytes : List ℕ) (row : PageRow) → 0 < length bytes → element_at version number place bytes ≡ Ok row
+    → Holds limit (number + 1) (place + total_of bytes) (drop (total_of bytes) bytes) (run_rest limit version number place bytes) → Holds (suc limit) number place bytes (behind (row ∷ []) (run_rest limit version number place bytes))) where
+  by_first : (limit number place : ℕ) (bytes : List ℕ) → 0 < length bytes → Holds limit (number + 1) (place + total_of bytes) (drop (total_of bytes) bytes) (run_rest limit version number place bytes)
+      → (read : Result PageRow Misfit) → element_at version number place bytes ≡ read → Holds (suc limit) number place bytes (run_by place read (run_rest limit version number place bytes))
+  by_first limit number place bytes some of_rest (Ok row) is = more limit number place bytes row some is of_rest
+  by_first limit number place bytes some of_rest (Err m) is = fault limit number place bytes m some is
+
+  pub each_run : (limit number place : ℕ) (bytes : List ℕ) → Holds limit number place bytes (run limit version number place bytes)
+  each_run zero number place bytes = subst (Holds 0 number place bytes) (sym (run_none version number place bytes)) (none 0 number place bytes (inl refl))
+  each_run (suc limit) number place bytes = elim (cases_lt 0 (length bytes)) [
+    | inr empty ↦
+        let is : length bytes ≡ 0 = omega (arith, empty) in
+        subst (Holds (suc limit) number place bytes) (sym (run_empty (suc limit) version number place bytes is)) (none (suc limit) number place bytes (inr is))
+    | inl some ↦
+        subst (Holds (suc limit) number place bytes) (sym (run_with limit version number place bytes (element_at version number place bytes) some refl))
+        (by_first limit number place bytes some (each_run limit (number + 1) (place + total_of bytes) (drop (total_of bytes) bytes)) (element_at version number place bytes) refl)
+  ]
 
 -- ---- as the code reads it
 
@@ -74,15 +100,13 @@ turn limit first count now file row next so_far less before within read there =
     let more : limit - count ≡ suc (limit - (count + 1)) = omega arith in
     let number : first.number + count + 1 ≡ first.number + (count + 1) = omega arith in
     let place : now.place + total_of left ≡ next.place = sym (there ∙ took.next) in
+    let left_is : drop (total_of left) left ≡ left_of file next.place first.end = left_more file now.place first.end (total_of left) ∙ ap (λ p. left_of file p first.end) place in
     let some : 0 < length left = omega (arith, length-left file now.place first.end within) in
     let rest = run (limit - (count + 1)) v (first.number + (count + 1)) next.place (left_of file next.place first.end) in
     let one : run (limit - count) v (first.number + count) now.place left ≡ behind (row ∷ []) rest =
     ap (λ l. run l v (first.number + count) now.place left) more
-    ∙ run_more (limit - (count + 1)) v (first.number + count) now.place left some
-    ∙ ap (λ r. run_by now.place r (run (limit - (count + 1)) v (first.number + count + 1) (now.place + total_of left) (drop (total_of left) left))) read
-    ∙ ap (λ n. behind (row ∷ []) (run (limit - (count + 1)) v n (now.place + total_of left) (drop (total_of left) left))) number
-    ∙ ap (λ b. behind (row ∷ []) (run (limit - (count + 1)) v (first.number + (count + 1)) (now.place + total_of left) b)) (left_more file now.place first.end (total_of left))
-    ∙ ap (λ p. behind (row ∷ []) (run (limit - (count + 1)) v (first.number + (count + 1)) p (left_of file p first.end))) place in
+    ∙ run_with (limit - (count + 1)) v (first.number + count) now.place left (Ok row) some read
+    ∙ (λ i. behind (row ∷ []) (run (limit - (count + 1)) v (number i) (place i) (left_is i))) in
     record {
       rows = so_far.rows ++ row ∷ [];
       many = length-append so_far.rows (row ∷ []) ∙ ap (λ n. n + 1) so_far.many;
@@ -129,5 +153,4 @@ ended_at_fault limit first count now file fault so_far less before within read =
     let some : 0 < length left = omega (arith, length-left file now.place first.end within) in
     ended limit first count now file (Some fault) so_far
     (ap (λ l. run l first.version (first.number + count) now.place left) more
-    ∙ run_more (limit - (count + 1)) first.version (first.number + count) now.place left some
-    ∙ ap (λ r. run_by now.place r (run (limit - (count + 1)) first.version (first.number + count + 1) (now.place + total_of left) (drop (total_of left) left))) read)
+    ∙ run_with (limit - (count + 1)) first.version (first.number + count) now.place left (Err fault) some read)

@@ -13,7 +13,7 @@ use Rattle.event_tree.specs.Events.{Ev}
 use Rattle.element_code.specs.declared.row.Origin.{Origin}
 use Rattle.queue_page.specs.Bodies.{body_at}
 use Rattle.queue_page.specs.Elements.{total_of, body_of, element_at, row_by, misfit}
-use Rattle.queue_page.specs.Runs.{Run, run, no_run, behind, run_by}
+use Rattle.queue_page.specs.Runs.{Run, run, no_run, behind}
 use Rattle.queue_page.specs.Pages.{counted, counted_by, is_version, version_of, within}
 use Rattle.queue_page.specs.Grammar.{IsElement, AreElements, IsPage}
 use Rattle.queue_page.specs.Laws.{ElementsAreRead, ElementsAreSpelled, NoElementBeginsAnother, RunsAreLongest, PagesAreRead, PagesAreSpelled}
@@ -22,7 +22,7 @@ use Rattle.queue_page.specs.declared.row.PageRow.{PageRow}
 use Rattle.queue_page.proofs.BodyReads.{body_sound}
 use Rattle.queue_page.proofs.ElementReads.{number_long, size_long, same_head, ElementTook, element_took, frame_took}
 use Rattle.queue_page.proofs.Elements.{element_read}
-use Rattle.queue_page.proofs.RunReads.{run_none, run_empty, run_more}
+use Rattle.queue_page.proofs.RunReads.{run_empty, run_rest, run_with, each_run}
 use Rattle.queue_page.proofs.PageReads.{recorded_long_if, recorded_took}
 
 -- ---- elements
@@ -140,8 +140,7 @@ runs_are_longest (suc limit) version number place (row ∷ rows) front rest are 
     let less : limit - length rows ≡ suc limit - suc (length rows) = omega arith in
     let numbers : number + 1 + length rows ≡ number + suc (length rows) = omega arith in
     let places : row.next + length others ≡ place + length front = omega (arith, are.4.next, ap length (sym are.2), length-append one others) in
-    run_more limit version number place bytes (omega (arith, took.within))
-    ∙ ap (λ e. run_by place e (run limit version (number + 1) (place + total_of bytes) (drop (total_of bytes) bytes))) read
+    run_with limit version number place bytes (Ok row) (omega (arith, took.within)) read
     ∙ (λ i. behind (row ∷ []) (run limit version (number + 1) (next i) (behind_one i)))
     ∙ ap (behind (row ∷ [])) rec
     ∙ (λ i. behind (row ∷ rows) (run (less i) version (numbers i) (places i) rest))
@@ -182,24 +181,12 @@ module _ (version : ℕ) (known : (version ≡ 1) ⊎ (version ≡ 2)) where
         all = λ stop few. omega (arith, rest.all stop (omega (arith, few)), length-drop total bytes, took.within);
       }
 
-  of_by : (limit number place : ℕ) (bytes : List ℕ) → ((n p : ℕ) (b : List ℕ) → IsBytes b → IsRunOf limit version n p b (run limit version n p b)) → IsBytes bytes → 0 < length bytes → (e : Result PageRow Misfit)
-      → element_at version number place bytes ≡ e → IsRunOf (suc limit) version number place bytes (run (suc limit) version number place bytes)
-  of_by limit number place bytes rec fit some (Err fault) read =
-      subst (IsRunOf (suc limit) version number place bytes)
-      (sym (run_more limit version number place bytes some ∙ ap (λ e. run_by place e (run limit version (number + 1) (place + total_of bytes) (drop (total_of bytes) bytes))) read))
-      (none_of (suc limit) version number place bytes (Some fault) (λ none few. absurd cc))
-  of_by limit number place bytes rec fit some (Ok row) read =
-      subst (IsRunOf (suc limit) version number place bytes)
-      (sym (run_more limit version number place bytes some ∙ ap (λ e. run_by place e (run limit version (number + 1) (place + total_of bytes) (drop (total_of bytes) bytes))) read))
-      (more_of limit number place bytes fit row read (run limit version (number + 1) (place + total_of bytes) (drop (total_of bytes) bytes))
-      (rec (number + 1) (place + total_of bytes) (drop (total_of bytes) bytes) (IsBytes-drop (total_of bytes) bytes fit)))
-
 pub is_run : (limit version number place : ℕ) (bytes : List ℕ) → (version ≡ 1) ⊎ (version ≡ 2) → IsBytes bytes → IsRunOf limit version number place bytes (run limit version number place bytes)
-is_run zero version number place bytes known fit = subst (IsRunOf 0 version number place bytes) (sym (run_none version number place bytes)) (none_of 0 version number place bytes None (λ none few. absurd (omega arith)))
-is_run (suc limit) version number place bytes known fit = elim (cases_lt 0 (length bytes)) [
-  | inr none ↦ subst (IsRunOf (suc limit) version number place bytes) (sym (run_empty (suc limit) version number place bytes (omega arith))) (none_of (suc limit) version number place bytes None (λ stop few. omega arith))
-  | inl some ↦ of_by version known limit number place bytes (λ n p b f. is_run limit version n p b known f) fit some (element_at version number place bytes) refl
-]
+is_run limit version number place bytes known = each_run version (λ l n p b r. IsBytes b → IsRunOf l version n p b r)
+    (λ l n p b empty fit. none_of l version n p b None (λ stop few. ⊎_elim (λ none. absurd (omega (arith, none, few))) (λ none. sym none) empty))
+    (λ l n p b fault some read fit. none_of (suc l) version n p b (Some fault) (λ none few. absurd cc))
+    (λ l n p b row some read rest fit. more_of version known l n p b fit row read (run_rest l version n p b) (rest (IsBytes-drop (total_of b) b fit)))
+    limit number place bytes
 
 -- ---- pages
 

@@ -1,7 +1,10 @@
 -- Pages of the queue as a grammar on bytes (this project's tables): a byte of 1 or 2, which is the version, and then elements whose numbers go up
 -- by one, each a frame around the body of its row.
 use Rattle.std.specs.Prelude.{◌≡◌, ◌⊎◌, ◌<◌, ◌^◌, ℕ, ◌+◌, List, [], ◌∷◌, ◌++◌, length}
+use Rattle.event_tree.specs.Events.{Ev}
 use Rattle.crc_frame.specs.Frames.{frame_of}
+use Rattle.element_code.specs.RowBodies.{row_spelling}
+use Rattle.element_code.specs.declared.row.Origin.TheVariants.{Id}
 use Rattle.queue_page.specs.Bodies.{IsBody}
 use Rattle.queue_page.specs.Views.{PageView}
 use Rattle.queue_page.specs.declared.row.PageRow.{PageRow}
@@ -28,6 +31,10 @@ pub record IsPage (bytes : List ℕ) (version least : ℕ) (rows : List PageRow)
   pub elements : List ℕ
   pub begins : bytes ≡ version ∷ elements
   pub are : AreElements version least 1 rows elements
+
+-- a row with its origin, whose element stands at this place of its page
+abbrev pub row_framed : ℕ → List ℕ → Ev → ℕ → PageRow
+row_framed number origin event place = record { number = number; origin = Id origin; event = event; next = place + length (frame_of number (row_spelling origin event)) }
 
 -- these bytes are the element of this row, which comes next in the page
 pub record IsNext (page : PageView) (row : PageRow) (frame : List ℕ) : Type 0 where

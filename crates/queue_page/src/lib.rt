@@ -10,6 +10,7 @@
 mod block;
 mod element;
 mod fault;
+mod framing;
 pub mod laws;
 mod opening;
 mod page;
@@ -17,5 +18,6 @@ mod row;
 mod run;
 
 pub use block::{BLOCK_LEN, Block};
+pub use framing::frame_row;
 pub use page::Page;
 pub use row::PageRow;
