@@ -1,0 +1,306 @@
+"""Makes the tables of this folder, and `../stdout`, by the tables of the formats: run it in this folder.
+
+All numbers are big endian. The answers stand beside their rows and were worked out by hand, but for the CRC-32 of bytes,
+which is that of `zlib`.
+"""
+
+from zlib import crc32
+
+TABLES = ["pages", "prefixes", "heads", "failing", "appends", "slots", "turns", "frames"]
+ROWS = {name: [] for name in TABLES}
+LAST = 2**63 - 1
+
+
+def u(width, number):
+    return number.to_bytes(width, "big")
+
+
+def checked(covered):
+    return covered + u(4, crc32(covered))
+
+
+def element(number, body):
+    return checked(u(8, number) + u(4, len(body)) + body)
+
+
+def page(version, bodies, least=1):
+    return u(1, version) + b"".join(element(least + i, body) for i, body in enumerate(bodies))
+
+
+def slot(turn, number, first_open, least, count, length, version=1, zero=0):
+    fields = u(4, number) + u(8, first_open) + u(8, least) + u(4, count) + u(8, length)
+    return checked(u(2, version) + u(8, turn) + fields + u(2, zero))
+
+
+def changed(data, at, new):
+    return data[:at] + new + data[at + len(new) :]
+
+
+def digits(data):
+    """Bytes in base 16, a long run of the letter x by its number."""
+    at = data.find(b"x" * 200)
+    if at < 0:
+        return data.hex()
+    count = len(data) - at - len(data[at:].lstrip(b"x"))
+    return f"{data[:at].hex()} {count}*78 {data[at + count:].hex()}"
+
+
+def row(table, words, data, answer):
+    ROWS[table].append((f"{words} {digits(data)}".strip(), answer))
+
+
+# ---- pages
+
+EMPTY = bytes(8)
+FIFTEEN = bytes.fromhex("0000000100000001610300000000000000" + "0f0100000000")  # a = 1.5
+TEN = bytes.fromhex("0000000100000001610300000000000000" + "0a0100000000")  # 10 with a scale of 1
+LONG = bytes.fromhex("000000010000000161") + b"\x04" + u(4, 70000) + b"x" * 70000 + bytes(4)
+
+
+def named(origin, event=EMPTY):
+    return u(4, len(origin)) + origin + event
+
+
+def damaged(place, found, expected):
+    return f"page.0 at {place}: {found}, not {expected}"
+
+
+def says(version, rows, end, whole):
+    """`rows` has a number, an origin and an event each, and no origin in a page of version 1."""
+    shown = [f"{n} " + (f'"{o}" ' if version == 2 else "unknown ") + f"{e}|{{}}" for n, o, e in rows]
+    return " | ".join([f"version {version}, {len(rows)} rows, {end} of {whole} bytes", *shown, "again"])
+
+
+def empties(count, least=1):
+    return [(least + i, "i", "{}") for i in range(count)]
+
+
+def crc_damage(place, frame):
+    return damaged(place, int.from_bytes(frame[-4:], "big"), crc32(frame[:-4]))
+
+
+I = named(b"i")
+TWO = {1: page(1, [EMPTY, EMPTY]), 2: page(2, [I, I])}
+for version, two in TWO.items():
+    whole = len(two)  # 49, and 59
+    size = (whole - 1) // 2  # of an element
+    body = size - 16
+    words = f"sealed 1 2 {whole}"
+    second = two[1 + size :]
+
+    def put(data, answer, words=words):
+        row("pages", words, data, answer)
+
+    put(two, says(version, empties(2), whole, whole))
+    put(two + b"more", says(version, empties(2), whole, whole + 4))
+    put(two[:40], damaged(40, 40, whole))
+    put(b"", damaged(0, 0, whole))
+    for first in [7, 0, 3, 255]:
+        put(changed(two, 0, u(1, first)), damaged(0, first, 2))
+    put(changed(two, 1, u(8, 3)), damaged(1, 3, 1))
+    put(changed(two, 1, u(8, 2**64 - 1)), damaged(1, 2**64 - 1, 1))
+    put(changed(two, 1 + size, u(8, 1)), damaged(1 + size, 1, 2))
+    put(two, damaged(1, 1, 2), f"sealed 2 2 {whole}")
+    put(two, damaged(1, 0, 1), "sealed 1 1 5")
+    put(two, damaged(1, 17, 10), "sealed 1 1 10")
+    put(changed(two, 9, u(4, 200)), damaged(1, 217, whole))
+    put(changed(two, 9, u(4, 2**32 - 1)), damaged(1, 17 + 2**32 - 1, whole))
+    put(changed(two, 9, u(4, body - 1)), crc_damage(1, changed(two, 9, u(4, body - 1))[1:size]))
+    put(changed(two, 1 + size + 12, b"\x01"), crc_damage(1 + size, changed(second, 12, b"\x01")))
+    put(changed(two, 1 + size - 4, bytes(4)), damaged(1, 0, crc32(two[1 : 1 + size - 4])))
+    for count in [3, 1, 0, 2**32 - 1]:
+        put(two, damaged(0, 2, count), f"sealed 1 {count} {whole}")
+    least = LAST - 2
+    last = page(version, [I if version == 2 else EMPTY] * 2, least)
+    put(last, says(version, empties(2, least), whole, whole), f"sealed {least} 2 {whole}")
+
+row("pages", "sealed 1 0 0", b"", damaged(0, 0, 2))
+row("pages", "sealed 1 2 49", changed(TWO[1], 0, b"\x02"), damaged(1, 0, 8))
+row("pages", "sealed 1 2 59", changed(TWO[2], 0, b"\x01"), damaged(1, 13, 14))
+
+
+def one(version, body, answer):
+    data = page(version, [body])
+    row("pages", f"sealed 1 1 {len(data)}", data, answer)
+
+
+one(1, FIFTEEN, says(1, [(1, "", '{"a":1.5}')], 40, 40))
+one(1, TEN, damaged(1, 9, 23))
+one(1, FIFTEEN[:22], damaged(1, 22, 23))
+one(1, b"", damaged(1, 0, 1))
+one(1, EMPTY + b"\x00", damaged(1, 8, 9))
+one(2, named(b"i", FIFTEEN), says(2, [(1, "i", '{"a":1.5}')], 45, 45))
+one(2, named(b"i", TEN), damaged(1, 14, 28))
+one(2, named(b"i", FIFTEEN[:22]), damaged(1, 27, 28))
+one(2, b"", damaged(1, 0, 1))
+one(2, bytes(3), damaged(1, 3, 4))
+one(2, named(b""), damaged(1, 0, 12))
+one(2, named(b"x" * 256), damaged(1, 0, 268))
+one(2, named(b"x" * 255), says(2, [(1, "x" * 255, "{}")], 284, 284))
+one(2, u(4, 9) + b"i", damaged(1, 5, 6))
+one(2, named(b"\xff"), damaged(1, 4, 13))
+one(2, named("é".encode()), says(2, [(1, "é", "{}")], 31, 31))
+one(2, I + b"\x00", damaged(1, 13, 14))
+long = page(2, [I, named(b"i", LONG), I])
+length = 1 + 29 + (16 + 5 + 14 + 70000 + 4) + 29
+rows = [(1, "i", "{}"), (2, "i", "70008 bytes of JSON"), (3, "i", "{}")]
+row("pages", f"sealed 1 3 {length}", long, says(2, rows, length, length))
+
+THREE = page(2, [I, I, I])
+for cut in range(len(THREE) + 1):
+    kept = (cut - 1) // 29
+    answer = damaged(cut, cut, 30) if cut < 30 else says(2, empties(kept), 1 + 29 * kept, 1 + 29 * kept)
+    row("prefixes", "head 1 1 30", THREE[:cut], answer)
+
+# ---- head pages, and what stands behind their extents
+
+THIRD, FOURTH = element(3, I), element(4, I)
+TORN = changed(THIRD, 20, b"\x01")
+for behind, kept in [
+    (b"", 2),
+    (THIRD[:14], 2),
+    (THIRD[:-1], 2),
+    (THIRD, 3),
+    (THIRD + FOURTH, 4),
+    (THIRD + FOURTH[:20], 3),
+    (TORN, 2),
+    (TORN + FOURTH, 2),
+    (changed(THIRD, 28, b"\x00") + FOURTH, 2),
+    (element(1, I), 2),
+    (element(2, I), 2),
+    (element(5, I), 2),
+    (FOURTH + THIRD, 2),
+    (THIRD + THIRD, 3),
+    (THIRD + element(1, I) + FOURTH, 3),
+    (bytes(100), 2),
+    (THIRD + bytes(16), 3),
+    (element(3, EMPTY), 2),
+    (element(3, named(b"i", TEN)) + FOURTH, 2),
+]:
+    end = 1 + 29 * kept
+    row("heads", "head 1 2 59", TWO[2] + behind, says(2, empties(kept), end, end))
+row("heads", "sealed 1 2 59", TWO[2] + THIRD, says(2, empties(2), 59, 88))
+row("heads", "head 1 2 49", TWO[1] + element(3, EMPTY), says(1, empties(3), 73, 73))
+row("heads", "head 1 2 49", TWO[1] + THIRD, says(1, empties(2), 49, 49))
+row("heads", "head 1 0 1", THREE, says(2, empties(3), 88, 88))
+row("heads", "head 7 0 1", b"\x02", says(2, [], 1, 1))
+row("heads", "head 7 0 1", b"\x02" + element(6, I), says(2, [], 1, 1))
+row("heads", f"head {LAST - 1} 0 1", page(2, [I, I], LAST - 1), says(2, empties(1, LAST - 1), 30, 30))
+row("heads", f"head {LAST} 0 1", page(2, [I], LAST), says(2, [], 1, 1))
+broken = changed(TWO[2] + THIRD[:14], 17, b"\x01")
+row("heads", "head 1 2 59", broken, crc_damage(1, broken[1:30]))
+row("heads", "head 1 2 59", TWO[2][:58], damaged(58, 58, 59))
+
+# ---- calls that fail: the length, a read, the cut, the sync, a read of rows, and one of a row by its place
+
+says_two = "version 2, 2 rows, 59 of 59 bytes"
+for call in range(4):
+    row("failing", f"{call} head 1 2 59", TWO[2] + THIRD[:14], "fault, of 1")
+row("failing", "4 head 1 2 59", TWO[2] + THIRD[:14], f"{says_two} | fault, of 1")
+row("failing", "5 head 1 2 59", TWO[2] + THIRD[:14], f'{says_two} | unlike 1 "i" {{}}|{{}} | 2 "i" {{}}|{{}} | again')
+
+# ---- appends
+
+
+def appended(origin, words, data, answer):
+    row("appends", f"{origin} {words}", data, answer)
+
+
+for behind in [b"", THIRD[:14], TORN, element(2, I)]:
+    appended("i", "head 1 2 59", TWO[2] + behind, f"done, 3 rows, 88 bytes: {(TWO[2] + THIRD).hex()}")
+appended("up", "head 1 2 59", TWO[2] + THIRD, f"done, 4 rows, 118 bytes: {(THREE + element(4, named(b'up'))).hex()}")
+appended("i", "head 7 0 1", b"\x02", f"done, 1 rows, 30 bytes: {(page(2, [I], 7)).hex()}")
+wide = element(1, named(b"o" * 255))
+appended("o" * 255, "head 1 0 1", b"\x02", f"done, 1 rows, 284 bytes: 02{wide.hex()}")
+appended("o" * 256, "head 1 0 1", b"\x02", "not done, 0 rows, 1 bytes: 02")
+appended("i", "head 1 2 49", TWO[1], f"not done, 2 rows, 49 bytes: {TWO[1].hex()}")
+
+# ---- checkpoint files
+
+MOST = 2**64 - 1
+
+
+def state(turn, fields):
+    number, first_open, least, count, length = fields
+    return f"turn {turn}: page {number}, open {first_open}, least {least}, {count} rows, {length} bytes"
+
+
+def file_says(newest, version, data):
+    first = data[:48]
+    sums = (int.from_bytes(first[44:], "big"), crc32(first[:44])) if len(data) >= 48 else (0, 0)
+    turn = int.from_bytes(first[2:10], "big") if len(data) >= 48 else 0
+    return f"{newest}; version {version}, {len(data)} bytes, {sums[0]:08x} {sums[1]:08x} {turn}"
+
+
+def newest(data, said, version):
+    row("slots", "", data, file_says(said, version, data))
+
+
+F, G = (0, 1, 1, 2, 49), (3, 17, 12, 9, 4000)
+GREAT = (2**32 - 1, MOST, MOST, 2**32 - 1, MOST)
+
+
+def s(turn, fields=F, **more):
+    return slot(turn, *fields, **more)
+
+
+def pair(turn, other, last):
+    """A slot at 0 and one at 48, of which the one of turn `last` is the newest."""
+    newest(s(turn) + s(other, G), state(last, F if last == turn else G), 1)
+
+
+newest(b"", "none", 0)
+newest(s(0)[:30], "none", 0)
+newest(s(0)[:47], "none", 0)
+newest(s(0), state(0, F), 1)
+newest(s(0) + s(1, G)[:47], state(0, F), 1)
+pair(0, 1, 1)
+pair(2, 1, 2)
+pair(2, 3, 3)
+pair(MOST - 1, MOST, MOST)
+pair(0, MOST, 0)
+pair(2, MOST, MOST)
+newest(s(0, GREAT) + s(MOST, F), state(0, GREAT), 1)
+newest(s(MOST), "none", 0)
+newest(s(1) + s(0), "none", 0)
+newest(s(1) + s(1, G), state(1, G), 1)
+bad = changed(s(0), 47, u(1, s(0)[47] ^ 1)) + changed(s(1, G), 44, u(1, s(1, G)[44] ^ 128))
+newest(bad, "none", 0)
+newest(bad[:48] + s(1, G), state(1, G), 1)
+newest(s(0) + s(1, G, version=9), state(1, G), 9)
+newest(s(0, zero=1), state(0, F), 1)
+newest(s(2)[:20] + s(0)[20:] + s(1, G), state(1, G), 1)
+newest(s(0) + s(1, G) + b"more", state(1, G), 1)
+
+
+def written(turn, fields, data, new, said):
+    number, first_open, least, count, length = fields
+    row("turns", f"{turn} {number} {first_open} {least} {count} {length}", data, f"{new.hex()} | {file_says(said, 1, new)}")
+
+
+written(0, F, b"", s(0), state(0, F))
+written(0, F, s(0)[:30], s(0), state(0, F))
+written(1, G, s(0), s(0) + s(1, G), state(1, G))
+written(2, G, s(0) + s(1), s(2, G) + s(1), state(2, G))
+written(1, GREAT, s(0), s(0) + s(1, GREAT), state(1, GREAT))
+written(MOST, G, s(MOST - 1), s(MOST - 1) + s(MOST, G), state(MOST, G))
+written(0, G, s(MOST - 1) + s(MOST), s(0, G) + s(MOST), state(0, G))
+written(1, G, s(0) + s(MOST), s(0) + s(1, G), state(1, G))
+written(3, G, s(2) + s(1)[:20], s(2) + s(3, G), state(3, G))
+row("turns", "1 0 1 1 0 1", s(0)[:47], "not done")
+
+# ---- frames
+
+row("frames", "", b"123456789", "cbf43926, no frame")
+row("frames", "", b"", "00000000, no frame")
+row("frames", "", THIRD, f"{crc32(THIRD):08x}, 3 in 29 bytes, {I.hex()}")
+row("frames", "", THIRD[:-1], f"{crc32(THIRD[:-1]):08x}, no frame")
+row("frames", "", THIRD + FOURTH, f"{crc32(THIRD + FOURTH):08x}, 3 in 29 bytes, {I.hex()}")
+row("frames", "", element(MOST, b""), f"{crc32(element(MOST, b'')):08x}, {MOST} in 16 bytes, ")
+
+with open("../stdout", "w") as stdout:
+    for name in TABLES:
+        with open(name, "w") as table:
+            table.writelines(f"{words}\n" for words, _ in ROWS[name])
+        stdout.write(f"# {name}\n")
+        stdout.writelines(f"{answer}\n" for _, answer in ROWS[name])

@@ -1,0 +1,71 @@
+//! Prints what is read of the files of a queue, and what is written into them, table by table.
+//!
+//! A table is a file of `data/`, and each of its lines is a row. Numbers are decimal, and what is left of a line are bytes in
+//! base 16, where blanks don't count and `COUNT*DIGITS` stands for so many times these bytes:
+//!
+//! - `pages`, `prefixes`, `heads`: `head` or `sealed`, the least number, the count and the length that are recorded of a page,
+//!   and the bytes of its file. All its rows are shown, and whether the page spells them again.
+//! - `failing`: the number of the call of the store that fails, and such a row.
+//! - `appends`: an origin, such a row, and the bytes of the file behind an append of an empty event with that origin.
+//! - `slots`: the bytes of a checkpoint file.
+//! - `turns`: a turn, the number of a page, its first open number, its least number, its count and its length, and the bytes of
+//!   a checkpoint file, into which the slot that says this is written.
+//! - `frames`: bytes, of which the CRC-32 is computed, and which are read as a frame.
+//!
+//! `data/rows.py` made the tables and `stdout`, by the tables of the formats and with the CRC-32 of Python's `zlib`.
+#![tactic(auto)]
+
+mod files;
+mod frames;
+mod pages;
+mod slots;
+mod words;
+
+use std::alloc::AllocError;
+use std::{fs, io};
+
+/// What the rows of a table are.
+#[derive(Clone, Copy)]
+enum Table {
+    Pages,
+    Failing,
+    Appends,
+    Slots,
+    Turns,
+    Frames,
+}
+
+const TABLES: [(&str, Table); 8] = [
+    ("pages", Table::Pages),
+    ("prefixes", Table::Pages),
+    ("heads", Table::Pages),
+    ("failing", Table::Failing),
+    ("appends", Table::Appends),
+    ("slots", Table::Slots),
+    ("turns", Table::Turns),
+    ("frames", Table::Frames),
+];
+
+fn main(rt: HostRuntime) -> io::Result<()> {
+    for (name, table) in &TABLES {
+        let rows = fs::read_to_string(&rt, *name)?;
+        println!(rt; "# {name}")?;
+        for row in rows.lines() {
+            let mut answer = String::new(rt.alloc());
+            add_answer(&mut answer, *table, row)?;
+            println!(rt; "{answer}")?;
+        }
+    }
+    Ok(())
+}
+
+fn add_answer(to: &mut String, table: Table, row: &str) -> Result<(), AllocError> {
+    match table {
+        Table::Pages => pages::add_opened(to, u64::MAX, row),
+        Table::Failing => pages::add_failing(to, row),
+        Table::Appends => pages::add_appended(to, row),
+        Table::Slots => slots::add_newest(to, row),
+        Table::Turns => slots::add_written(to, row),
+        Table::Frames => frames::add_read(to, row),
+    }
+}
