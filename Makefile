@@ -33,6 +33,7 @@ bench: all
 	bash bench/filters.sh
 	bash bench/growth.sh
 	bash bench/store.sh
+	bash bench/page.sh
 	bash bench/folder.sh
 	bash bench/threads.sh
 

@@ -21,7 +21,7 @@ pub fn run(alloc: Global, words: &[String]) -> Option<u64> {
 }
 
 /// An event like that of a line of an access log.
-fn event(alloc: Global) -> Option<Event> {
+pub(crate) fn event(alloc: Global) -> Option<Event> {
     let mut event = Event::new(alloc);
     put_texts(alloc, &mut event)?;
     put_numbers(alloc, &mut event)?;

@@ -1,0 +1,17 @@
+use Rattle.std.specs.Prelude.{codes}
+use Rattle.std.proofs.Common.{◌≡◌, ◌+◌, List, ℕ, ◌++◌, sym, ap, ◌∙◌, arith}
+use Rattle.crc_frame.specs.Frames.{frame_of}
+use Rattle.element_code.specs.RowBodies.{row_spelling}
+use Rattle.store_disk.specs.declared.pages.PageState.{PageState}
+use Rattle.queue_page.proofs.NextRows.{row_is_next}
+use Rattle.bench_parts.proofs.pages.append.Goals as goal
+
+pub append_row-requires-clause-element : goal.append_row-requires-clause-element
+append_row-requires-clause-element g c =
+    let page = c.args.page.now in
+    let origin : List ℕ = codes "input_1" in
+    let frame = frame_of c.in-Some.number (row_spelling origin c.args.event.now) in
+    let state = c.state-state.ensures in
+    let number : c.in-Some.number ≡ page.state.least + page.state.count = omega (arith, c.in-Some.ensures, c.from.ensures, ap (λ (s : PageState). s.least) state, ap (λ (s : PageState). s.count) state) in
+    row_is_next page c.in-Some.number origin c.args.event.now c.deref.result.now c.in-Ok.ensures.element (sym c.version.ensures ∙ c.if-version-ne-LAST_VERSION.false) number
+    (c.deref.ensures.value ∙ c.in-Ok.ensures.ok ∙ ap (λ (xs : List ℕ). xs ++ frame) c.clear.ensures.items)
