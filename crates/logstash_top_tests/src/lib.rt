@@ -1,8 +1,10 @@
-//! Tests of the top call `logstash`, over objects of the outside that stand in memory.
+//! Tests of the calls of the program, over objects of the outside that stand in memory.
 #![tactic(auto)]
 
 #[cfg(test)]
 mod tests;
+#[cfg(test)]
+mod word_tests;
 
 ghost use Rattle.std.specs.Prelude.{◌≡◌, IfOk};
 ghost use Rattle.in_lines.specs.Given.{piece_of};

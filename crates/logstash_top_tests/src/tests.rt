@@ -10,17 +10,19 @@ use store_disk::{Clock, Gave, Instant, ListClock, MemorySink, MemorySource, Scri
 
 type MemoryWorld = ThinWorld<MemorySource, MemorySink, ListClock>;
 
-const BUILT: &str = "input { stdin {} } output { stdout { codec => json_lines } }";
+pub(crate) const BUILT: &str = "input { stdin {} } output { stdout { codec => json_lines } }";
 
 const LINE_LIMIT: usize = 1_048_576;
 
 // The number of a call that no run here makes.
-const NEVER: u64 = u64::MAX;
+pub(crate) const NEVER: u64 = u64::MAX;
 
 // 2024-01-01T00:00:00Z
 const NEW_YEAR: i128 = 1_704_067_200_000_000_000;
 
 const INPUT_FAULT: &[u8] = b"logstash: pipeline main: input fault input_1\n";
+
+const UP_INPUT_FAULT: &[u8] = b"logstash: pipeline up-2: input fault input_1\n";
 
 const OUTPUT_FAULT: &[u8] = b"logstash: output fault output_1\n";
 
@@ -52,7 +54,7 @@ impl<'a> Case<'a> {
     }
 }
 
-fn owned(alloc: Global, words: &[&str]) -> Result<Vec<String>, AllocError> {
+pub(crate) fn owned(alloc: Global, words: &[&str]) -> Result<Vec<String>, AllocError> {
     let mut owned = Vec::new(alloc);
     for word in words {
         owned.push(String::from_str(alloc, word)?)?;
@@ -223,25 +225,81 @@ fn gives_rows<R: Wait>(
     Ok(all)
 }
 
+// Words, and why each is refused.
+const WORDS: [(&[&str], &str); 26] = [
+    (&["--nope"], "unread"),
+    (&[""], "unread"),
+    (&["-e"], "unread"),
+    (&["-E", BUILT], "unread"),
+    (&[BUILT, "-e"], "unread"),
+    (&["-e", BUILT, "-e"], "unread"),
+    (&["-e", BUILT, "-e", BUILT], "unread"),
+    (&["-e", BUILT, "--sample"], "unread"),
+    (&["-e", "x", "-f", "y"], "both"),
+    (&["-e", BUILT, "--pqcheck", "main", "-w", "0"], "both"),
+    (&["-w", "0"], "range --pipeline.workers"),
+    (&["-e", BUILT, "-w", "65"], "range --pipeline.workers"),
+    (&["-e", BUILT, "-b", "0"], "range --pipeline.batch.size"),
+    (
+        &["-e", BUILT, "--pipeline.id", "a.b"],
+        "range --pipeline.id",
+    ),
+    (&["--sample", "0"], "range --sample"),
+    (&["--pqcheck", ""], "range --pqcheck"),
+    (&["--pqrepair", "a b"], "range --pqrepair"),
+    (&["--apart", "-r"], "apart"),
+    (&[], "not built"),
+    (&["-w", "3", "-b", "10"], "not built"),
+    (&["-f", "x"], "not built"),
+    (&["-e", BUILT, "-r"], "not built"),
+    (&["-e", BUILT, "--apart"], "not built"),
+    (&["--sample", "1"], "not built"),
+    (&["--pqcheck", "main"], "not built"),
+    (&["--pqrepair", "main"], "not built"),
+];
+
 #[test]
 fn other_words_are_refused(rt: HostRuntime) -> Result<(), Fail> {
-    let cases: [&[&str]; 7] = [
-        &[],
-        &["--nope"],
-        &["-e"],
-        &["-E", BUILT],
-        &[BUILT, "-e"],
-        &["-e", BUILT, "-e"],
-        &["-f", "x"],
-    ];
-    for words in cases {
+    for (words, reason) in WORDS {
+        let line = line_of(rt.alloc(), "words: ", reason)?;
         for call in [0, 1, NEVER] {
-            let line = b"logstash: words: unread\n";
             assert!(rt;
-                is_refused(&rt, rt.alloc(), words, call, 1, line)?,
+                is_refused(&rt, rt.alloc(), words, call, 1, &line)?,
                 "{words:?}"
             );
         }
+    }
+    Ok(())
+}
+
+// Words with which each line of stdin gives its row: the numbers and folders change nothing.
+const RUNNING: [&[&str]; 5] = [
+    &["--config.string", BUILT],
+    &["-w", "64", "-e", BUILT, "-b", "10000"],
+    &[
+        "--pipeline.workers=1",
+        "--pipeline.batch.size=1",
+        "-e",
+        BUILT,
+    ],
+    &["--path.data", "d", "--path.settings", "s", "-e", BUILT],
+    &["-e", BUILT, "--pipeline.id", "up", "-t"],
+];
+
+#[test]
+fn other_words_run(rt: HostRuntime) -> Result<(), Fail> {
+    let wanted = rows(rt.alloc(), &[b"a", b"b"])?;
+    for words in RUNNING {
+        assert!(rt;
+            ends_as(
+                &rt,
+                rt.alloc(),
+                words,
+                &Case::of(b"a\nb"),
+                &Wanted::done(&wanted)
+            )?,
+            "{words:?}"
+        );
     }
     Ok(())
 }
@@ -285,9 +343,10 @@ const REFUSED: [(&str, &str); 14] = [
     ),
 ];
 
-// The line that tells why a text is refused.
-fn refusal(alloc: Global, reason: &str) -> Result<Vec<u8>, AllocError> {
-    let mut line = Vec::from_slice(alloc, b"logstash: pipeline main: ")?;
+// The line that tells why words or a text are refused.
+pub(crate) fn line_of(alloc: Global, what: &str, reason: &str) -> Result<Vec<u8>, AllocError> {
+    let mut line = Vec::from_slice(alloc, b"logstash: ")?;
+    line.extend_from_slice(what.as_bytes())?;
     line.extend_from_slice(reason.as_bytes())?;
     line.push(b'\n')?;
     Ok(line)
@@ -296,10 +355,13 @@ fn refusal(alloc: Global, reason: &str) -> Result<Vec<u8>, AllocError> {
 #[test]
 fn other_texts_are_refused(rt: HostRuntime) -> Result<(), Fail> {
     for (text, reason) in REFUSED {
-        let line = refusal(rt.alloc(), reason)?;
+        let line = line_of(rt.alloc(), "pipeline main: ", reason)?;
+        let other = line_of(rt.alloc(), "pipeline up-2: ", reason)?;
+        let words = ["--pipeline.id", "up-2", "-e", text];
         for call in [0, 1, 3, NEVER] {
             assert!(rt;
-                is_refused(&rt, rt.alloc(), &["-e", text], call, 3, &line)?,
+                is_refused(&rt, rt.alloc(), &["-e", text], call, 3, &line)?
+                    && is_refused(&rt, rt.alloc(), &words, call, 3, &other)?,
                 "{text}"
             );
         }
@@ -375,6 +437,8 @@ fn a_fault_ends_the_run(rt: HostRuntime) -> Result<(), Fail> {
         read = read.saturating_add(1);
     }
 
+    assert!(rt; names_its_pipeline(&rt, rt.alloc())?);
+
     let wanted = rows(rt.alloc(), &[b"a", b"bc", b"d"])?;
     let (calls, is_whole) = whole_run(&rt, rt.alloc(), &wanted)?;
     assert!(rt; is_whole);
@@ -403,6 +467,16 @@ fn read_fails<R: Wait>(rt: &R, alloc: Global, read: u64, wanted: &[u8]) -> Resul
             && world.stderr.taken() == INPUT_FAULT
             && world.stderr.script().faults() == 1,
     )
+}
+
+// The line on the first read that fails has the id of the pipeline.
+fn names_its_pipeline<R: Wait>(rt: &R, alloc: Global) -> Result<bool, Fail> {
+    let case = Case {
+        failing_reads: &[0],
+        ..Case::of(LINES)
+    };
+    let (_, world) = run(rt, alloc, &["-e", BUILT, "--pipeline.id", "up-2"], &case)?;
+    Ok(world.stderr.taken() == UP_INPUT_FAULT)
 }
 
 // A write or a flush of stdout fails.
