@@ -3,6 +3,7 @@ use logstash_settings::{
     ConfigSource, Orders, PipelineSettings, Policy, QueueTool, SettingsFault, WordsFault,
     read_pipelines, read_words,
 };
+use path_pattern::is_match;
 use std::alloc::AllocError;
 
 /// The most bytes of a value that are shown.
@@ -33,6 +34,20 @@ pub fn add_pipelines(to: &mut String, words: &str, row: &str) -> Result<(), Allo
         Ok(orders) => add_settings(to, &orders, row),
         Err(_) => to.push_str("no orders"),
     }
+}
+
+/// Adds whether a pattern stands for a name.
+pub fn add_match(to: &mut String, row: &str) -> Result<(), AllocError> {
+    let words = words_of(*to.allocator(), row)?;
+    match words.as_slice() {
+        [pattern, name] => add_verdict(to, pattern.as_str(), name.as_str()),
+        _ => to.push_str("no row"),
+    }
+}
+
+fn add_verdict(to: &mut String, pattern: &str, name: &str) -> Result<(), AllocError> {
+    let found = is_match(*to.allocator(), pattern, name)?;
+    to.push_str(if found { "yes" } else { "no" })
 }
 
 fn add_settings(to: &mut String, orders: &Orders, row: &str) -> Result<(), AllocError> {
