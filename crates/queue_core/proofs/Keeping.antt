@@ -25,16 +25,13 @@ tails_rest : (names : Names) (content : Content) (i : Image) → IsAtRest conten
 tails_rest names content i rests [] = tt
 tails_rest names content i rests (p ∷ tails) = (rests (names (checkpoint p.number)), tails_rest names content i rests tails)
 
-pub at_rest_rests : (names : Names) (q : Queue) (content : Content) (held : Held q (read_in names content)) (i : Image) → IsAtRest content i → NoChances names i → Rests q names (read_in names content) held i
-at_rest_rests names q content held i rests chances = record {
+pub at_rest_rests : (names : Names) (q : Queue) (content : Content) (held : Held q (read_in names content)) (i : Image) → IsAtRest content i → Rests q names (read_in names content) held i
+at_rest_rests names q content held i rests = record {
   top_slot = rests (names head);
   tails = tails_rest names content i rests q.tails;
   pages = λ n other. rests (names (page n));
   no_checkpoints = λ n above. rests (names (checkpoint n)) ∙ ap at_rest (held.no_checkpoints n above);
-  top_page = record {
-    image = subst (TailImage held.top.front held.top.tail) (sym (rests (names (page q.top.number)) ∙ ap at_rest held.top.stands)) (at_rest_tail held.top.front held.top.tail);
-    no_chance = chances.elements (page q.top.number);
-  };
+  top_page = subst (TailImage held.top.front held.top.tail) (sym (rests (names (page q.top.number)) ∙ ap at_rest held.top.stands)) (at_rest_tail held.top.front held.top.tail);
 }
 
 module _ {S : Type 0} (store : StoreWords S) (tell : ImagesTell store) (marks : List Mark) (old new : S) where
@@ -43,13 +40,13 @@ module _ {S : Type 0} (store : StoreWords S) (tell : ImagesTell store) (marks : 
       (λ i told stop chances. kept i told chances stop)
     where
       kept : (i : Image) → IsTrue store.tells → NoChances names i → MayStop store old (writes_of marks) i → Kept q (folder_in names i)
-      kept i told chances (before left) = resting_is_kept q names (read_in names (store.seen old)) i ready.is (ready.held told) (ready.images told i left chances)
+      kept i told chances (before left) = resting_is_kept q names (read_in names (store.seen old)) i ready.is (ready.held told) (ready.images told i left) (chances.elements (page q.top.number))
       kept i told chances (writing d rests change) =
           marks_keep names q (read_in names (store.seen old)) marks d i apart ready.is (ready.held told) (are told) (λ role. rests (names role)) change chances
       kept i told chances (written content wrote rests) =
           let m = marks_record names q (store.seen old) content marks apart ready.is (ready.held told) (are told) wrote in
           marked_keeps q (folder_in names i) (ready.held told).top.marked
-          (resting_is_kept (marked q) names (read_in names content) i m.0 m.1 (at_rest_rests names (marked q) content m.1 i rests chances))
+          (resting_is_kept (marked q) names (read_in names content) i m.0 m.1 (at_rest_rests names (marked q) content m.1 i rests) (chances.elements (page q.top.number)))
 
   pub mark_records : {A E : Type 0} (result : Result A E) → OnOk result (Settled store old (writes_of marks) new) → OnOk result (MarkRecords store marks old new)
   mark_records (Ok x) settled = λ names q apart ready are.
@@ -57,6 +54,6 @@ module _ {S : Type 0} (store : StoreWords S) (tell : ImagesTell store) (marks : 
       record {
         is = marked_rising 0 0 q.tails q.top ready.is;
         held = λ told. (m told).1;
-        images = λ told i left chances. at_rest_rests names (marked q) (store.seen new) (m told).1 i (settled.rests i left) chances;
+        images = λ told i left. at_rest_rests names (marked q) (store.seen new) (m told).1 i (settled.rests i left);
       }
   mark_records (Err e) settled = tt

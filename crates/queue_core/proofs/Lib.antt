@@ -3,3 +3,4 @@ pub mod MarkRun
 pub mod TornMarks
 pub mod WholeMarks
 pub mod Keeping
+pub mod RowRun

@@ -3,5 +3,7 @@
 
 pub mod laws;
 mod marking;
+mod rows;
 
 pub use marking::{Mark, mark_pages};
+pub use rows::add_row;

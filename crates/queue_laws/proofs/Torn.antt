@@ -56,7 +56,7 @@ tails_stand p slots file f sound held may =
 -- ---- the head page
 
 -- elements behind elements
-more_elements : (version number place : ℕ) (rows more : List PageRow) (bytes tail : List ℕ) → AreElements version number place rows bytes
+pub more_elements : (version number place : ℕ) (rows more : List PageRow) (bytes tail : List ℕ) → AreElements version number place rows bytes
     → AreElements version (number + length rows) (place + length bytes) more tail → AreElements version number place (rows ++ more) (bytes ++ tail)
 more_elements version number place [] more bytes tail are behind =
     let none : length bytes ≡ 0 = ap length are in

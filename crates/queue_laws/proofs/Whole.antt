@@ -4,6 +4,7 @@ use Rattle.crc_frame.specs.Slots.{is_slot}
 use Rattle.store_trait.specs.Images.{Image, FileImage, at_rest}
 use Rattle.store_trait.specs.Chance.{NoChance}
 use Rattle.store_trait.specs.Tails.{passes}
+use Rattle.queue_page.specs.Elements.{is_element}
 use Rattle.queue_laws.specs.Folders.{head, page, checkpoint, Folder, Names, folder_in}
 use Rattle.queue_laws.specs.Kept.{Page, Queue, first_open_of, state_at, IsTail, AreTails, IsTop, Stands, Rising, IsSound, IsQueue}
 use Rattle.queue_laws.specs.Resting.{MayRecord, TailHeld, TailsHeld, Held, TailsRest, Rests, TailsMark, Marks}
@@ -63,14 +64,14 @@ tails_rest [] names folder i held rest = tt
 tails_rest (p ∷ tails) names folder i held rest =
     (rests_may_record (folder (checkpoint p.number)) p.turn (state_at p (first_open_of p) p.rows (length held.0.bytes)) (i (names (checkpoint p.number))) rest.0, tails_rest tails names folder i held.1 rest.1)
 
-resting_stands : (q : Queue) (names : Names) (folder : Folder) (i : Image) → IsQueue q → (held : Held q folder) → Rests q names folder held i → Stands q (folder_in names i)
-resting_stands q names folder i is held rest =
+resting_stands : (q : Queue) (names : Names) (folder : Folder) (i : Image) → IsQueue q → (held : Held q folder) → Rests q names folder held i → NoChance (passes is_element) (i (names (page q.top.number))) → Stands q (folder_in names i)
+resting_stands q names folder i is held rest chance =
     record {
       tails = marking_tails 0 0 q.tails q.top names folder i is held.tails (tails_rest q.tails names folder i held.tails rest.tails) (λ n less. rest.pages n (λ same. absurd (omega (arith, less, same))));
       gone = λ n less none. file_of (i (names (page n))) (folder (page n)) (rest.pages n (λ same. absurd (omega (arith, less, same)))) ∙ held.gone n less none;
       top = subst (λ o. IsTop q o (folder_in names i (page q.top.number))) (sym (file_of (i (names head)) (folder head) rest.top_slot))
-          (open_heads_stand q (folder head) (folder (page q.top.number)) (i (names (page q.top.number))) (rising_top 0 0 q.tails q.top is) held.top rest.top_page);
+          (open_heads_stand q (folder head) (folder (page q.top.number)) (i (names (page q.top.number))) (rising_top 0 0 q.tails q.top is) held.top (record { image = rest.top_page; no_chance = chance }));
     }
 
 pub resting_is_kept : RestingIsKept
-resting_is_kept q names folder i is held rest = standing_is_kept q (folder_in names i) is (resting_stands q names folder i is held rest)
+resting_is_kept q names folder i is held rest chance = standing_is_kept q (folder_in names i) is (resting_stands q names folder i is held rest chance)

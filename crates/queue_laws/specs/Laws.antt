@@ -2,7 +2,10 @@
 use Rattle.std.specs.Prelude.{◌≡◌, ◌≤◌, ◌<◌, ℕ, true, List, ◌∷◌, ◌++◌, length, Option, Ok}
 use Rattle.io_traits.specs.Reads.{bytes_of}
 use Rattle.store_trait.specs.Images.{Image, FileImage}
+use Rattle.store_trait.specs.Chance.{NoChance}
+use Rattle.store_trait.specs.Tails.{passes}
 use Rattle.store_disk.specs.declared.pages.PageState.{PageState}
+use Rattle.queue_page.specs.Elements.{is_element}
 use Rattle.queue_page.specs.Pages.{opened}
 use Rattle.queue_page.specs.declared.row.PageRow.{PageRow}
 use Rattle.queue_laws.specs.Folders.{head, page, checkpoint, Folder, Names, AreApart, names_in, folder_in}
@@ -50,9 +53,11 @@ OpenHeadsStand =
 
 -- ---- what a stop leaves of a whole queue
 
--- between two calls
+-- between two calls, where no element stands by chance in the head page
 abbrev pub RestingIsKept : Type 0
-RestingIsKept = (q : Queue) (names : Names) (folder : Folder) (i : Image) → IsQueue q → (held : Held q folder) → Rests q names folder held i → Kept q (folder_in names i)
+RestingIsKept =
+    (q : Queue) (names : Names) (folder : Folder) (i : Image) → IsQueue q → (held : Held q folder) → Rests q names folder held i → NoChance (passes is_element) (i (names (page q.top.number)))
+    → Kept q (folder_in names i)
 
 -- while a mark is written
 abbrev pub MarkingIsKept : Type 0

@@ -76,7 +76,7 @@ pub record Rests (q : Queue) (names : Names) (folder : Folder) (held : Held q fo
   pub tails : TailsRest q.tails names folder i
   pub pages : (n : ℕ) → n ≢ q.top.number → i (names (page n)) ≡ at_rest (folder (page n))
   pub no_checkpoints : (n : ℕ) → q.top.number ≤ n → i (names (checkpoint n)) ≡ at_rest None
-  pub top_page : MayHoldTail held.top.front held.top.tail (i (names (page q.top.number)))
+  pub top_page : TailImage held.top.front held.top.tail (i (names (page q.top.number)))
 
 abbrev pub TailsMark : (tails : List Page) (names : Names) (folder : Folder) → TailsHeld tails folder → Image → Type 0
 TailsMark [] names folder held i = ⊤

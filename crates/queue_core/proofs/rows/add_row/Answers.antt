@@ -1,0 +1,9 @@
+use Rattle.queue_core.proofs.RowRun.{row_kept, row_ready}
+use Rattle.queue_core.proofs.rows.add_row.Goals as goal
+
+pub returns-clause-keeps : goal.returns-clause-keeps
+returns-clause-keeps g c = row_kept g.S.Store g.met.S.Store.images_tell c.args.name.now c.args.frame.now c.args.store.now c.append_row.new.store c.append_row.ensures.change
+
+pub returns-clause-ready : goal.returns-clause-ready
+returns-clause-ready g c =
+    row_ready g.S.Store g.met.S.Store.images_tell c.args.name.now c.args.frame.now c.args.store.now c.append_row.new.store c.append_row.ensures.change c.append_row.result c.append_row.ensures.written

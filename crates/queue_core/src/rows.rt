@@ -1,0 +1,32 @@
+ghost use Rattle.std.specs.Prelude.{◌≡◌, ◌<◌, ◌+◌, ◌-◌, ◌^◌, IsErr, OnOk, OnErr, length};
+ghost use Rattle.io_traits.specs.Counts.{HasCause};
+ghost use Rattle.queue_page.specs.Grammar.{IsNext};
+ghost use Rattle.queue_page.specs.Pages.{with_element};
+ghost use Rattle.queue_page.specs.declared.row.PageRow.{PageRow as Row};
+ghost use Rattle.queue_core.specs.Ready.{RowKept, RowReady};
+
+use queue_page::Page;
+use store_disk::{Failed, Store};
+
+/// Appends the element of the next row to the head page, and settles nothing. Where it fails, the page is as
+/// it was, and the file may hold a part of the element.
+///
+/// Of a queue that is ready a stop at any moment leaves the queue with its row, which may be missing.
+pub fn add_row<S: Store>(
+    store: &mut S,
+    page: &mut Page,
+    name: &str,
+    frame: &[u8],
+) -> Result<(), Failed>
+    requires element { (row : Row) × IsNext page.old row frame.now }
+    requires few { page.old.state.count < 2 ^ 32 - 1 }
+    requires fits { page.old.state.length + length frame.now < 2 ^ 64 }
+
+    ensures page { OnOk result (page.new ≡ with_element page.old (length frame.now)) }
+    ensures err { OnErr result (page.new ≡ page.old) }
+    ensures keeps { RowKept S.Store name.now frame.now store.old store.new }
+    ensures ready { OnOk result (RowReady S.Store name.now frame.now store.old store.new) }
+    ensures cause { HasCause (S.faults store.old) (S.faults store.new) (IsErr result) }
+{
+    page.append_row(store, name, frame)
+}
