@@ -1,4 +1,4 @@
-# The program goes to bin/logstash. Proving all that it stands on takes some seventeen minutes the first time, and
+# The program goes to bin/logstash. Proving all that it stands on takes some twenty minutes the first time, and
 # seconds after that.
 
 PROGRAM = crates/logstash_cli
