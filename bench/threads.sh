@@ -24,10 +24,10 @@ job_time() {
 
 printf 'an empty job                   %6d ns with 1 worker, %d ns with 2, %d ns with 4\n' \
     "$(job_time 0 1 500)" "$(job_time 0 2 500)" "$(job_time 0 4 500)"
-# 125,000 turns, each a multiplication that waits for the one before it, take about 100 microseconds.
-one=$(job_time 125000 1 10)
-two=$(job_time 125000 2 10)
-four=$(job_time 125000 4 10)
+# So many turns, each of which waits for the one before it, take about 100 microseconds.
+one=$(job_time 570000 1 10)
+two=$(job_time 570000 2 10)
+four=$(job_time 570000 4 10)
 awk -v one="$one" -v two="$two" -v four="$four" 'BEGIN {
     printf "a job of %d microseconds      %.2f times the jobs with 2 workers, %.2f with 4\n", one / 1000, one / two, one / four
 }'
