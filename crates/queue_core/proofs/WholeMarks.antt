@@ -20,12 +20,8 @@ use Rattle.queue_laws.proofs.Torn.{is_whole, open_fits, next_fits}
 use Rattle.queue_core.specs.Writes.{Write, write_of, due_of, writes_of, IsBeside, Wrote}
 use Rattle.queue_core.specs.Marks.{read_in, IsMarkOf, AreMarksOf, MarksRecord}
 use Rattle.queue_core.specs.declared.marking.Mark.{Mark}
+use Rattle.queue_core.proofs.WriteLemmas.{beside_still}
 use Rattle.queue_core.proofs.TornMarks.{due_is, not_due, number_of, differs, all_beside, page_other, later_role, above_role}
-
--- a file that no write is of
-still : (name : List ℕ) (writes : List Write) (old new : Content) → IsBeside name writes → Wrote writes old new → new name ≡ old name
-still name [] old new apart wrote = wrote name
-still name (w ∷ writes) old new apart wrote = still name writes wrote.0 new apart.1 wrote.3 ∙ wrote.2 name apart.0
 
 not_false : (b : Bool) → not b ≡ false → b ≡ true
 not_false true is = refl
@@ -127,13 +123,13 @@ module _ (names : Names) (apart : AreApart names) (top : Page) (len : ℕ) (fold
       at false none =
           let w : Wrote (writes_of are.1) old new = subst (λ (ws : List Write). Wrote (ws ++ writes_of are.1) old new) (not_due are.0 none) whole in
           let same : (first_open_of p == p.from) ≡ true = not_false (first_open_of p == p.from) (sym are.4 ∙ none) in
-          (inl (same, still (names (checkpoint p.number)) (writes_of are.1) old new beside w ∙ waits.1 p.number rising.0), again old (waits.0, λ n from. waits.1 n (omega (arith, from, rising.0))) w)
+          (inl (same, beside_still (writes_of are.1) (names (checkpoint p.number)) old new beside w ∙ waits.1 p.number rising.0), again old (waits.0, λ n from. waits.1 n (omega (arith, from, rising.0))) w)
       at true due =
           let w : Wrote (write_of are.0 ∷ writes_of are.1) old new = subst (λ (ws : List Write). Wrote (ws ++ writes_of are.1) old new) (due_is are.0 due) whole in
           let other : (first_open_of p == p.from) ≡ false = not_true (first_open_of p == p.from) (sym are.4 ∙ due) in
           let mid = w.0 in
           let stays : (role : Role) → (role ≡ checkpoint p.number → ⊥) → mid (names role) ≡ old (names role) = λ role differ. w.2 (names role) (differs names apart top len folder role (checkpoint p.number) are.0.file are.3.file differ) in (
-            inr (other, still (names (checkpoint p.number)) (writes_of are.1) mid new beside w.3 ∙ written (checkpoint p.number) p (length held.0.bytes) are.0 old mid are.3 (waits.1 p.number rising.0) w.1),
+            inr (other, beside_still (writes_of are.1) (names (checkpoint p.number)) mid new beside w.3 ∙ written (checkpoint p.number) p (length held.0.bytes) are.0 old mid are.3 (waits.1 p.number rising.0) w.1),
             again mid (stays head (λ same. absurd cc) ∙ waits.0, λ n from. stays (checkpoint n) (λ same. absurd (omega (arith, from, ap number_of same))) ∙ waits.1 n (omega (arith, from, rising.0))) w.3,
           )
 
@@ -196,7 +192,7 @@ module _ (names : Names) (apart : AreApart names) (q : Queue) (old new : Content
   rising_top number end (p ∷ tails) rising = rising_top (suc p.number) (p.least + length p.rows) tails rising.4
 
   pages_same : (n : ℕ) → new (names (page n)) ≡ old (names (page n))
-  pages_same n = still (names (page n)) (writes_of marks) old new
+  pages_same n = beside_still (writes_of marks) (names (page n)) old new
       (all_beside names apart q.top (length all_bytes) before_marks (page n) q.tails held.tails marks (page_other names apart q.top (length all_bytes) before_marks n q.tails) are) wrote
 
   became : AllBecame names apart q.top (length all_bytes) before_marks new q.tails held.tails
@@ -230,7 +226,7 @@ module _ (names : Names) (apart : AreApart names) (q : Queue) (old new : Content
     gone = λ n less none. pages_same n ∙ held.gone n less (marked_none n q.tails none);
     top = top_recorded;
     no_pages = λ n above. pages_same n ∙ held.no_pages n above;
-    no_checkpoints = λ n above. still (names (checkpoint n)) (writes_of marks) old new
+    no_checkpoints = λ n above. beside_still (writes_of marks) (names (checkpoint n)) old new
         (all_beside names apart q.top (length all_bytes) before_marks (checkpoint n) q.tails held.tails marks (above_role names apart q.top (length all_bytes) before_marks n 0 0 q.tails above is) are) wrote
         ∙ held.no_checkpoints n above;
   }

@@ -47,17 +47,10 @@ pub wrote_append : (done more : List Write) (old mid new : Content) → Wrote do
 wrote_append [] more old mid new same wrote = same_wrote more old mid new same wrote
 wrote_append (w ∷ done) more old mid new wrote last = (wrote.0, wrote.1, wrote.2, wrote_append done more wrote.0 mid new wrote.3 last)
 
-beside_still : (writes : List Write) (name : List ℕ) (old new : Content) → IsBeside name writes → Wrote writes old new → new name ≡ old name
+-- a file that no write is of
+pub beside_still : (writes : List Write) (name : List ℕ) (old new : Content) → IsBeside name writes → Wrote writes old new → new name ≡ old name
 beside_still [] name old new apart wrote = wrote name
 beside_still (w ∷ writes) name old new apart wrote = beside_still writes name wrote.0 new apart.1 wrote.3 ∙ wrote.2 name apart.0
-
-can_front : (done more : List Write) (content : Content) → CanWrite content (done ++ more) → CanWrite content done
-can_front [] more content can = tt
-can_front (w ∷ done) more content can = (can.0, front_beside w.name done more can.1, can_front done more content can.2)
-  where
-    front_beside : (name : List ℕ) (done more : List Write) → IsBeside name (done ++ more) → IsBeside name done
-    front_beside name [] more apart = tt
-    front_beside name (v ∷ done) more apart = (apart.0, front_beside name done more apart.1)
 
 -- what can still be written when others were
 pub can_still : (done more : List Write) (old new : Content) → Wrote done old new → CanWrite old (done ++ more) → CanWrite new more
@@ -72,9 +65,6 @@ can_still (w ∷ done) more old new wrote can = can_still done more wrote.0 new 
     beside_can [] apart can = tt
     beside_can (v ∷ writes) apart can =
         (subst (λ (f : Option (List ℕ)). v.place ≤ file_length f) (sym (wrote.2 v.name (λ same. apart.0 (sym same)))) can.0, can.1, beside_can writes apart.1 can.2)
-
-pub can_first : (done more : List Write) (content : Content) → CanWrite content (done ++ more) → CanWrite content done
-can_first = can_front
 
 module _ {S : Type 0} (store : StoreWords S) where
   -- no write
