@@ -1,19 +1,27 @@
 #!/usr/bin/env bash
-# What do threads share, and at what cost? Adds to a counter, beside a C program that does the same; jobs through a
-# ThreadShop, empty ones and ones of about 100 microseconds, with 1, 2 and 4 workers. The least of five runs each. It fails
-# where an add takes more than twice the time of C, or where four workers on four processors do less than three times the
-# jobs of one. Needs cc.
+# What do threads share, and at what cost? Adds to a counter, and parcels of one event there and back between two threads,
+# beside a C program that does the same; jobs through a ThreadShop, empty ones and ones of about 100 microseconds, with 1, 2
+# and 4 workers. The least of five runs each. It fails where an add or a parcel takes more than twice the time of C, or where
+# four workers on four processors do less than three times the jobs of one. Needs cc.
 . "$(dirname "$0")/common.sh"
 
 build bench_threads
-cc -O2 -o "$work/threads_calls" "$root/bench/threads_calls.c"
+cc -O2 -pthread -o "$work/threads_calls" "$root/bench/threads_calls.c"
 status=0
 
 ours=$(round_time 100000 "$program" counters)
-theirs=$(round_time 100000 "$work/threads_calls")
+theirs=$(round_time 100000 "$work/threads_calls" counters)
 printf 'an add to a counter            %6d ns, C %6d ns\n' "$ours" "$theirs"
 if [ "$ours" -gt $((2 * theirs)) ]; then
     echo "an add takes more than twice the time of C"
+    status=1
+fi
+
+ours=$(round_time 5000 "$program" parcels)
+theirs=$(round_time 5000 "$work/threads_calls" parcels)
+printf 'a parcel there and back        %6d ns, C %6d ns\n' "$ours" "$theirs"
+if [ "$ours" -gt $((2 * theirs)) ]; then
+    echo "a parcel takes more than twice the time of C"
     status=1
 fi
 

@@ -4,6 +4,7 @@
 
 mod counters;
 mod jobs;
+mod parcels;
 
 use jobs::Order;
 use std::process::ExitCode;
@@ -12,6 +13,7 @@ use std::{env, io, thread};
 const USAGE: &str = "usage:
 counters ADDS
 jobs WORKERS TURNS JOBS
+parcels PARCELS
 ";
 
 fn main(rt: HostRuntime) -> io::Result<ExitCode> {
@@ -23,6 +25,10 @@ fn main(rt: HostRuntime) -> io::Result<ExitCode> {
         }
         Some((part, given)) => match part.as_str() {
             "counters" => counters::run(rt.alloc(), given),
+            "parcels" => match parcels::read(given) {
+                None => None,
+                Some(parcels) => parcels::there_and_back(&rt, rt.alloc(), parcels)?,
+            },
             "jobs" => match Order::read(given) {
                 None => None,
                 Some(order) => {
