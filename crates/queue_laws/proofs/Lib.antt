@@ -6,3 +6,7 @@ pub mod Recording
 pub mod Torn
 pub mod Keeping
 pub mod Whole
+pub mod NewFolders
+pub mod SameFiles
+pub mod Rolled
+pub mod Purged

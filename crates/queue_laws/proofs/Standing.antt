@@ -33,7 +33,7 @@ pub record HeldAs (tails : List Page) (found : Result (List Held) Damaged) : Typ
   pub is : found ≡ Ok pages
   pub fit : Fit tails pages
 
-below_all : (n m end : ℕ) (tails : List Page) (top : Page) → n < m → Rising m end tails top → NoTail n tails
+pub below_all : (n m end : ℕ) (tails : List Page) (top : Page) → n < m → Rising m end tails top → NoTail n tails
 below_all n m end [] top less rising = tt
 below_all n m end (p ∷ tails) top less rising =
     ((λ same. absurd (omega (arith, less, rising.0, same))), below_all n (suc p.number) (p.least + length p.rows) tails top (omega (arith, less, rising.0)) rising.4)

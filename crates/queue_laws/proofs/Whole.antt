@@ -17,13 +17,13 @@ file_of : (f : FileImage) (o : Option (List ℕ)) → f ≡ at_rest o → f.file
 file_of f o is = ap (λ (g : FileImage). g.file) is
 
 -- a checkpoint at rest
-rests_may_record : (slots : Option (List ℕ)) (turn : ℕ) (s : _) (f : FileImage) → f ≡ at_rest slots → MayRecord slots turn s f
+pub rests_may_record : (slots : Option (List ℕ)) (turn : ℕ) (s : _) (f : FileImage) → f ≡ at_rest slots → MayRecord slots turn s f
 rests_may_record slots turn s f rests = record {
   rests_or_torn = inl rests;
   no_chance = subst (NoChance (passes (is_slot 48))) (sym rests) (record { each = λ place frame is stands. inl stands });
 }
 
-rising_top : (number end : ℕ) (tails : List Page) (top : Page) → Rising number end tails top → IsSound top
+pub rising_top : (number end : ℕ) (tails : List Page) (top : Page) → Rising number end tails top → IsSound top
 rising_top number end [] top rising = rising.2
 rising_top number end (p ∷ tails) top rising = rising_top (suc p.number) (p.least + length p.rows) tails top rising.4
 
@@ -64,7 +64,7 @@ tails_rest [] names folder i held rest = tt
 tails_rest (p ∷ tails) names folder i held rest =
     (rests_may_record (folder (checkpoint p.number)) p.turn (state_at p (first_open_of p) p.rows (length held.0.bytes)) (i (names (checkpoint p.number))) rest.0, tails_rest tails names folder i held.1 rest.1)
 
-resting_stands : (q : Queue) (names : Names) (folder : Folder) (i : Image) → IsQueue q → (held : Held q folder) → Rests q names folder held i → NoChance (passes is_element) (i (names (page q.top.number))) → Stands q (folder_in names i)
+pub resting_stands : (q : Queue) (names : Names) (folder : Folder) (i : Image) → IsQueue q → (held : Held q folder) → Rests q names folder held i → NoChance (passes is_element) (i (names (page q.top.number))) → Stands q (folder_in names i)
 resting_stands q names folder i is held rest chance =
     record {
       tails = marking_tails 0 0 q.tails q.top names folder i is held.tails (tails_rest q.tails names folder i held.tails rest.tails) (λ n less. rest.pages n (λ same. absurd (omega (arith, less, same))));

@@ -46,7 +46,7 @@ pub record Found : Type 0 where
 -- ---- a new folder
 
 -- none of so many numbers from one on has a file of this kind
-abbrev pub none_of : (ℕ → Role) → ℕ → ℕ → Folder → Bool
+unfoldable pub none_of : (ℕ → Role) → ℕ → ℕ → Folder → Bool
 none_of kind zero from folder = true
 none_of kind (suc count) from folder = not (is_some (folder (kind from))) && none_of kind count (suc from) folder
 

@@ -1,6 +1,7 @@
 -- Laws of folders.
-use Rattle.std.specs.Prelude.{◌≡◌, ◌≤◌, ◌<◌, ℕ, true, List, ◌∷◌, ◌++◌, length, Option, Ok}
+use Rattle.std.specs.Prelude.{◌≡◌, ◌≤◌, ◌<◌, ℕ, true, List, [], ◌∷◌, ◌++◌, length, Option, Some, None, Ok}
 use Rattle.io_traits.specs.Reads.{bytes_of}
+use Rattle.crc_frame.specs.Slots.{newest_slot}
 use Rattle.store_trait.specs.Images.{Image, FileImage}
 use Rattle.store_trait.specs.Chance.{NoChance}
 use Rattle.store_trait.specs.Tails.{passes}
@@ -10,10 +11,11 @@ use Rattle.queue_page.specs.Pages.{opened}
 use Rattle.queue_page.specs.declared.row.PageRow.{PageRow}
 use Rattle.queue_laws.specs.Folders.{head, page, checkpoint, Folder, Names, AreApart, names_in, folder_in}
 use Rattle.queue_laws.specs.Checkpoints.{told}
-use Rattle.queue_laws.specs.Found.{found}
+use Rattle.queue_laws.specs.Found.{is_new, nothing_found, found}
 use Rattle.queue_laws.specs.Kept.{Page, Queue, first_open_of, state_at, IsTail, IsTop, IsSound, IsQueue, Stands, Kept}
-use Rattle.queue_laws.specs.Resting.{MayRecord, TailHeld, TopHeld, MayHoldTail, Held, Rests, Marks}
-use Rattle.queue_laws.specs.Steps.{marked, with_row, rolled, IsSpent, with_tails}
+use Rattle.queue_laws.specs.Resting.{Records, MayRecord, TailHeld, TopHeld, MayHoldTail, Held, Rests, Marks}
+use Rattle.queue_laws.specs.Steps.{first_page, first_queue, marked, with_row, rolled, CanRoll, IsSpent, with_tails}
+use Rattle.queue_laws.specs.Changes.{SameFiles, IsRolled, IsPurged}
 
 -- a folder that holds a queue file by file holds its rows
 abbrev pub StandingIsKept : Type 0
@@ -62,6 +64,56 @@ RestingIsKept =
 -- while a mark is written
 abbrev pub MarkingIsKept : Type 0
 MarkingIsKept = (q : Queue) (names : Names) (folder : Folder) (i : Image) → IsQueue q → (held : Held q folder) → Marks q names folder held i → Kept q (folder_in names i)
+
+-- ---- a new queue
+
+-- A folder is new as long as it is so but for its page 0 and its head slot, of which no slot is intact and which has no more bytes than one.
+abbrev pub StaysNew : Type 0
+StaysNew =
+    (a b : Folder) → is_new a ≡ true → newest_slot 48 (bytes_of (b head)) ≡ None → length (bytes_of (b head)) ≤ 48 → ((n : ℕ) → 1 ≤ n → b (page n) ≡ a (page n))
+    → ((n : ℕ) → b (checkpoint n) ≡ a (checkpoint n)) → is_new b ≡ true
+
+-- once its page 0 is begun, and its head slot written, reads give the first queue
+abbrev pub FirstIsHeld : Type 0
+FirstIsHeld =
+    (a b : Folder) → is_new a ≡ true → ((n : ℕ) → 1 ≤ n → b (page n) ≡ a (page n)) → ((n : ℕ) → b (checkpoint n) ≡ a (checkpoint n)) → b (page 0) ≡ Some (2 ∷ [])
+    → Records (bytes_of (b head)) 0 (state_at first_page 1 [] 1) → Held first_queue b
+
+-- and a folder that holds the first queue holds no row
+abbrev pub FirstIsEmpty : Type 0
+FirstIsEmpty = (folder : Folder) → Kept first_queue folder → found folder ≡ Ok nothing_found
+
+-- ---- folders with the same files, a new head page, and a page that goes
+
+-- what reads give of a queue between two calls stands file by file
+abbrev pub HeldStands : Type 0
+HeldStands = (q : Queue) (folder : Folder) → IsQueue q → Held q folder → Stands q folder
+
+-- and so does a folder that has the same files of a queue, whatever else is in it
+abbrev pub SameFilesStand : Type 0
+SameFilesStand = (q : Queue) (a b : Folder) → SameFiles q a b → Stands q a → Stands q b
+
+abbrev pub RolledIsQueue : Type 0
+RolledIsQueue = (q : Queue) → IsQueue q → CanRoll q → IsQueue (rolled q)
+
+-- once the new head page is begun, and its slot written, reads give the queue with it
+abbrev pub RolledIsHeld : Type 0
+RolledIsHeld = (q : Queue) (a b : Folder) → IsQueue q → (held : Held q a) → IsRolled q (length (held.top.front ++ held.top.tail)) a b → Held (rolled q) b
+
+abbrev pub PurgedIsQueue : Type 0
+PurgedIsQueue = (q : Queue) (before behind : List Page) (p : Page) → q.tails ≡ before ++ p ∷ behind → IsQueue q → IsQueue (with_tails (before ++ behind) q)
+
+-- where a page below the head is gone, the queue without it stands
+abbrev pub PurgedStands : Type 0
+PurgedStands =
+    (q : Queue) (before behind : List Page) (p : Page) (a b : Folder) → q.tails ≡ before ++ p ∷ behind → IsQueue q → Stands q a → IsPurged p.number a b
+    → Stands (with_tails (before ++ behind) q) b
+
+-- and reads give it
+abbrev pub PurgedIsHeld : Type 0
+PurgedIsHeld =
+    (q : Queue) (before behind : List Page) (p : Page) (a b : Folder) → q.tails ≡ before ++ p ∷ behind → IsQueue q → Held q a → IsPurged p.number a b
+    → Held (with_tails (before ++ behind) q) b
 
 -- ---- what a call makes of a queue keeps the queue before it
 

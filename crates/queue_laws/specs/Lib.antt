@@ -4,4 +4,5 @@ pub mod Found
 pub mod Kept
 pub mod Resting
 pub mod Steps
+pub mod Changes
 pub mod Laws

@@ -58,13 +58,13 @@ abbrev pub TailsHeld : List Page → Folder → Type 0
 TailsHeld [] folder = ⊤
 TailsHeld (p ∷ tails) folder = TailHeld p (folder (checkpoint p.number)) (folder (page p.number)) × TailsHeld tails folder
 
--- what reads give of a queue between two calls; of checkpoints without a page below the head nothing is said
+-- What reads give of a queue between two calls. Of checkpoints without a page below the head nothing is said, and from 2^32 on no number has a file.
 pub record Held (q : Queue) (folder : Folder) : Type 0 where
   pub tails : TailsHeld q.tails folder
   pub gone : (n : ℕ) → n < q.top.number → NoTail n q.tails → folder (page n) ≡ None
   pub top : TopHeld q (folder head) (folder (page q.top.number))
-  pub no_pages : (n : ℕ) → q.top.number < n → folder (page n) ≡ None
-  pub no_checkpoints : (n : ℕ) → q.top.number ≤ n → folder (checkpoint n) ≡ None
+  pub no_pages : (n : ℕ) → q.top.number < n → n < 2 ^ 32 → folder (page n) ≡ None
+  pub no_checkpoints : (n : ℕ) → q.top.number ≤ n → n < 2 ^ 32 → folder (checkpoint n) ≡ None
 
 abbrev pub TailsRest : List Page → Names → Folder → Image → Type 0
 TailsRest [] names folder i = ⊤
@@ -75,7 +75,6 @@ pub record Rests (q : Queue) (names : Names) (folder : Folder) (held : Held q fo
   pub top_slot : i (names head) ≡ at_rest (folder head)
   pub tails : TailsRest q.tails names folder i
   pub pages : (n : ℕ) → n ≢ q.top.number → i (names (page n)) ≡ at_rest (folder (page n))
-  pub no_checkpoints : (n : ℕ) → q.top.number ≤ n → i (names (checkpoint n)) ≡ at_rest None
   pub top_page : TailImage held.top.front held.top.tail (i (names (page q.top.number)))
 
 abbrev pub TailsMark : (tails : List Page) (names : Names) (folder : Folder) → TailsHeld tails folder → Image → Type 0

@@ -1,8 +1,17 @@
--- What a queue becomes by its calls.
+-- What a queue is at first, and what it becomes by its calls.
 use Rattle.std.specs.Prelude.{◌≡◌, ◌≤◌, ◌<◌, ◌^◌, suc, ◌+◌, ◌-◌, ◌==◌, false, List, [], ◌∷◌, ◌++◌, length, if◌then◌else◌}
 use Rattle.crc_frame.specs.Slots.{next_turn}
 use Rattle.queue_page.specs.declared.row.PageRow.{PageRow}
 use Rattle.queue_laws.specs.Kept.{Page, Queue, first_open_of}
+
+-- ---- a new queue
+
+-- a page of version 2 without rows, whose next number is 1
+abbrev pub first_page : Page
+first_page = record { number = 0; version = 2; least = 1; rows = []; acknowledged = []; from = 1; turn = 0 }
+
+abbrev pub first_queue : Queue
+first_queue = record { tails = []; top = first_page; marked = 0 }
 
 -- ---- a mark
 

@@ -1,5 +1,5 @@
 //! What holds of the folder of a queue. Each function here does nothing: its clauses are theorems.
-ghost use Rattle.queue_laws.specs.Laws.{StandingIsKept, NamesDiffer, FoundGoesByPages, TailsStand, MarkedHeadsStand, OpenHeadsStand, RestingIsKept, MarkingIsKept, MarkedKeeps, RowKeeps, RolledKeeps, PurgedKeeps};
+ghost use Rattle.queue_laws.specs.Laws.{StandingIsKept, NamesDiffer, FoundGoesByPages, TailsStand, MarkedHeadsStand, OpenHeadsStand, RestingIsKept, MarkingIsKept, StaysNew, FirstIsHeld, FirstIsEmpty, HeldStands, SameFilesStand, RolledIsQueue, RolledIsHeld, PurgedIsQueue, PurgedStands, PurgedIsHeld, MarkedKeeps, RowKeeps, RolledKeeps, PurgedKeeps};
 
 /// A folder whose files are those of a queue, each for itself, holds the rows of the queue.
 pub fn what_stands_is_kept()
@@ -33,6 +33,34 @@ pub fn rows_may_be_torn()
 pub fn whatever_stops_is_kept()
     ensures resting { RestingIsKept }
     ensures marking { MarkingIsKept }
+{}
+
+/// A new folder stays new while its page 0 is made, and holds the first queue, which has no row, once its head
+/// slot is written.
+pub fn a_new_folder_has_no_row()
+    ensures new { StaysNew }
+    ensures held { FirstIsHeld }
+    ensures empty { FirstIsEmpty }
+{}
+
+/// What reads give of a queue stands file by file, and so does a folder with the same files of a queue,
+/// whatever else is in it.
+pub fn same_files_stand()
+    ensures held { HeldStands }
+    ensures same { SameFilesStand }
+{}
+
+/// Once a new head page is begun, reads give the queue with it.
+pub fn a_new_head_page_is_held()
+    ensures queue { RolledIsQueue }
+    ensures held { RolledIsHeld }
+{}
+
+/// Where one of the pages below the head is gone, the folder holds the queue without it.
+pub fn a_page_may_go()
+    ensures queue { PurgedIsQueue }
+    ensures stands { PurgedStands }
+    ensures held { PurgedIsHeld }
 {}
 
 /// A folder that holds what a call makes of a queue holds the queue before the call, too: after a mark, a new
