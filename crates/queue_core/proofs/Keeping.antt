@@ -1,5 +1,5 @@
 -- A mark keeps its queue.
-use Rattle.std.proofs.Common.{IsTrue, List, [], ◌∷◌, Result, Ok, Err, OnOk, sym, ◌∙◌, ap, subst}
+use Rattle.std.proofs.Common.{◌≡◌, ℕ, IsTrue, List, [], ◌∷◌, Result, Ok, Err, OnOk, refl, sym, ◌∙◌, ap, subst}
 use Rattle.io_traits.specs.Folders.{Content}
 use Rattle.store_trait.specs.Images.{Image, IsAtRest, at_rest}
 use Rattle.store_trait.specs.Tails.{TailImage}
@@ -7,8 +7,8 @@ use Rattle.store_trait.specs.Moments.{EachMoment, ImagesTell}
 use Rattle.store_trait.specs.declared.stores.Store.{Ghosts as StoreWords}
 use Rattle.store_trait.proofs.Moments.{weaker}
 use Rattle.store_trait.proofs.TailImages.{at_rest_tail}
-use Rattle.queue_laws.specs.Folders.{head, page, checkpoint, Names, folder_in}
-use Rattle.queue_laws.specs.Kept.{Page, Queue, IsQueue, Kept}
+use Rattle.queue_laws.specs.Folders.{head, page, checkpoint, Folder, Names, folder_in}
+use Rattle.queue_laws.specs.Kept.{Page, Queue, NoTail, IsQueue, Kept}
 use Rattle.queue_laws.specs.Resting.{Held, TailsRest, Rests}
 use Rattle.queue_laws.specs.Steps.{marked}
 use Rattle.queue_laws.proofs.Whole.{resting_is_kept}
@@ -20,19 +20,24 @@ use Rattle.queue_core.specs.declared.marking.Mark.{Mark}
 use Rattle.queue_core.proofs.TornMarks.{marks_keep}
 use Rattle.queue_core.proofs.WholeMarks.{marked_rising, marks_record}
 
--- all files at rest, as reads give them
-tails_rest : (names : Names) (content : Content) (i : Image) → IsAtRest content i → (tails : List Page) → TailsRest tails names (read_in names content) i
-tails_rest names content i rests [] = tt
-tails_rest names content i rests (p ∷ tails) = (rests (names (checkpoint p.number)), tails_rest names content i rests tails)
+-- what the queue speaks of is at rest
+tails_rest : (names : Names) (folder : Folder) (i : Image) (tails : List Page) → ((n : ℕ) → (NoTail n tails → ⊥) → i (names (checkpoint n)) ≡ at_rest (folder (checkpoint n))) → TailsRest tails names folder i
+tails_rest names folder i [] rest = tt
+tails_rest names folder i (p ∷ tails) rest = (rest p.number (λ none. none.0 refl), tails_rest names folder i tails (λ n tail. rest n (λ none. tail none.1)))
 
-pub at_rest_rests : (names : Names) (q : Queue) (content : Content) (held : Held q (read_in names content)) (i : Image) → IsAtRest content i → Rests q names (read_in names content) held i
-at_rest_rests names q content held i rests = record {
-  top_slot = rests (names head);
-  tails = tails_rest names content i rests q.tails;
-  pages = λ n other. rests (names (page n));
-  no_checkpoints = λ n above. rests (names (checkpoint n)) ∙ ap at_rest (held.no_checkpoints n above);
-  top_page = subst (TailImage held.top.front held.top.tail) (sym (rests (names (page q.top.number)) ∙ ap at_rest held.top.stands)) (at_rest_tail held.top.front held.top.tail);
+pub files_rest : (names : Names) (q : Queue) (folder : Folder) (held : Held q folder) (i : Image) → i (names head) ≡ at_rest (folder head) → ((n : ℕ) → i (names (page n)) ≡ at_rest (folder (page n)))
+    → ((n : ℕ) → (NoTail n q.tails → ⊥) → i (names (checkpoint n)) ≡ at_rest (folder (checkpoint n))) → Rests q names folder held i
+files_rest names q folder held i at_head pages tails = record {
+  top_slot = at_head;
+  tails = tails_rest names folder i q.tails tails;
+  pages = λ n other. pages n;
+  top_page = subst (TailImage held.top.front held.top.tail) (sym (pages q.top.number ∙ ap at_rest held.top.stands)) (at_rest_tail held.top.front held.top.tail);
 }
+
+-- all files are, as reads give them
+pub at_rest_rests : (names : Names) (q : Queue) (content : Content) (held : Held q (read_in names content)) (i : Image) → IsAtRest content i → Rests q names (read_in names content) held i
+at_rest_rests names q content held i rests =
+    files_rest names q (read_in names content) held i (rests (names head)) (λ n. rests (names (page n))) (λ n tail. rests (names (checkpoint n)))
 
 module _ {S : Type 0} (store : StoreWords S) (tell : ImagesTell store) (marks : List Mark) (old new : S) where
   pub mark_keeps : EachMoment store old new (MayStop store old (writes_of marks)) → MarkKeeps store marks old new

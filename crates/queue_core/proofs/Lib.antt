@@ -4,3 +4,6 @@ pub mod TornMarks
 pub mod WholeMarks
 pub mod Keeping
 pub mod RowRun
+pub mod FirstRun
+pub mod RollRun
+pub mod PurgeRun

@@ -70,8 +70,8 @@ module _ (q : Queue) (row : PageRow) (folder other : Folder) (held : Held q fold
     tails = tails_with 0 0 q.tails is held.tails;
     gone = λ n less none. there (page n) (not_top n (λ same. absurd (omega (arith, less, same)))) ∙ held.gone n less none;
     top = top_with;
-    no_pages = λ n above. there (page n) (not_top n (λ same. absurd (omega (arith, above, same)))) ∙ held.no_pages n above;
-    no_checkpoints = λ n above. there (checkpoint n) (λ same. absurd cc) ∙ held.no_checkpoints n above;
+    no_pages = λ n above fits. there (page n) (not_top n (λ same. absurd (omega (arith, above, same)))) ∙ held.no_pages n above fits;
+    no_checkpoints = λ n above fits. there (checkpoint n) (λ same. absurd cc) ∙ held.no_checkpoints n above fits;
   }
 
   -- an image in which the element is appended, be it whole or torn
@@ -89,7 +89,6 @@ module _ (q : Queue) (row : PageRow) (folder other : Folder) (held : Held q fold
       top_slot = still head (λ same. absurd cc) ∙ rest.top_slot ∙ ap at_rest (sym (there head (λ same. absurd cc)));
       tails = tails_still q.tails rest.tails;
       pages = λ n differs. still (page n) (not_top n differs) ∙ rest.pages n differs ∙ ap at_rest (sym (there (page n) (not_top n differs)));
-      no_checkpoints = λ n above. still (checkpoint n) (λ same. absurd cc) ∙ rest.no_checkpoints n above;
       top_page = appended_tail held.top.front held.top.tail frame (length (held.top.front ++ held.top.tail)) (d (names (page q.top.number))) (i (names (page q.top.number)))
           (length-append held.top.front held.top.tail) rest.top_page on.here;
     }

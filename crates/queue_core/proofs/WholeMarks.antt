@@ -32,7 +32,7 @@ not_true true is = absurd cc
 not_true false is = refl
 
 -- a slot that was written
-recorded : (file : List ℕ) (turn : ℕ) (s t : PageState) → Records file turn s → FitsSlot (next_turn turn) t → Records (with_slot (place_of 48 (next_turn turn)) (slot_spelling (next_turn turn) t) file) (next_turn turn) t
+pub recorded : (file : List ℕ) (turn : ℕ) (s t : PageState) → Records file turn s → FitsSlot (next_turn turn) t → Records (with_slot (place_of 48 (next_turn turn)) (slot_spelling (next_turn turn) t) file) (next_turn turn) t
 recorded file turn s t r fits =
     let old = slot_spelling turn s in
     let new = slot_spelling (next_turn turn) t in
@@ -225,10 +225,10 @@ module _ (names : Names) (apart : AreApart names) (q : Queue) (old new : Content
     tails = tails_recorded names apart q.top (length all_bytes) before_marks new 0 0 q.tails held.tails is became pages_same;
     gone = λ n less none. pages_same n ∙ held.gone n less (marked_none n q.tails none);
     top = top_recorded;
-    no_pages = λ n above. pages_same n ∙ held.no_pages n above;
-    no_checkpoints = λ n above. beside_still (writes_of marks) (names (checkpoint n)) old new
+    no_pages = λ n above fits. pages_same n ∙ held.no_pages n above fits;
+    no_checkpoints = λ n above fits. beside_still (writes_of marks) (names (checkpoint n)) old new
         (all_beside names apart q.top (length all_bytes) before_marks (checkpoint n) q.tails held.tails marks (above_role names apart q.top (length all_bytes) before_marks n 0 0 q.tails above is) are) wrote
-        ∙ held.no_checkpoints n above;
+        ∙ held.no_checkpoints n above fits;
   }
 
 pub marks_record : MarksRecord

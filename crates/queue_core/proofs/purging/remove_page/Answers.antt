@@ -1,0 +1,23 @@
+use Rattle.queue_core.proofs.PurgeRun.{run_removed, run_gone, run_purged, is_purged, ok_then}
+use Rattle.queue_core.proofs.purging.remove_page.Goals as goal
+
+pub returns-in_err-remove-clause-keeps : goal.returns-in_err-remove-clause-keeps
+returns-in_err-remove-clause-keeps g c names q front behind p apart ready goes =
+    run_removed g.S.Store g.met.S.Store.images_tell names apart q front behind p c.args.page.now c.args.checkpoint.now c.args.store.now ready goes
+    c.remove.new.self c.remove.ensures.change
+
+pub returns-in_err-sync-clause-keeps : goal.returns-in_err-sync-clause-keeps
+returns-in_err-sync-clause-keeps g c names q front behind p apart ready goes =
+    run_gone g.S.Store g.met.S.Store.images_tell names apart q front behind p c.args.page.now c.args.checkpoint.now c.args.store.now ready goes
+    c.remove.new.self c.remove.ensures.change c.in_ok-remove.ensures.removed c.sync.new.self c.sync.ensures.settled
+
+pub returns-clause-keeps : goal.returns-clause-keeps
+returns-clause-keeps g c names q front behind p apart ready goes =
+    run_purged g.S.Store g.met.S.Store.images_tell names apart q front behind p c.args.page.now c.args.checkpoint.now c.args.store.now ready goes
+    c.remove.new.self c.remove.ensures.change c.in_ok-remove.ensures.removed c.sync.new.self c.sync.ensures.settled c.in_ok-sync.ensures.durable c.remove-2.new.self c.remove-2.ensures.change
+
+pub returns-clause-ready : goal.returns-clause-ready
+returns-clause-ready g c =
+    ok_then c.remove-2.result (λ names q front behind p apart ready goes.
+    is_purged g.S.Store g.met.S.Store.images_tell names apart q front behind p c.args.page.now c.args.checkpoint.now c.args.store.now ready goes
+    c.remove.new.self c.remove.ensures.change c.in_ok-remove.ensures.removed c.sync.new.self c.sync.ensures.settled c.in_ok-sync.ensures.durable c.remove-2.new.self c.remove-2.ensures.change)
