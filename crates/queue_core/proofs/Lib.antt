@@ -4,6 +4,12 @@ pub mod TornMarks
 pub mod WholeMarks
 pub mod Keeping
 pub mod RowRun
+pub mod FileNumbers
+pub mod Collecting
+pub mod Fallings
+pub mod ScanReads
+pub mod FoundStays
+pub mod StandingPages
 pub mod FirstRun
 pub mod RollRun
 pub mod PurgeRun

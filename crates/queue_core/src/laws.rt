@@ -1,9 +1,16 @@
 //! What holds of the steps of a queue. Each function here does nothing: its clauses are theorems.
 ghost use Rattle.queue_core.specs.Marks.{MarksKeep, MarksRecord};
+ghost use Rattle.queue_core.specs.Reading.{PagesAreFound};
 
 /// Whatever a stop leaves while the marks of a queue are written holds the queue, and once they are written
 /// all of it is recorded.
 pub fn marks_keep_the_queue()
     ensures any_moment { MarksKeep }
     ensures recorded { MarksRecord }
+{}
+
+/// What is read of the pages that stand below the head of a folder, and of its head page, is what the folder
+/// holds.
+pub fn the_pages_that_stand_are_found()
+    ensures { PagesAreFound }
 {}

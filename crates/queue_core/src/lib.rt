@@ -3,13 +3,20 @@
 
 pub mod laws;
 mod marking;
+mod naming;
 mod purging;
+mod reading;
 mod rolling;
 mod rows;
+mod scanning;
 mod starting;
+mod tails;
+mod telling;
 
 pub use marking::{Mark, mark_pages};
 pub use purging::remove_page;
+pub use reading::{Scanned, read_pages};
 pub use rolling::{NextPage, begin_page};
 pub use rows::add_row;
 pub use starting::make_first;
+pub use tails::Tail;

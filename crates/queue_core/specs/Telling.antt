@@ -1,0 +1,18 @@
+-- What a checkpoint tells, as the code has it.
+use Rattle.std.specs.Prelude.{ℕ, Result, Ok, Err}
+use Rattle.store_disk.specs.declared.pages.PageState.{PageState}
+use Rattle.queue_laws.specs.Checkpoints.{Misfit, misfit}
+use Rattle.queue_core.specs.declared.telling.Differing.{Differing}
+
+-- a checkpoint is damaged at place 0
+abbrev pub misfit_of : Differing → Misfit
+misfit_of d = misfit 0 d.found d.expected
+
+abbrev pub as_bounded : Result PageState Differing → Result PageState Misfit
+as_bounded (Ok s) = Ok s
+as_bounded (Err d) = Err (misfit_of d)
+
+-- with the turn of its slot
+abbrev pub as_told : Result (ℕ × PageState) Differing → Result PageState Misfit
+as_told (Ok newest) = Ok newest.1
+as_told (Err d) = Err (misfit_of d)
