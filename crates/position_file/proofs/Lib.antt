@@ -1,0 +1,3 @@
+pub mod SlotBytes
+pub mod FileReads
+pub mod PositionWrites

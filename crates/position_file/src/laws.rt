@@ -1,0 +1,18 @@
+//! What holds of position files as bytes. Each function here does nothing: its clauses are theorems.
+ghost use Rattle.position_file.specs.Positions.{SlotsAreReadBack, SlotsAreSpelled, NoSlotBeginsAnother, DamagesDiffer};
+
+/// Each slot has one spelling, and bytes are the spelling of at most one slot.
+pub fn slots_have_one_spelling()
+    ensures read_back { SlotsAreReadBack }
+    ensures spelled { SlotsAreSpelled }
+{}
+
+/// No slot begins another.
+pub fn no_slot_begins_another()
+    ensures { NoSlotBeginsAnother }
+{}
+
+/// Where a file is damaged, what stands there differs from what ought to stand there.
+pub fn damages_differ()
+    ensures { DamagesDiffer }
+{}

@@ -1,0 +1,13 @@
+//! Position files: how much of another file counts, in two slots that are written in turn, so that a stop at
+//! any moment leaves what was recorded or what is being recorded.
+//!
+//! `specs/Positions` has the bytes of a slot and what a file records, `specs/Writes` what a stop leaves.
+#![tactic(auto)]
+
+pub mod laws;
+mod positions;
+mod recorded;
+mod slot;
+
+pub use positions::{read_position, record_position};
+pub use recorded::Recorded;

@@ -1,0 +1,82 @@
+ghost use Rattle.std.specs.Prelude.{◌≡◌, ◌≤◌, ℕ, IsTrue, IsErr, Some, length, IfOk, OnOk};
+ghost use Rattle.io_traits.specs.Counts.{HasCause};
+ghost use Rattle.io_traits.specs.Reads.{bytes_of, file_length};
+ghost use Rattle.crc_frame.specs.Slots.{place_of};
+ghost use Rattle.store_trait.specs.Calls.{ChangesNothing};
+ghost use Rattle.store_trait.specs.Moments.{EachMoment, ReadsBeside};
+ghost use Rattle.store_changes.specs.Changes.{AllRest, Alters};
+ghost use Rattle.position_file.specs.Positions.{first_damage, recorded_in};
+ghost use Rattle.position_file.specs.Writes.{IsNextTurn, OldOrNewPosition};
+ghost use Rattle.position_file.specs.declared.recorded.Recorded.TheVariants.{Position};
+
+use crate::recorded::Recorded;
+use crate::slot::{SLOT_LEN, computed_crc, position_of, slot_of, stored_crc, turn_of};
+use crc_frame::newest;
+use store_changes::write_slot;
+use store_disk::{Failed, Store};
+
+/// What the position file of this name records. A missing one records nothing.
+pub fn read_position<S: Store>(store: &mut S, name: &str) -> Result<Recorded, Failed>
+    ensures recorded { IfOk result (λ recorded. IsTrue S.tells
+        → recorded ≡ recorded_in (bytes_of (S.seen store.old name.now))) }
+    ensures same { ChangesNothing S.tells S.seen S.moment S.may_leave store.old store.new }
+    ensures cause { HasCause (S.faults store.old) (S.faults store.new) (IsErr result) }
+{
+    let mut bytes = [0; 2 * SLOT_LEN];
+    let count = store.read(name, 0, &mut bytes)?;
+    Ok(recorded_in(&bytes[..count]))
+}
+
+/// Records a position in the slot of a turn, and settles all files.
+///
+/// A stop at any moment leaves recorded what was, or this position, if the turn is the next one and the
+/// file was at rest.
+pub fn record_position<S: Store>(
+    store: &mut S,
+    name: &str,
+    turn: u64,
+    position: u64,
+) -> Result<(), Failed>
+    requires { IsTrue S.tells → place_of 24 turn ≤ file_length (S.seen store.old name.now) }
+    ensures records { OnOk result (IsTrue S.tells
+        → IsNextTurn (recorded_in (bytes_of (S.seen store.old name.now))) turn
+        → recorded_in (bytes_of (S.seen store.new name.now)) ≡ Position turn position) }
+    ensures settled { OnOk result (AllRest S.Store store.new) }
+    ensures any_moment { EachMoment S.Store store.old store.new
+        (Alters S.Store name.now (OldOrNewPosition turn position) store.old) }
+    ensures beside { ReadsBeside S.Store (λ n. n ≡ name.now) store.old store.new }
+    ensures cause { HasCause (S.faults store.old) (S.faults store.new) (IsErr result) }
+{
+    let slot = slot_of(turn, position);
+    write_slot(store, name, turn, &slot)
+}
+
+// What the front of a position file records, up to its two slots.
+fn recorded_in(front: &[u8]) -> Recorded
+    ensures { result ≡ recorded_in front.now }
+{
+    if let Some(slot) = newest(front, SLOT_LEN) {
+        let bytes = &front[slot.place..slot.place + SLOT_LEN];
+        return Recorded::Position(slot.turn, position_of(bytes));
+    }
+    if front.len() > SLOT_LEN {
+        first_damage(&front[..SLOT_LEN])
+    } else {
+        Recorded::Nothing
+    }
+}
+
+// Why the slot at 0 isn't intact.
+fn first_damage(slot: &[u8]) -> Recorded
+    requires { length slot.now ≡ 24 }
+    ensures { result ≡ first_damage slot.now }
+{
+    let stored = stored_crc(slot);
+    let computed = computed_crc(slot);
+    if stored == computed {
+        let turn = turn_of(slot);
+        Recorded::Damaged(turn, turn.saturating_sub(1))
+    } else {
+        Recorded::Damaged(u64::from(stored), u64::from(computed))
+    }
+}
