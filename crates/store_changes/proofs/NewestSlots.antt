@@ -74,20 +74,30 @@ at_in_front width place file low = ap (λ b. if is_slot width place b then Some 
 newest_in_front : (width : ℕ) (file : List ℕ) → newest_slot width (take (width + width) file) ≡ newest_slot width file
 newest_in_front width file = ap₂ newest_of (at_in_front width 0 file (omega arith)) (at_in_front width width file (omega arith))
 
+-- a slot that was found, by its place
+pub record Within (width : ℕ) (file : List ℕ) (slot : Slot) : Type 0 where
+  pub low : slot.place ≤ width
+  pub inside : slot.place + width ≤ length file
+
+low_place : (width k : ℕ) → k < 2 → width * k ≤ width
+low_place width k few = elim (cases_eq k 0) [
+  | inl zero ↦ let none : width * k ≡ 0 = ap (λ (n : ℕ). width * n) zero ∙ omega arith in omega (arith, none)
+  | inr some ↦
+      let one : k ≡ 1 = omega (arith, few, some) in
+      let all : width * k ≡ width = ap (λ (n : ℕ). width * n) one ∙ omega arith in
+      omega (arith, all)
+]
+
+pub found_within : (width : ℕ) (file : List ℕ) (slot : Slot) → 0 < width → newest_slot width file ≡ Some slot → Within width file slot
+found_within width file slot wide is =
+    let whole = newest_stands_whole width file slot wide is in
+    let low = low_place width (slot.turn % 2) (mod_below slot.turn 2 (omega arith)) in
+    record { low = omega (arith, whole.place, low); inside = whole.within }
+
 bytes_in_front : (width : ℕ) (file : List ℕ) (s : Option Slot) → 0 < width → newest_slot width file ≡ s
     → option_map (λ (x : Slot). slot_bytes width x.place (take (width + width) file)) s ≡ option_map (λ (x : Slot). slot_bytes width x.place file) s
 bytes_in_front width file None wide is = refl
-bytes_in_front width file (Some s) wide is =
-    let whole = newest_stands_whole width file s wide is in
-    let half : s.turn % 2 < 2 = mod_below s.turn 2 (omega arith) in
-    let low : place_of width s.turn ≤ width = low_place width (s.turn % 2) half in
-    ap Some (slot_in_front width s.place file (omega (arith, whole.place, low)))
-  where
-    low_place : (w k : ℕ) → k < 2 → w * k ≤ w
-    low_place w k few = elim (cases_eq k 0) [
-      | inl zero ↦ let none : w * k ≡ 0 = ap (λ (n : ℕ). w * n) zero ∙ omega arith in omega (arith, none)
-      | inr some ↦ let one : k ≡ 1 = omega (arith, few, some) in let all : w * k ≡ w = ap (λ (n : ℕ). w * n) one ∙ omega arith in omega (arith, all)
-    ]
+bytes_in_front width file (Some s) wide is = ap Some (slot_in_front width s.place file (found_within width file s wide is).low)
 
 pub front_says : (width : ℕ) (file : List ℕ) → 0 < width → newest_bytes width (take (width + width) file) ≡ newest_bytes width file
 front_says width file wide =

@@ -1,0 +1,4 @@
+pub mod Holding
+pub mod LookedRuns
+pub mod BatchRun
+pub mod OpeningRun
