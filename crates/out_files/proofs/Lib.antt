@@ -2,3 +2,4 @@ pub mod Holding
 pub mod LookedRuns
 pub mod BatchRun
 pub mod OpeningRun
+pub mod Staying

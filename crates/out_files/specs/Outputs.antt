@@ -1,11 +1,11 @@
 -- An output file that is open on a store: when it is ready for a batch, and what a stop leaves.
-use Rattle.std.specs.Prelude.{◌≡◌, ◌≢◌, ◌⊎◌, ◌<◌, ◌^◌, ℕ, IsTrue, List, ◌++◌}
+use Rattle.std.specs.Prelude.{◌≡◌, ◌≢◌, ◌⊎◌, ◌<◌, ◌≤◌, ◌^◌, ℕ, Bool, IsTrue, List, ◌++◌}
 use Rattle.io_traits.specs.Reads.{bytes_of, file_length}
-use Rattle.crc_frame.specs.Slots.{is_slot}
+use Rattle.crc_frame.specs.Slots.{place_of, is_slot, next_turn}
 use Rattle.store_trait.specs.Images.{Image, at_rest}
 use Rattle.store_trait.specs.Chance.{NoChance}
 use Rattle.store_trait.specs.Tails.{passes}
-use Rattle.store_trait.specs.Moments.{MayLeaveNow, NowOrSynced, EachMoment, LeavesBeside}
+use Rattle.store_trait.specs.Moments.{MayLeaveNow, NowOrSynced, EachMoment, LeavesBeside, ReadsBeside}
 use Rattle.store_trait.specs.declared.stores.Store.{Ghosts as StoreWords}
 use Rattle.position_file.specs.Positions.{recorded_in}
 use Rattle.position_file.specs.declared.recorded.Recorded.TheVariants.{Position}
@@ -46,3 +46,25 @@ module _ {S : Type 0} (store : StoreWords S) where
     pub was : NowOrSynced store s from
     pub own : (bytes : List ℕ) → Holds path slot bytes from → NoChance (passes (is_slot 24)) (i slot) → Holds path slot bytes i
     pub beside : (name : List ℕ) → name ≢ path → name ≢ slot → i name ≡ from name
+
+  -- ---- laws
+
+  -- an output that is ready has room in its position file for the slot of its next batch
+  abbrev pub ReadyHasRoom : Type 0
+  ReadyHasRoom = (out : Output) (s : S) → IsReady out s → IsTrue store.tells → place_of 24 (next_turn out.turn) ≤ file_length (store.seen s out.slot)
+
+  -- files of others, by a test
+  abbrev pub IsApart : (List ℕ → Bool) → Output → Type 0
+  IsApart others out = (name : List ℕ) → IsOwn out name → IsTrue (others name) → ⊥
+
+  -- whatever a stop leaves while others change their files, an output that was ready has its content
+  abbrev pub StandsBeside : Type 0
+  StandsBeside =
+      (others : List ℕ → Bool) (out : Output) (s : S) (i : Image) → IsReady out s → IsApart others out → IsTrue store.tells → LeavesBeside store (λ name. IsTrue (others name)) s i
+      → Stands out.path out.slot (content_of out s) i
+
+  -- and it is ready when they are done
+  abbrev pub StaysReady : Type 0
+  StaysReady =
+      (others : List ℕ → Bool) (out : Output) (old new : S) → IsReady out old → IsApart others out → ((i : Image) → MayLeaveNow store new i → LeavesBeside store (λ name. IsTrue (others name)) old i)
+      → ReadsBeside store (λ name. IsTrue (others name)) old new → IsReady out new

@@ -3,12 +3,14 @@ use Rattle.std.proofs.Common.{◌≡◌, ◌≢◌, ◌⊎◌, ◌==◌, inl, in
 use Rattle.std.proofs.Math.Path.{ap₂}
 use Rattle.std.proofs.lemmas.Bool.{cond-true, cond-false, cases_Bool, eqb-true, eqb-false, eq-eqb}
 use Rattle.std.proofs.lemmas.Bool.Decides.{nat_tests}
+use Rattle.std.proofs.lemmas.Nat.{mod_below}
 use Rattle.byteorder.specs.Endian.{big_number}
+use Rattle.crc_frame.proofs.TornSlots.{newest_stands_whole}
 use Rattle.crc_frame.specs.Crc.{crc32, is_checked}
 use Rattle.crc_frame.specs.Slots.{turn_of, next_turn}
 use Rattle.store_changes.specs.Slots.{newest_bytes, ComesNext, first, next}
-use Rattle.store_changes.proofs.NewestSlots.{front_says, misplaced_turn_is_odd}
-use Rattle.position_file.specs.Positions.{position_of, stored_crc, computed_crc, first_damage, recorded_by, recorded_in, DamagesDiffer}
+use Rattle.store_changes.proofs.NewestSlots.{found, front_says, misplaced_turn_is_odd}
+use Rattle.position_file.specs.Positions.{position_of, stored_crc, computed_crc, first_damage, recorded_by, recorded_in, DamagesDiffer, PositionsHaveRoom}
 use Rattle.position_file.specs.Writes.{IsNextTurn}
 use Rattle.position_file.specs.declared.recorded.Recorded.{Recorded}
 use Rattle.position_file.specs.declared.recorded.Recorded.TheVariants.{Nothing, Position, Damaged}
@@ -102,3 +104,21 @@ damaged_by file found expected None is said = elim (without_slot file is) [
 
 pub damages_differ : DamagesDiffer
 damages_differ file found expected said = damaged_by file found expected (newest_bytes 24 file) refl said
+
+-- ---- room for the next slot
+
+long_by : (file : List ℕ) (turn position : ℕ) (slot : Option (List ℕ)) → newest_bytes 24 file ≡ slot → recorded_in file ≡ Position turn position → 24 ≤ length file
+long_by file turn position (Some slot) is said =
+    let f = found 24 file slot (omega arith) is in
+    let whole = newest_stands_whole 24 file f.newest (omega arith) f.is.is in
+    omega (arith, whole.within)
+long_by file turn position None is said = elim (without_slot file is) [
+  | short few nothing ↦ let other : Nothing ≡ Position turn position = sym nothing ∙ said in cc
+  | broken many damage ↦ omega (arith, many)
+]
+
+pub positions_have_room : PositionsHaveRoom
+positions_have_room file turn position next_one said =
+    let long = long_by file turn position (newest_bytes 24 file) refl said in
+    let half = mod_below next_one 2 (omega arith) in
+    omega (arith, long, half)

@@ -1,7 +1,7 @@
 -- A position file: two slots of 24 bytes that are written in turn, of which the newest says how much of another file counts (this project's tables).
 -- A slot has the version, which is 1, in 2 bytes, the turn in 8, the position in 8, zero in 2, and the CRC-32 of these 20 bytes in 4. All
 -- numbers are big endian.
-use Rattle.std.specs.Prelude.{◌≡◌, ◌≢◌, ◌<◌, ◌-◌, ◌^◌, ◌==◌, ◌&&◌, ℕ, nat_lt, List, [], ◌++◌, length, take, drop, get_or, Option, Some, None, if◌then◌else◌}
+use Rattle.std.specs.Prelude.{◌≡◌, ◌≢◌, ◌<◌, ◌≤◌, ◌-◌, ◌^◌, ◌==◌, ◌&&◌, ℕ, nat_lt, List, [], ◌++◌, length, take, drop, get_or, Option, Some, None, if◌then◌else◌}
 use Rattle.byteorder.specs.Endian.{big_bytes, big_number}
 use Rattle.crc_frame.specs.Crc.{crc32}
 use Rattle.crc_frame.specs.Slots.{place_of, turn_of, is_slot}
@@ -80,3 +80,7 @@ NoSlotBeginsAnother =
 -- where a file is damaged, what stands there differs from what ought to
 abbrev pub DamagesDiffer : Type 0
 DamagesDiffer = (file : List ℕ) (found expected : ℕ) → recorded_in file ≡ Damaged found expected → found ≢ expected
+
+-- a file that records a position is long enough for each slot that comes next
+abbrev pub PositionsHaveRoom : Type 0
+PositionsHaveRoom = (file : List ℕ) (turn position next : ℕ) → recorded_in file ≡ Position turn position → place_of 24 next ≤ length file
