@@ -1,0 +1,6 @@
+use Rattle.foreign_parts.specs.Shelves.{stocks}
+use Rattle.foreign_parts.proofs.Numbers.{filters_back}
+use Rattle.foreign_parts.proofs.rack.Rack.give_back_filter.Goals as goal
+
+pub invariant_of-self : goal.invariant_of-self
+invariant_of-self g c = record { own = filters_back c.args.self.now.given c.args.name.now (stocks (λ p. p.number) c.args.self.now.filters.items) (stocks (λ p. p.number) c.args.self.now.outputs.items) (stocks (λ p. p.number) c.give_back.new.shelves.items) c.args.self.now.own c.args.filter.number c.requires.out c.requires.own c.give_back.ensures }

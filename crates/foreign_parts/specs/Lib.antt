@@ -1,0 +1,5 @@
+pub mod Configuring
+pub mod Delivering
+pub mod Stocks
+pub mod Shelves
+pub mod Racks

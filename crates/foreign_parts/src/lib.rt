@@ -1,0 +1,18 @@
+//! Filters and outputs that a program hands in as boxes, the rack in which they stand until a
+//! configuration takes them, and the places to which events are delivered.
+#![tactic(auto)]
+
+mod filter;
+mod output;
+mod place;
+mod plugged;
+mod rack;
+mod shelf;
+mod shelves;
+
+pub use config_tree::{FromFault, SettingFault, Settings};
+pub use filter::{ForeignFilter, Verdict};
+pub use output::{DeliverFault, Delivery, Fate, Fates, ForeignOutput};
+pub use place::Place;
+pub use plugged::{Plugged, PluggedFilter, PluggedOutput};
+pub use rack::Rack;

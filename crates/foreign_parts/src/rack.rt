@@ -1,0 +1,235 @@
+ghost use Rattle.std.specs.Prelude.{◌≡◌, ◌<◌, ◌≤◌, ◌+◌, ◌-◌, ◌^◌, [], length, min, IfOk, IfSome, IfNone, OnOk, OnErr};
+ghost use Rattle.foreign_parts.specs.Stocks as spec;
+ghost use Rattle.foreign_parts.specs.Stocks.{AnswersAt, AreNumbered, IsLast, IsOut, refusals_of};
+ghost use Rattle.foreign_parts.specs.Shelves.{stocks};
+
+use crate::filter::ForeignFilter;
+use crate::output::ForeignOutput;
+use crate::plugged::{PluggedFilter, PluggedOutput};
+use crate::shelf::Shelf;
+use crate::shelves::{add, configure, count_left, draw, give_back, is_known};
+use config_tree::{FromFault, Settings};
+use std::alloc::{AllocError, Global};
+
+/// The boxes that were handed in and that no configuration has taken, by their names.
+///
+/// Each box has a number of its own. Filters and outputs of one name are apart. A call finds a name
+/// by a look at each name before it.
+#[derive(Drop)]
+pub struct Rack {
+    filters: Vec<Shelf<PluggedFilter>>,
+    outputs: Vec<Shelf<PluggedOutput>>,
+    /// How many boxes were added so far, which is the number of the next.
+    given: u64,
+    alloc: Global,
+    ghost own: { AreNumbered given
+        (stocks (λ p. p.number) filters.items) (stocks (λ p. p.number) outputs.items) },
+}
+
+impl Rack {
+    ghost use Rattle.foreign_parts.specs.Racks.{filters_of, outputs_of, given_of};
+    ghost use Rattle.foreign_parts.specs.Racks.{filter_refusals, output_refusals};
+
+    /// No box. It takes no memory.
+    pub fn new(alloc: Global) -> Rack
+        ensures filters { filters_of result ≡ [] }
+        ensures outputs { outputs_of result ≡ [] }
+        ensures given { given_of result ≡ 0 }
+    {
+        Rack {
+            filters: Vec::new(alloc),
+            outputs: Vec::new(alloc),
+            given: 0,
+            alloc,
+        }
+    }
+
+    /// Adds a filter under a name, behind those that have it. Where memory runs out the rack is as it
+    /// was.
+    pub fn add_filter(
+        &mut self,
+        name: &str,
+        filter: Box<dyn ForeignFilter>,
+    ) -> Result<(), AllocError>
+        ensures ok { OnOk result (filters_of self.new
+            ≡ spec.with_box name.now (given_of self.old) (filters_of self.old)) }
+        ensures given { OnOk result (given_of self.new ≡ given_of self.old + 1) }
+        ensures err { OnErr result (filters_of self.new ≡ filters_of self.old) }
+        ensures err_given { OnErr result (given_of self.new ≡ given_of self.old) }
+        ensures outputs { outputs_of self.new ≡ outputs_of self.old }
+    {
+        let number = self.given;
+        let next = next_number(number)?;
+        let plugged = PluggedFilter { number, filter };
+        add(self.alloc, &mut self.filters, name, plugged)?;
+        self.given = next;
+        Ok(())
+    }
+
+    /// Adds an output under a name of at most 255 bytes, behind those that have it. Where memory runs
+    /// out the rack is as it was.
+    pub fn add_output(
+        &mut self,
+        name: &str,
+        output: Box<dyn ForeignOutput>,
+    ) -> Result<(), AllocError>
+        requires { length name.now ≤ 255 }
+        ensures ok { OnOk result (outputs_of self.new
+            ≡ spec.with_box name.now (given_of self.old) (outputs_of self.old)) }
+        ensures given { OnOk result (given_of self.new ≡ given_of self.old + 1) }
+        ensures err { OnErr result (outputs_of self.new ≡ outputs_of self.old) }
+        ensures err_given { OnErr result (given_of self.new ≡ given_of self.old) }
+        ensures filters { filters_of self.new ≡ filters_of self.old }
+    {
+        let number = self.given;
+        let next = next_number(number)?;
+        let plugged = PluggedOutput { number, output };
+        add(self.alloc, &mut self.outputs, name, plugged)?;
+        self.given = next;
+        Ok(())
+    }
+
+    /// How many boxes of a name are left, filters and outputs together, as far as a number of 64 bits
+    /// counts.
+    pub fn left(&self, name: &str) -> usize
+        ensures { result ≡ min (length (spec.left_of name.now (filters_of self.now))
+            + length (spec.left_of name.now (outputs_of self.now))) (2 ^ 64 - 1) }
+    {
+        self.filters_left(name)
+            .saturating_add(self.outputs_left(name))
+    }
+
+    /// How many filters of a name are left.
+    pub fn filters_left(&self, name: &str) -> usize
+        ensures { result ≡ length (spec.left_of name.now (filters_of self.now)) }
+    {
+        count_left(self.filters.as_slice(), name)
+    }
+
+    /// How many outputs of a name are left.
+    pub fn outputs_left(&self, name: &str) -> usize
+        ensures { result ≡ length (spec.left_of name.now (outputs_of self.now)) }
+    {
+        count_left(self.outputs.as_slice(), name)
+    }
+
+    /// Whether a filter of the name was ever added.
+    pub fn knows_filter(&self, name: &str) -> bool
+        ensures { result ≡ spec.is_known name.now (filters_of self.now) }
+    {
+        is_known(self.filters.as_slice(), name)
+    }
+
+    /// Whether an output of the name was ever added.
+    pub fn knows_output(&self, name: &str) -> bool
+        ensures { result ≡ spec.is_known name.now (outputs_of self.now) }
+    {
+        is_known(self.outputs.as_slice(), name)
+    }
+
+    /// Has a filter of a name that is left read settings, where it stands. Nothing is drawn.
+    pub fn configure_filter(
+        &mut self,
+        name: &str,
+        at: usize,
+        settings: &Settings,
+    ) -> Result<(), FromFault>
+        requires { at < length (spec.left_of name.now (filters_of self.old)) }
+        ensures answers { AnswersAt (refusals_of name.now
+            (filter_refusals (λ p. (ForeignFilter-box p.filter).refusal p.filter.value) self.old))
+            at settings.now.list result }
+        ensures refusals { filter_refusals
+            (λ p. (ForeignFilter-box p.filter).refusal p.filter.value) self.new
+            ≡ filter_refusals (λ p. (ForeignFilter-box p.filter).refusal p.filter.value) self.old }
+        ensures filters { filters_of self.new ≡ filters_of self.old }
+        ensures outputs { outputs_of self.new ≡ outputs_of self.old }
+        ensures given { given_of self.new ≡ given_of self.old }
+    {
+        configure(&mut self.filters, name, at, settings)
+    }
+
+    /// Has an output of a name that is left read settings, where it stands. Nothing is drawn.
+    pub fn configure_output(
+        &mut self,
+        name: &str,
+        at: usize,
+        settings: &Settings,
+    ) -> Result<(), FromFault>
+        requires { at < length (spec.left_of name.now (outputs_of self.old)) }
+        ensures answers { AnswersAt (refusals_of name.now
+            (output_refusals (λ p. (ForeignOutput-box p.output).refusal p.output.value) self.old))
+            at settings.now.list result }
+        ensures refusals { output_refusals
+            (λ p. (ForeignOutput-box p.output).refusal p.output.value) self.new
+            ≡ output_refusals (λ p. (ForeignOutput-box p.output).refusal p.output.value) self.old }
+        ensures outputs { outputs_of self.new ≡ outputs_of self.old }
+        ensures filters { filters_of self.new ≡ filters_of self.old }
+        ensures given { given_of self.new ≡ given_of self.old }
+    {
+        configure(&mut self.outputs, name, at, settings)
+    }
+
+    /// Takes the last filter of a name. None exactly where none is left.
+    pub fn draw_filter(&mut self, name: &str) -> Option<PluggedFilter>
+        ensures some { IfSome result
+            (λ _. filters_of self.new ≡ spec.drawn name.now (filters_of self.old)) }
+        ensures last { IfSome result
+            (λ p. IsLast p.number (spec.left_of name.now (filters_of self.old))) }
+        ensures own { IfSome result
+            (λ p. IsOut (given_of self.new) (filters_of self.new) (outputs_of self.new) p.number) }
+        ensures none { IfNone result (spec.left_of name.now (filters_of self.old) ≡ []) }
+        ensures same { IfNone result (filters_of self.new ≡ filters_of self.old) }
+        ensures outputs { outputs_of self.new ≡ outputs_of self.old }
+        ensures given { given_of self.new ≡ given_of self.old }
+    {
+        draw(&mut self.filters, name)
+    }
+
+    /// Puts a filter back under the name under which it was drawn. It takes no memory.
+    pub fn give_back_filter(&mut self, name: &str, filter: PluggedFilter)
+        requires out { 0 < spec.out_of name.now (filters_of self.old) }
+        requires own { IsOut (given_of self.old) (filters_of self.old)
+            (outputs_of self.old) filter.number }
+        ensures filters { filters_of self.new
+            ≡ spec.given_back name.now filter.number (filters_of self.old) }
+        ensures outputs { outputs_of self.new ≡ outputs_of self.old }
+        ensures given { given_of self.new ≡ given_of self.old }
+    {
+        give_back(&mut self.filters, name, filter);
+    }
+
+    /// Takes the last output of a name. None exactly where none is left.
+    pub fn draw_output(&mut self, name: &str) -> Option<PluggedOutput>
+        ensures some { IfSome result
+            (λ _. outputs_of self.new ≡ spec.drawn name.now (outputs_of self.old)) }
+        ensures last { IfSome result
+            (λ p. IsLast p.number (spec.left_of name.now (outputs_of self.old))) }
+        ensures own { IfSome result
+            (λ p. IsOut (given_of self.new) (filters_of self.new) (outputs_of self.new) p.number) }
+        ensures none { IfNone result (spec.left_of name.now (outputs_of self.old) ≡ []) }
+        ensures same { IfNone result (outputs_of self.new ≡ outputs_of self.old) }
+        ensures filters { filters_of self.new ≡ filters_of self.old }
+        ensures given { given_of self.new ≡ given_of self.old }
+    {
+        draw(&mut self.outputs, name)
+    }
+
+    /// Puts an output back under the name under which it was drawn. It takes no memory.
+    pub fn give_back_output(&mut self, name: &str, output: PluggedOutput)
+        requires out { 0 < spec.out_of name.now (outputs_of self.old) }
+        requires own { IsOut (given_of self.old) (filters_of self.old)
+            (outputs_of self.old) output.number }
+        ensures outputs { outputs_of self.new
+            ≡ spec.given_back name.now output.number (outputs_of self.old) }
+        ensures filters { filters_of self.new ≡ filters_of self.old }
+        ensures given { given_of self.new ≡ given_of self.old }
+    {
+        give_back(&mut self.outputs, name, output);
+    }
+}
+
+fn next_number(number: u64) -> Result<u64, AllocError>
+    ensures { IfOk result (λ next. next ≡ number + 1) }
+{
+    number.checked_add(1).ok_or(AllocError)
+}
