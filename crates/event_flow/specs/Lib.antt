@@ -1,0 +1,5 @@
+pub mod Ids
+pub mod Places
+pub mod Flows
+pub mod Parts
+pub mod Meaning
