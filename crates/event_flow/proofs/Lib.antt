@@ -1,1 +1,4 @@
 pub mod Statements
+pub mod StepMeaning
+pub mod Layings
+pub mod Blocks

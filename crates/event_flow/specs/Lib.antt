@@ -3,3 +3,5 @@ pub mod Places
 pub mod Flows
 pub mod Parts
 pub mod Meaning
+pub mod Steps
+pub mod Laying

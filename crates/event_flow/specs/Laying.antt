@@ -1,0 +1,53 @@
+-- Steps that are laid for statements.
+use Rattle.std.specs.Prelude.{◌≡◌, ℕ, ◌+◌, List, [], ◌∷◌, ◌++◌, length, Option, Some, None}
+use Rattle.event_tree.specs.Events.{Ev}
+use Rattle.config_tree.specs.declared.tree.Plugin.{Plugin}
+use Rattle.config_tree.specs.declared.tree.Condition.{Condition}
+use Rattle.condition_eval.specs.Truths.{truth}
+use Rattle.event_flow.specs.Flows.{Goes}
+use Rattle.event_flow.specs.Parts.{Part, Section}
+use Rattle.event_flow.specs.Steps.{Table, Mean, acted}
+use Rattle.event_flow.specs.declared.step.Step.{Step}
+use Rattle.event_flow.specs.declared.step.Step.TheVariants as step
+use Rattle.event_flow.specs.declared.block.Block.{Block}
+use Rattle.event_flow.specs.declared.block.Laid.{Laid}
+
+-- the plugins of a table from the number n on are these, which a section counts from k on
+abbrev pub HasPlugins : Section → Table → ℕ → ℕ → List Plugin → Type 0
+HasPlugins section table n k [] = Unit {0}
+HasPlugins section table n k (p ∷ ps) = ((goes : Goes) (e : Ev) → acted (table.acts n e) goes e ≡ section.meets k p goes e) × HasPlugins section table (n + 1) (k + 1) ps
+
+-- the conditions of a table from the number t on are these, which a section counts from u on
+abbrev pub HasConditions : Section → Table → ℕ → ℕ → List Condition → Type 0
+HasConditions section table t u [] = Unit {0}
+HasConditions section table t u (c ∷ cs) = ((e : Ev) → table.says t e ≡ truth c e) × (table.ids t ≡ section.condition_id u) × HasConditions section table (t + 1) (u + 1) cs
+
+-- by any table that has the plugins and conditions of a part, the steps mean what the part does; and these are the next numbers
+pub record Lays (p : Part) (n t : ℕ) (ss : List Step) (n' t' : ℕ) : Type 0 where
+  pub plugins : n' ≡ n + length p.plugins
+  pub conditions : t' ≡ t + length p.conditions
+  pub means : (section : Section) (table : Table) (k u : ℕ) → HasPlugins section table n k p.plugins → HasConditions section table t u p.conditions → Mean table ss (p.flow section k u)
+
+abbrev pub IsLaid : Part → ℕ → ℕ → Laid → Type 0
+IsLaid p n t laid = Lays p n t laid.steps laid.plugin laid.condition
+
+-- the number of an arm's condition, and how many conditions that is
+abbrev pub number_of : Option Condition → ℕ → Option ℕ
+number_of None t = None
+number_of (Some c) t = Some t
+
+abbrev pub count : Option ℕ → ℕ
+count None = 0
+count (Some t) = 1
+
+-- a block in front of the arms behind it
+abbrev pub opening : Option ℕ → ℕ → List Step
+opening None n = []
+opening (Some t) n = step.Test t (n + 1) ∷ []
+
+abbrev pub with_block : Block → List Step → List Step
+with_block b rest = opening b.condition (length b.steps) ++ b.steps ++ step.Skip (length rest) ∷ rest
+
+abbrev pub assembled : List Block → List Step → List Step
+assembled [] rest = rest
+assembled (b ∷ bs) rest = with_block b (assembled bs rest)

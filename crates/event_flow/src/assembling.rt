@@ -1,0 +1,55 @@
+ghost use Rattle.std.specs.Prelude.{◌≡◌, ◌+◌, ◌++◌, [], IfOk, OnOk, reverse};
+ghost use Rattle.event_flow.specs.Laying as spec;
+ghost use Rattle.event_flow.specs.Laying.{assembled};
+
+use crate::block::Block;
+use crate::step::Step;
+use plain_data::Items;
+use std::alloc::{AllocError, Global};
+
+/// The sum. One that no number of 64 bits holds is told as want of memory: no list is as long.
+pub(crate) fn more(number: u64, by: u64) -> Result<u64, AllocError>
+    ensures { IfOk result (λ sum. sum ≡ number + by) }
+{
+    match number.checked_add(by) {
+        Some(sum) => Ok(sum),
+        None => Err(AllocError),
+    }
+}
+
+/// The steps of a branch, of the blocks of its arms. They are put together from the last on, so that
+/// each step is moved three times at most.
+pub(crate) fn assemble(alloc: Global, blocks: Items<Block>) -> Result<Items<Step>, AllocError>
+    ensures { IfOk result (λ steps. steps ≡ assembled blocks []) }
+{
+    let mut back = Items::new(alloc);
+    let mut left = blocks;
+    while let Some(block) = left.pop() {
+        put_block(&mut back, block)?;
+    }
+    let mut steps = back.into_vec();
+    steps.reverse();
+    Ok(Items::from_vec(steps))
+}
+
+// A block in front of the arms behind it, from its end on.
+fn put_block(back: &mut Items<Step>, block: Block) -> Result<(), AllocError>
+    ensures { OnOk result (reverse back.new ≡ spec.with_block block (reverse back.old)) }
+{
+    let Block { condition, steps } = block;
+    let length = steps.len() as u64;
+    back.push(Step::Skip(back.len() as u64))?;
+    put_back(back, steps)?;
+    if let Some(number) = condition {
+        back.push(Step::Test(number, more(length, 1)?))?;
+    }
+    Ok(())
+}
+
+fn put_back(back: &mut Items<Step>, steps: Items<Step>) -> Result<(), AllocError>
+    ensures { OnOk result (back.new ≡ back.old ++ reverse steps) }
+{
+    let mut steps = steps.into_vec();
+    steps.reverse();
+    back.append(Items::from_vec(steps))
+}
