@@ -24,7 +24,7 @@ unfolding AllText
 all_text [] text = refl
 all_text (f ∷ fs) text = rw (is_utf8-from_IsUtf8 f text.0) (all_text fs text.1)
 
-both_of : (a b : Bool) → (a && b) ≡ true → (a ≡ true) × (b ≡ true)
+pub both_of : (a b : Bool) → (a && b) ≡ true → (a ≡ true) × (b ≡ true)
 both_of true b is = (refl, is)
 both_of false b is = absurd (false≢true is)
 
@@ -33,7 +33,7 @@ unfolding AllText
 text_all [] is = tt
 text_all (f ∷ fs) is = let parts = both_of _ _ is in (IsUtf8-from_is_utf8 f parts.0, text_all fs parts.1)
 
-text_row_of : (row : Row) → AllText row → text_row row ≡ Some row
+pub text_row_of : (row : Row) → AllText row → text_row row ≡ Some row
 text_row_of row text = rw (all_text row text) refl
 
 no_text_row : (row : Row) → ¬ (AllText row) → text_row row ≡ None

@@ -1,6 +1,8 @@
 //! The fields of a text that is one row of CSV (RFC 4180), read by the crate `csv`.
 #![tactic(auto)]
 
+mod laws;
+
 ghost use Rattle.std.specs.Prelude.{◌≡◌, ℕ, List, [], Some, IfOk};
 ghost use Rattle.csv.specs.Machine.{next_record};
 ghost use Rattle.csv.specs.Reading.{reader_config, reader_state, strip_bom};
@@ -10,6 +12,7 @@ ghost use Rattle.csv_row.specs.Readers as readers;
 ghost use Rattle.csv_row.specs.Rows as spec;
 
 use csv::{ErrorKind, Reader, ReaderBuilder, StringRecord};
+pub use laws::rows_are_text;
 use plain_data::{Names, Text};
 use std::alloc::{AllocError, Global};
 

@@ -3,3 +3,4 @@ pub mod KvText
 pub mod KvViews
 pub mod Targets
 pub mod Kv
+pub mod Csv

@@ -1,11 +1,13 @@
-//! The filters `json` and `kv`: a text becomes fields.
+//! The filters `json`, `csv` and `kv`: a text becomes fields.
 #![tactic(auto)]
 
+mod csv_filter;
 mod json_filter;
 mod kv_filter;
 mod kv_text;
 mod target;
 
+pub use csv_filter::{Column, Csv};
 pub use filter_settings::Applied;
 pub use json_filter::Json;
 pub use kv_filter::Kv;

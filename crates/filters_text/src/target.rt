@@ -1,4 +1,4 @@
-ghost use Rattle.std.specs.Prelude.{◌≡◌, ◌++◌, ◌∷◌, [], IfOk, OnOk};
+ghost use Rattle.std.specs.Prelude.{◌≡◌, ◌<◌, ◌++◌, ◌∷◌, [], length, IfOk, OnOk};
 ghost use Rattle.std.specs.Option.{option_copied};
 ghost use Rattle.event_tree.specs.PathTexts.{way_of};
 ghost use Rattle.filters_text.specs.Targets as spec;
@@ -27,7 +27,8 @@ fn field_in(target: &Path, name: Text) -> Result<Path, AllocError>
 
 /// The parts of a path, as they are written.
 pub(crate) fn written(alloc: Global, path: &Path) -> Result<Names, AllocError>
-    ensures { IfOk result (λ parts. parts ≡ spec.written path.now) }
+    ensures value { IfOk result (λ parts. parts ≡ spec.written path.now) }
+    ensures some { IfOk result (λ parts. 0 < length parts) }
 {
     let mut parts = Names::with_capacity(alloc, path.parts().len().saturating_add(1))?;
     if path.is_meta() {
@@ -44,4 +45,20 @@ fn add_parts(parts: &mut Names, more: &[Text]) -> Result<(), AllocError>
         parts.push(part.copy()?)?;
     }
     Ok(())
+}
+
+/// A path under another.
+pub(crate) fn path_under(alloc: Global, target: &Path, path: &Path) -> Result<Path, AllocError>
+    ensures { IfOk result (λ joined. joined ≡ spec.path_under target.now path.now) }
+{
+    let mut parts = written(alloc, target)?;
+    parts.append(written(alloc, path)?)?;
+    Ok(Path::of_parts(parts))
+}
+
+/// Whether two paths have the same parts.
+pub(crate) fn is_same(path: &Path, other: &Path) -> bool
+    ensures { result ≡ spec.same_path path.now other.now }
+{
+    path.is_meta() == other.is_meta() && path.parts() == other.parts()
 }
