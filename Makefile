@@ -31,6 +31,7 @@ bench: all
 	bash bench/parse.sh
 	bash bench/conditions.sh
 	bash bench/filters.sh
+	bash bench/parsing.sh
 	bash bench/growth.sh
 	bash bench/store.sh
 	bash bench/page.sh
