@@ -37,20 +37,25 @@ fn counts(kind: ErrorKind, want: Result<Step, Failed>, faults: u64, waits: u64) 
     reads(&mut source, &mut [b'-'; 2], want) && (source.faults(), source.waits()) == (faults, waits)
 }
 
-#[test]
-fn a_stdin_source_reads_its_reader(rt: HostRuntime) {
+// Three bytes are read into a room of two.
+fn reads_three() -> bool {
     let mut source = StdinSource::new(b"abc".as_slice());
     let mut room = [b'-'; 2];
+    reads(&mut source, &mut [], Ok(Step::Bytes(0)))
+        && reads(&mut source, &mut room, Ok(Step::Bytes(2)))
+        && reads(&mut source, &mut room, Ok(Step::Bytes(1)))
+        && &room == b"cb"
+        && reads(&mut source, &mut room, Ok(Step::End))
+}
+
+#[test]
+fn a_stdin_source_reads_its_reader(rt: HostRuntime) {
+    assert!(rt; reads_three());
     assert!(rt;
-        reads(&mut source, &mut [], Ok(Step::Bytes(0)))
-            && reads(&mut source, &mut room, Ok(Step::Bytes(2)))
-            && reads(&mut source, &mut room, Ok(Step::Bytes(1)))
+        counts(ErrorKind::WouldBlock, Ok(Step::NotYet), 0, 1)
+            && counts(ErrorKind::Interrupted, Ok(Step::NotYet), 0, 1)
+            && counts(ErrorKind::NotConnected, Err(Failed), 1, 0)
     );
-    assert_eq!(rt; &room, b"cb");
-    assert!(rt; reads(&mut source, &mut room, Ok(Step::End)));
-    assert!(rt; counts(ErrorKind::WouldBlock, Ok(Step::NotYet), 0, 1));
-    assert!(rt; counts(ErrorKind::Interrupted, Ok(Step::NotYet), 0, 1));
-    assert!(rt; counts(ErrorKind::NotConnected, Err(Failed), 1, 0));
 }
 
 // A writer that counts the bytes that reached it.
@@ -103,24 +108,34 @@ fn empties<W: Write>(sink: &mut WriteSink<W, &HostRuntime>, want: Result<(), Fai
     sink.flush() == want
 }
 
+// What is written reaches a writer behind a buffer once it is flushed.
+fn writes_behind_a_buffer(rt: &HostRuntime) -> io::Result<bool> {
+    let reached = Cell::new(0);
+    let mut sink = WriteSink::new(rt, BufWriter::new(rt.alloc(), Counting(&reached))?);
+    let written = hands_on(&mut sink, Ok(3)) && reached.get() == 0;
+    let flushed = empties(&mut sink, Ok(())) && reached.get() == 3;
+    Ok(written && flushed && sink.faults() == 0)
+}
+
+// Each error counts.
+fn fails_twice(rt: &HostRuntime) -> bool {
+    let mut sink = WriteSink::new(rt, Broken(ErrorKind::StorageFull));
+    hands_on(&mut sink, Err(Failed)) && empties(&mut sink, Err(Failed)) && sink.faults() == 2
+}
+
+// A writer that would block is called again.
+fn calls_again(rt: &HostRuntime) -> bool {
+    let full = Full {
+        writes: 0,
+        flushes: 0,
+    };
+    let mut sink = WriteSink::new(rt, full);
+    hands_on(&mut sink, Ok(3)) && empties(&mut sink, Ok(()))
+}
+
 #[test]
 fn a_write_sink_writes_and_flushes_its_writer(rt: HostRuntime) -> Result<(), Fail> {
-    let reached = Cell::new(0);
-    let mut sink = WriteSink::new(&rt, BufWriter::new(rt.alloc(), Counting(&reached))?);
-    assert!(rt; hands_on(&mut sink, Ok(3)) && reached.get() == 0);
-    assert!(rt; empties(&mut sink, Ok(())) && reached.get() == 3);
-    assert_eq!(rt; sink.faults(), 0);
-    let mut sink = WriteSink::new(&rt, Broken(ErrorKind::StorageFull));
-    assert!(rt; hands_on(&mut sink, Err(Failed)) && empties(&mut sink, Err(Failed)));
-    assert_eq!(rt; sink.faults(), 2);
-    let mut sink = WriteSink::new(
-        &rt,
-        Full {
-            writes: 0,
-            flushes: 0,
-        },
-    );
-    assert!(rt; hands_on(&mut sink, Ok(3)) && empties(&mut sink, Ok(())));
+    assert!(rt; writes_behind_a_buffer(&rt)? && fails_twice(&rt) && calls_again(&rt));
     Ok(())
 }
 

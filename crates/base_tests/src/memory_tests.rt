@@ -1,6 +1,5 @@
 use crate::tables::files_of;
-use std::alloc::AllocError;
-use std::test::Fail;
+use std::alloc::{AllocError, Global};
 use store_disk::{
     Failed, Instant, ListClock, ListControl, MemoryFiles, MemorySink, MemorySource, Said, Script,
     Showing, Step, write_all,
@@ -128,20 +127,31 @@ fn sees_each_change(files: &mut MemoryFiles) -> bool {
 }
 
 #[test]
-fn memory_files_change_between_calls(rt: HostRuntime) -> Result<(), Fail> {
+fn memory_files_change_between_calls(rt: HostRuntime) -> Result<(), AllocError> {
     let alloc = rt.alloc();
+    let mut files = MemoryFiles::new(alloc, contents(alloc)?, Script::new(alloc, &[2], &[])?);
+    assert!(rt; sees_each_change(&mut files) && lists_one(&mut files, alloc));
+    Ok(())
+}
+
+fn contents(alloc: Global) -> Result<Vec<Showing>, AllocError> {
     let mut contents = Vec::new(alloc);
     for (from, bytes) in [(1, b"old".as_slice()), (4, b"newer")] {
         let files = files_of(alloc, &[FILE], bytes)?;
-        contents
-            .push(Showing { from, files })
-            .map_err(|_| "no memory")?;
+        if contents.push(Showing { from, files }).is_err() {
+            return Err(AllocError);
+        }
     }
-    let mut files = MemoryFiles::new(alloc, contents, Script::new(alloc, &[2], &[])?);
-    assert!(rt; sees_each_change(&mut files));
-    assert_eq!(rt; files.list(alloc, "c").ok().ok_or("no names")?.len(), 1);
-    assert_eq!(rt; (files.script().made(), files.script().faults()), (6, 1));
-    Ok(())
+    Ok(contents)
+}
+
+// One file stands in the folder, and six calls were made, of which one failed.
+fn lists_one(files: &mut MemoryFiles, alloc: Global) -> bool {
+    let is_one = match files.list(alloc, "c") {
+        Ok(names) => names.len() == 1,
+        Err(_) => false,
+    };
+    is_one && (files.script().made(), files.script().faults()) == (6, 1)
 }
 
 fn says(control: &mut ListControl, want: Said) -> bool {
