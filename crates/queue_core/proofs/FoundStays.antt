@@ -1,5 +1,5 @@
 -- What a stop leaves of a folder at rest while its pages are read.
-use Rattle.std.proofs.Common.{◌≡◌, ◌≢◌, ⊎_elim, ℕ, true, IsTrue, List, Option, Ok, sym, ◌∙◌, ap, subst, arith}
+use Rattle.std.proofs.Common.{◌≡◌, ◌≢◌, inl, ⊎_elim, ℕ, true, IsTrue, List, Option, Ok, sym, ◌∙◌, ap, subst, arith}
 use Rattle.io_traits.specs.Reads.{bytes_of}
 use Rattle.store_trait.specs.Images.{Image, FileImage, IsAtRest, at_rest}
 use Rattle.store_trait.specs.Moments.{MayLeaveNow, EachMoment, LeavesBeside, ImagesTell}
@@ -23,7 +23,7 @@ use Rattle.queue_core.proofs.TornMarks.{number_of}
 pub same_found : (a b : Folder) (s : PageState) → told (a head) ≡ Ok s → ((role : Role) → role ≢ page s.page → b role ≡ a role) → opened true s (bytes_of (b (page s.page))) ≡ opened true s (bytes_of (a (page s.page)))
     → found b ≡ found a
 same_found a b s tells same opens =
-    found_goes_by_pages a b s tells (ap told (same head (λ is. absurd cc)) ∙ tells) (λ n less. same (page n) (λ is. absurd (omega (arith, less, ap number_of is)))) (λ n less. same (checkpoint n) (λ is. absurd cc)) opens
+    found_goes_by_pages a b s tells (ap told (same head (λ is. absurd cc)) ∙ tells) (λ n less. same (page n) (λ is. absurd (omega (arith, less, ap number_of is)))) (λ n less. inl (same (checkpoint n) (λ is. absurd cc))) opens
 
 module _ {S : Type 0} (store : StoreWords S) (tell : ImagesTell store) (names : Names) (apart : AreApart names) (s : PageState) (s0 : S) (rests : (i : Image) → MayLeaveNow store s0 i → IsAtRest (store.seen s0) i)
     (tells : IsTrue store.tells → told (store.seen s0 (names head)) ≡ Ok s) where

@@ -9,6 +9,7 @@ pub mod Collecting
 pub mod Fallings
 pub mod ScanReads
 pub mod FoundStays
+pub mod Removals
 pub mod StandingPages
 pub mod FirstRun
 pub mod RollRun

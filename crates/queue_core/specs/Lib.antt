@@ -5,3 +5,4 @@ pub mod Telling
 pub mod Collected
 pub mod Opening
 pub mod Reading
+pub mod Removing

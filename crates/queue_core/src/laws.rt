@@ -1,6 +1,7 @@
 //! What holds of the steps of a queue. Each function here does nothing: its clauses are theorems.
 ghost use Rattle.queue_core.specs.Marks.{MarksKeep, MarksRecord};
 ghost use Rattle.queue_core.specs.Reading.{PagesAreFound};
+ghost use Rattle.queue_core.specs.Removing.{UnreadFilesMayGo};
 
 /// Whatever a stop leaves while the marks of a queue are written holds the queue, and once they are written
 /// all of it is recorded.
@@ -13,4 +14,10 @@ pub fn marks_keep_the_queue()
 /// holds.
 pub fn the_pages_that_stand_are_found()
     ensures { PagesAreFound }
+{}
+
+/// Pages above the head, checkpoints from it on and checkpoints without a page may go, each for itself: what a
+/// folder holds stays.
+pub fn unread_files_may_go()
+    ensures { UnreadFilesMayGo }
 {}

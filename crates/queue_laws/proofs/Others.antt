@@ -1,5 +1,5 @@
 -- What a folder holds goes by the pages up to the head.
-use Rattle.std.proofs.Common.{◌≡◌, ℕ, zero, suc, ◌+◌, ◌<◌, nat_lt, true, false, List, [], ◌∷◌, ◌++◌, Option, Some, Result, Ok, Err, refl, sym, ◌∙◌, ap, arith, if◌then◌else◌}
+use Rattle.std.proofs.Common.{◌≡◌, ◌⊎◌, ⊎_elim, ℕ, zero, suc, ◌+◌, ◌<◌, nat_lt, true, false, List, [], ◌∷◌, ◌++◌, Option, Some, None, Result, Ok, Err, refl, sym, ◌∙◌, ap, arith, if◌then◌else◌}
 use Rattle.std.proofs.Math.Path.{ap₂}
 use Rattle.io_traits.specs.Reads.{bytes_of}
 use Rattle.store_disk.specs.declared.pages.PageState.{PageState}
@@ -12,13 +12,18 @@ use Rattle.queue_laws.specs.Laws.{FoundGoesByPages}
 use Rattle.queue_laws.proofs.Kept.{found_as}
 
 module _ (a b : Folder) where
-  held_same : (count from : ℕ) → ((n : ℕ) → n < from + count → b (page n) ≡ a (page n)) → ((n : ℕ) → n < from + count → b (checkpoint n) ≡ a (checkpoint n))
+  held_same : (count from : ℕ) → ((n : ℕ) → n < from + count → b (page n) ≡ a (page n)) → ((n : ℕ) → n < from + count → (b (checkpoint n) ≡ a (checkpoint n)) ⊎ (a (page n) ≡ None))
       → held count from b ≡ held count from a
   held_same zero from pages slots = refl
   held_same (suc count) from pages slots =
       let rest = held_same count (suc from) (λ n less. pages n (omega (arith, less))) (λ n less. slots n (omega (arith, less))) in
       ap (held_by from (b (checkpoint from)) (b (page from))) rest
-      ∙ ap₂ (λ (c p : Option (List ℕ)). held_by from c p (held count (suc from) a)) (slots from (omega arith)) (pages from (omega arith))
+      ∙ ⊎_elim
+      (λ same. ap₂ (λ (c p : Option (List ℕ)). held_by from c p (held count (suc from) a)) same (pages from (omega arith)))
+      (λ missing.
+      ap (λ (p : Option (List ℕ)). held_by from (b (checkpoint from)) p (held count (suc from) a)) (pages from (omega arith) ∙ missing)
+      ∙ sym (ap (λ (p : Option (List ℕ)). held_by from (a (checkpoint from)) p (held count (suc from) a)) missing))
+      (slots from (omega arith))
 
 module _ (s : PageState) (x y : List ℕ) where
   abbrev top_of : List ℕ → Held

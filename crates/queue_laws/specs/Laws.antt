@@ -1,5 +1,5 @@
 -- Laws of folders.
-use Rattle.std.specs.Prelude.{◌≡◌, ◌≤◌, ◌<◌, ℕ, true, List, [], ◌∷◌, ◌++◌, length, Option, Some, None, Ok}
+use Rattle.std.specs.Prelude.{◌≡◌, ◌⊎◌, ◌≤◌, ◌<◌, ℕ, true, List, [], ◌∷◌, ◌++◌, length, Option, Some, None, Ok}
 use Rattle.io_traits.specs.Reads.{bytes_of}
 use Rattle.crc_frame.specs.Slots.{newest_slot}
 use Rattle.store_trait.specs.Images.{Image, FileImage}
@@ -25,12 +25,12 @@ StandingIsKept = (q : Queue) (folder : Folder) → IsQueue q → Stands q folder
 abbrev pub NamesDiffer : Type 0
 NamesDiffer = (folder : List ℕ) → AreApart (names_in folder)
 
--- What is found goes by what the head slot tells, by the pages and checkpoints below the head that it names, and by what that page says when it
--- is opened. So pages above it, checkpoints from it on, and what stands behind the rows of the head page change nothing.
+-- What is found goes by what the head slot tells, by the pages below the head that it names and their checkpoints, and by what that page says when
+-- it is opened. So pages above it, checkpoints from it on or without a page, and what stands behind the rows of the head page change nothing.
 abbrev pub FoundGoesByPages : Type 0
 FoundGoesByPages =
     (a b : Folder) (s : PageState) → told (a head) ≡ Ok s → told (b head) ≡ Ok s → ((n : ℕ) → n < s.page → b (page n) ≡ a (page n))
-    → ((n : ℕ) → n < s.page → b (checkpoint n) ≡ a (checkpoint n))
+    → ((n : ℕ) → n < s.page → (b (checkpoint n) ≡ a (checkpoint n)) ⊎ (a (page n) ≡ None))
     → opened true s (bytes_of (b (page s.page))) ≡ opened true s (bytes_of (a (page s.page))) → found b ≡ found a
 
 -- ---- what a stop leaves of one file of a queue

@@ -1,0 +1,33 @@
+ghost use Rattle.std.specs.Prelude.{◌≡◌, List, ℕ, IsTrue, OnOk, IsErr};
+ghost use Rattle.io_traits.specs.Counts.{HasCause};
+ghost use Rattle.queue_core.specs.Removing.{RemovalLeaves, RemovesAll, without};
+
+use plain_data::Text;
+use store_disk::{Failed, Store};
+
+/// Removes files, and settles that. A stop at any moment leaves all other files of a store at rest as they
+/// were, and of these some.
+pub fn remove_files<S: Store>(store: &mut S, names: &[Text]) -> Result<(), Failed>
+    ensures any_moment { RemovalLeaves S.Store names.now store.old store.new }
+    ensures gone { OnOk result (RemovesAll S.Store names.now store.old store.new) }
+    ensures cause { HasCause (S.faults store.old) (S.faults store.new) (IsErr result) }
+{
+    remove_each(store, names)?;
+    store.sync()
+}
+
+/// Removes files, one after the other, and settles nothing.
+fn remove_each<S: Store>(store: &mut S, names: &[Text]) -> Result<(), Failed>
+    ensures any_moment { RemovalLeaves S.Store names.now store.old store.new }
+    ensures gone { OnOk result (IsTrue S.tells
+        → (name : List ℕ) → S.seen store.new name ≡ without names.now (S.seen store.old) name) }
+    ensures cause { HasCause (S.faults store.old) (S.faults store.new) (IsErr result) }
+{
+    for name in names {
+        match store.remove(name.as_str()) {
+            Ok(()) => {}
+            Err(failed) => return Err(failed),
+        }
+    }
+    Ok(())
+}
