@@ -3,6 +3,7 @@ use Rattle.std.specs.Prelude.{ℕ, List, [], ◌∷◌, ◌++◌, map, Bool, tru
 use Rattle.event_tree.specs.Events.{Ev}
 use Rattle.event_tree.specs.declared.lists.DeadPart.{DeadPart}
 use Rattle.condition_eval.specs.Texts.{reason_text}
+use Rattle.condition_eval.specs.declared.truth.Reason.{Reason}
 use Rattle.condition_eval.specs.declared.truth.Truth.{Truth}
 use Rattle.condition_eval.specs.declared.truth.Truth.TheVariants as truth
 use Rattle.foreign_parts.specs.declared.filter.Verdict.{Verdict}
@@ -79,8 +80,12 @@ filtered k (Asks events) goes e = asks k e (λ v. each goes (events v))
 abbrev pub sent : List ℕ → List Place → Goes → Goes
 sent id places goes e = behind (derives (map (λ place. To id place e) places)) (goes e)
 
+-- the letter of an event whose condition is wrong, with the condition's id
+abbrev pub wrong_letter : List ℕ → Reason → Ev → DeadPart
+wrong_letter id reason e = record { kind = codes "if"; id = id; reason = reason_text reason; event = e }
+
 -- where a condition leads an event: into its block, or to what stands behind that; where the condition is wrong the event is dead, and goes no further anywhere
 abbrev pub led : List ℕ → Truth → Goes → Goes → Goes
 led id truth.Yes block others e = block e
 led id truth.No block others e = others e
-led id (truth.Wrong reason) block others e = derives (Dead (record { kind = codes "if"; id = id; reason = reason_text reason; event = e }) ∷ [])
+led id (truth.Wrong reason) block others e = derives (Dead (wrong_letter id reason e) ∷ [])

@@ -4,9 +4,12 @@ use Rattle.event_tree.specs.Events.{Ev}
 use Rattle.config_tree.specs.declared.tree.Plugin.{Plugin}
 use Rattle.config_tree.specs.declared.tree.Condition.{Condition}
 use Rattle.condition_eval.specs.Truths.{truth}
-use Rattle.event_flow.specs.Flows.{Goes}
-use Rattle.event_flow.specs.Parts.{Part, Section}
-use Rattle.event_flow.specs.Steps.{Table, Mean, acted}
+use Rattle.config_tree.specs.declared.tree.Config.{Config}
+use Rattle.event_flow.specs.Flows.{Goes, nothing}
+use Rattle.event_flow.specs.Meaning.{Makes, filter_section, output_section, flow_of}
+use Rattle.event_flow.specs.Parts.{Part, Section, parts_of}
+use Rattle.event_flow.specs.Places.{Draws}
+use Rattle.event_flow.specs.Steps.{Table, Mean, acted, from}
 use Rattle.event_flow.specs.declared.step.Step.{Step}
 use Rattle.event_flow.specs.declared.step.Step.TheVariants as step
 use Rattle.event_flow.specs.declared.block.Block.{Block}
@@ -30,6 +33,17 @@ pub record Lays (p : Part) (n t : ℕ) (ss : List Step) (n' t' : ℕ) : Type 0 w
 
 abbrev pub IsLaid : Part → ℕ → ℕ → Laid → Type 0
 IsLaid p n t laid = Lays p n t laid.steps laid.plugin laid.condition
+
+-- a table has the plugins and conditions of a configuration: those of its filters from 0 on, and behind them those of its outputs
+pub record IsTableOf (makes : Makes) (config : Config) (draws : Draws) (table : Table) : Type 0 where
+  pub filters : HasPlugins (filter_section makes) table 0 1 (parts_of config.filters).plugins
+  pub filter_conditions : HasConditions (filter_section makes) table 0 1 (parts_of config.filters).conditions
+  pub outputs : HasPlugins (output_section draws) table (length (parts_of config.filters).plugins) 1 (parts_of config.outputs).plugins
+  pub output_conditions : HasConditions (output_section draws) table (length (parts_of config.filters).conditions) 1 (parts_of config.outputs).conditions
+
+-- by each table of a configuration, the steps do with an event what the configuration means
+pub record AreStepsOf (config : Config) (steps : List Step) : Type 0 where
+  pub mean : (makes : Makes) (draws : Draws) (table : Table) → IsTableOf makes config draws table → (e : Ev) → from table steps 0 (λ e. nothing) e ≡ flow_of makes config draws e
 
 -- the number of an arm's condition, and how many conditions that is
 abbrev pub number_of : Option Condition → ℕ → Option ℕ

@@ -5,3 +5,4 @@ pub mod Parts
 pub mod Meaning
 pub mod Steps
 pub mod Laying
+pub mod Marks

@@ -20,11 +20,12 @@ acted (Gives es) goes e = each goes es
 acted (Asks k events) goes e = asks k e (λ v. each goes (events v))
 acted (Sends id places) goes e = sent id places goes e
 
--- plugins and conditions by their numbers: what each does to an event and says of it, and the ids of the conditions
+-- plugins and conditions by their numbers: what each does to an event and says of it, the ids of the conditions, and the places of outputs, each behind the id of its output
 pub record Table : Type 0 where
   pub acts : ℕ → Ev → Act
   pub says : ℕ → Ev → Truth
   pub ids : ℕ → List ℕ
+  pub targets : ℕ → List ℕ × Place
 
 module _ (table : Table) where
   -- an event passes over so many steps, meets those behind them, and then goes on

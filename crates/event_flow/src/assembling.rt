@@ -17,8 +17,8 @@ pub(crate) fn more(number: u64, by: u64) -> Result<u64, AllocError>
     }
 }
 
-/// The steps of a branch, of the blocks of its arms. They are put together from the last on, so that
-/// each step is moved three times at most.
+/// The steps of a branch, of the blocks of its arms. They are put together from the last on, so
+/// that each step is moved three times at most.
 pub(crate) fn assemble(alloc: Global, blocks: Items<Block>) -> Result<Items<Step>, AllocError>
     ensures { IfOk result (λ steps. steps ≡ assembled blocks []) }
 {

@@ -2,14 +2,30 @@ ghost use Rattle.std.specs.Prelude.{◌≡◌, ◌+◌, ◌++◌, ◌∷◌, [],
 ghost use Rattle.event_flow.specs.declared.step.Step.TheVariants as step;
 ghost use Rattle.event_flow.specs.Parts.{parts_of, branch, part_of, arm_of};
 ghost use Rattle.event_flow.specs.Laying as spec;
-ghost use Rattle.event_flow.specs.Laying.{IsLaid};
+ghost use Rattle.event_flow.specs.Laying.{IsLaid, AreStepsOf};
 
 use crate::assembling::{assemble, more};
 use crate::block::{Block, Laid};
 use crate::step::Step;
-use config_tree::{Arm, Condition, Statement};
+use config_tree::{Arm, Condition, Config, Statement};
 use plain_data::Items;
 use std::alloc::{AllocError, Global};
+
+/// The steps of a configuration: those of its filters, and behind them those of its outputs, whose
+/// plugins and conditions are counted on from those of the filters.
+pub fn lay_config(alloc: Global, config: &Config) -> Result<Items<Step>, AllocError>
+    ensures { IfOk result (AreStepsOf config.now) }
+{
+    let filters = lay(alloc, config.filters.as_slice(), 0, 0)?;
+    let outputs = lay(
+        alloc,
+        config.outputs.as_slice(),
+        filters.plugin,
+        filters.condition,
+    )?;
+    let Laid { steps, .. } = joined(filters, outputs)?;
+    Ok(steps)
+}
 
 /// The steps of statements, whose plugins and conditions have the numbers from these on. It takes
 /// time in proportion to the statements, once for each level of branches.

@@ -4,10 +4,14 @@
 
 mod assembling;
 mod block;
+mod cell;
 pub mod laws;
 mod laying;
+mod running;
 mod step;
 
 pub use block::{Block, Laid};
-pub use laying::lay;
+pub use cell::{Cell, Outcome, Targets};
+pub use laying::{lay, lay_config};
+pub use running::{Kit, run};
 pub use step::Step;

@@ -1,0 +1,10 @@
+use Rattle.event_flow.specs.Marks.{marks}
+use Rattle.event_flow.proofs.Batches.{Same, Running}
+use Rattle.event_flow.proofs.running.run.Given as goal
+
+abbrev pub invariant-loop-step : goal.invariant-loop-step
+invariant-loop-step g l = record {
+  stands : g.K.Kit.stands l.kit;
+  same : Same (g.K.Kit.table l.fn.kit) (g.K.Kit.table l.kit) (g.K.Kit.may l.fn.kit) (g.K.Kit.may l.kit);
+  running : Running (g.K.Kit.table l.fn.kit) (g.K.Kit.may l.fn.kit) l.fn.steps l.fn.events (marks (g.K.Kit.table l.fn.kit) l.cells) l.step-index;
+}

@@ -1,0 +1,37 @@
+use condition_eval::Reason;
+use event_tree::{Event, Items};
+use foreign_parts::Verdict;
+
+/// The places of outputs to which an event was sent, by their numbers.
+pub type Targets = Items<u64>;
+
+/// What came of a batch so far, in order.
+#[derive(Drop)]
+pub enum Cell {
+    /// An event that passes over so many steps, and where it was sent so far.
+    At(u64, Event, Targets),
+    /// Something that no step changes.
+    Came(Outcome),
+}
+
+/// What came of an event, or was used for it, in the end.
+pub enum Outcome {
+    /// An event that goes no further, and where it was sent.
+    Gone(Event, Targets),
+    /// An event that is dead: the number of its condition, and why that is wrong; and where it was
+    /// sent.
+    Died(u64, Reason, Event, Targets),
+    /// A verdict that was used.
+    Used(Verdict),
+}
+
+// Written out, so that it is one call wherever an error is handed on while an outcome is held.
+impl Drop for Outcome {
+    fn drop(self) {
+        match self {
+            Outcome::Gone(_event, _targets) => {}
+            Outcome::Died(_, _reason, _event, _targets) => {}
+            Outcome::Used(_verdict) => {}
+        }
+    }
+}
