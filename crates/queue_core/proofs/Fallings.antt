@@ -1,5 +1,5 @@
 -- The first page whose least number is below the end of the numbers before it, page by page.
-use Rattle.std.proofs.Common.{◌≡◌, ℕ, zero, suc, ◌+◌, ◌<◌, ◌≤◌, nat_lt, true, false, List, [], ◌∷◌, ◌++◌, drop, map, Some, ◌∙◌, ap, subst, arith}
+use Rattle.std.proofs.Common.{◌≡◌, ℕ, zero, suc, ◌+◌, ◌<◌, ◌≤◌, nat_lt, true, false, List, [], ◌∷◌, ◌++◌, drop, map, Some, ◌∙◌, ap, subst, sym, arith}
 use Rattle.std.proofs.lemmas.Bool.{cond-true, cond-false}
 use Rattle.std.proofs.lemmas.Bool.Decides.{nat_tests}
 use Rattle.queue_laws.specs.Folders.{page, Folder}
@@ -20,9 +20,12 @@ bounded_at tails i t split all = (subst AllBounded split (from i tails all)).0
     from (suc i) [] all = tt
     from (suc i) (t ∷ tails) all = from i tails all.1
 
-pub one_bounded : (tails : List Tail) (t : Tail) → AllBounded tails → IsBounded t → AllBounded (tails ++ t ∷ [])
+one_bounded : (tails : List Tail) (t : Tail) → AllBounded tails → IsBounded t → AllBounded (tails ++ t ∷ [])
 one_bounded [] t all is = (is, tt)
 one_bounded (x ∷ tails) t all is = (all.0, one_bounded tails t all.1 is)
+
+pub bounded_more : (tails items : List Tail) (t : Tail) → items ≡ tails ++ t ∷ [] → AllBounded tails → IsBounded t → AllBounded items
+bounded_more tails items t more all is = subst AllBounded (sym more) (one_bounded tails t all is)
 
 module _ (folder : Folder) (end : ℕ) (tails : List Tail) (i : ℕ) (t : Tail) (last : Held) (split : drop i tails ≡ t ∷ drop (i + 1) tails) where
   pub falls_now : t.state.least < end → falling end (map (held_tail folder) (drop i tails) ++ last ∷ []) ≡ Some (page t.number, misfit 0 t.state.least end)

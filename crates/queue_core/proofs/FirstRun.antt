@@ -18,7 +18,7 @@ use Rattle.queue_laws.specs.Found.{nothing_found, found}
 use Rattle.queue_laws.specs.Kept.{state_at, IsSound, IsQueue}
 use Rattle.queue_laws.specs.Resting.{Held}
 use Rattle.queue_laws.specs.Steps.{first_page, first_queue}
-use Rattle.queue_laws.proofs.Recording.{fits_slot}
+use Rattle.queue_laws.proofs.Recording.{fits_slot, spelled_records}
 use Rattle.queue_laws.proofs.Kept.{standing_is_kept}
 use Rattle.queue_laws.proofs.SameFiles.{held_stands}
 use Rattle.queue_laws.proofs.NewFolders.{NewHead, new_head, new_is_empty, stays_new, first_is_held, first_is_empty}
@@ -120,7 +120,7 @@ module _ {S : Type 0} (store : StoreWords S) (tell : ImagesTell store) (names : 
           first_from told b others newest = first_is_held before b (new.is told)
               (λ n past. others (page n) (λ is. absurd cc) ∙ reads2 told (page n) (λ is. absurd (omega (arith, past, ap number_of is))))
               (λ n. others (checkpoint n) (λ is. absurd cc) ∙ reads2 told (checkpoint n) (λ is. absurd cc))
-              (others (page 0) (λ is. absurd cc) ∙ begun2 told) (record { fits = first_fits; newest = newest })
+              (others (page 0) (λ is. absurd cc) ∙ begun2 told) (spelled_records (bytes_of (b head)) 0 first_state first_fits newest)
 
           first_holds : (folder : Folder) → Held first_queue folder → found folder ≡ Ok nothing_found
           first_holds folder held = first_is_empty folder (standing_is_kept first_queue folder first_is (held_stands first_queue folder first_is held))

@@ -21,7 +21,7 @@ use Rattle.queue_laws.specs.Kept.{Queue, state_at, IsSound, IsQueue, Kept}
 use Rattle.queue_laws.specs.Resting.{Records, Held}
 use Rattle.queue_laws.specs.Steps.{next_top, rolled, CanRoll}
 use Rattle.queue_laws.specs.Changes.{SameFiles, IsRolled}
-use Rattle.queue_laws.proofs.Recording.{fits_slot, within_bounds, records_told, torn_records}
+use Rattle.queue_laws.proofs.Recording.{fits_slot, spelled_records, within_bounds, records_told, torn_records}
 use Rattle.queue_laws.proofs.Torn.{open_fits, next_fits}
 use Rattle.queue_laws.proofs.Kept.{standing_is_kept}
 use Rattle.queue_laws.proofs.Whole.{rising_top, resting_stands, resting_is_kept}
@@ -38,7 +38,7 @@ use Rattle.queue_core.proofs.Keeping.{at_rest_rests}
 -- the first slot of a file that is missing
 first_recorded : (s : PageState) → FitsSlot 0 s → Records (with_slot 0 (slot_spelling 0 s) []) 0 s
 first_recorded s fits =
-    record { fits = fits; newest = first_slot_is_read 48 [] (slot_spelling 0 s) (omega arith) (omega arith) (spelling_is_slot 0 s (omega arith)) }
+    spelled_records (with_slot 0 (slot_spelling 0 s) []) 0 s fits (first_slot_is_read 48 [] (slot_spelling 0 s) (omega arith) (omega arith) (spelling_is_slot 0 s (omega arith)))
 
 -- ---- folders
 

@@ -15,7 +15,7 @@ use Rattle.queue_laws.specs.Folders.{Role, head, page, checkpoint, Folder, Names
 use Rattle.queue_laws.specs.Kept.{Page, Queue, first_open_of, state_at, NoTail, IsSound, Rising, IsQueue}
 use Rattle.queue_laws.specs.Resting.{Records, TailHeld, TailsHeld, TopHeld, Held}
 use Rattle.queue_laws.specs.Steps.{marked, marked_pages, marked_page, recorded_page}
-use Rattle.queue_laws.proofs.Recording.{fits_slot}
+use Rattle.queue_laws.proofs.Recording.{fits_slot, spelled_records}
 use Rattle.queue_laws.proofs.Torn.{is_whole, open_fits, next_fits}
 use Rattle.queue_core.specs.Writes.{Write, write_of, due_of, writes_of, IsBeside, Wrote}
 use Rattle.queue_core.specs.Marks.{read_in, IsMarkOf, AreMarksOf, MarksRecord}
@@ -34,15 +34,11 @@ not_true false is = refl
 -- a slot that was written
 pub recorded : (file : List ℕ) (turn : ℕ) (s t : PageState) → Records file turn s → FitsSlot (next_turn turn) t → Records (with_slot (place_of 48 (next_turn turn)) (slot_spelling (next_turn turn) t) file) (next_turn turn) t
 recorded file turn s t r fits =
-    let old = slot_spelling turn s in
     let new = slot_spelling (next_turn turn) t in
-    let turn_is : (slot_of 48 old).turn ≡ turn = (spelling_is_slot turn s r.fits.turn_fits).turn_is in
     let slot : IsSlotOf 48 (next_turn turn) new = spelling_is_slot (next_turn turn) t fits.turn_fits in
-    record {
-      fits = fits;
-      newest = subst (λ n. NewestIs 48 (with_slot (place_of 48 (next_turn n)) new file) (slot_of 48 new) new) turn_is
-          (next_slot_is_read 48 file old new (slot_of 48 old) (omega arith) (omega (arith, turn_is, r.fits.turn_fits)) r.newest (subst (λ n. IsSlotOf 48 (next_turn n) new) (sym turn_is) slot));
-    }
+    spelled_records (with_slot (place_of 48 (next_turn turn)) new file) (next_turn turn) t fits
+    (subst (λ n. NewestIs 48 (with_slot (place_of 48 (next_turn n)) new file) (slot_of 48 new) new) r.turn_is
+    (next_slot_is_read 48 file r.bytes new r.slot (omega arith) (omega (arith, r.turn_is, r.fits.turn_fits)) r.newest (subst (λ n. IsSlotOf 48 (next_turn n) new) (sym r.turn_is) slot)))
 
 -- ---- the marked queue is one
 

@@ -1,20 +1,22 @@
 -- What a checkpoint tells, whose newest slot records a page.
-use Rattle.std.proofs.Common.{◌≡◌, ◌⊎◌, inl, inr, ⊎_elim, ℕ, ◌+◌, ◌<◌, ◌≤◌, ◌^◌, ◌==◌, nat_lt, false, List, length, Option, Some, Ok, sym, ◌∙◌, ap, subst, arith}
-use Rattle.std.proofs.lemmas.Bool.{cond-true, cond-false, eq-eqb}
+use Rattle.std.proofs.Common.{◌≡◌, ◌⊎◌, inl, inr, ⊎_elim, ℕ, ◌+◌, ◌<◌, ◌≤◌, ◌^◌, ◌==◌, nat_lt, false, List, length, Option, Some, Result, Ok, Err, sym, ◌∙◌, ap, subst, arith}
+use Rattle.std.proofs.lemmas.Bool.{cond-true, cond-false, cases_Bool, eqb-true, eq-eqb}
 use Rattle.std.proofs.lemmas.Bool.Decides.{nat_tests}
 use Rattle.io_traits.specs.Reads.{bytes_of}
-use Rattle.crc_frame.specs.Slots.{place_of, slot_of, next_turn, IsSlotOf, MayHoldSlot}
+use Rattle.crc_frame.specs.Slots.{place_of, slot_of, next_turn, IsSlotOf, MayHoldSlot, NewestIs}
 use Rattle.crc_frame.proofs.TornSlots.{next_slot_is_old_or_new}
 use Rattle.store_trait.specs.Images.{FileImage, at_rest}
 use Rattle.store_disk.specs.declared.pages.PageState.{PageState}
 use Rattle.queue_checkpoint.specs.Checkpoints.{FitsSlot, slot_spelling, says, version_at, version_of, slots_of}
+use Rattle.queue_checkpoint.specs.declared.checkpoint.Slots.{Slots}
 use Rattle.queue_checkpoint.proofs.SlotBytes.{read_version, read_state, spelling_is_slot}
-use Rattle.queue_checkpoint.proofs.FileReads.{newest_says}
+use Rattle.queue_checkpoint.proofs.FileReads.{newest_says, sayer}
 use Rattle.queue_checkpoint.proofs.SlotWrites.{may_hold}
 use Rattle.queue_page.specs.declared.row.PageRow.{PageRow}
-use Rattle.queue_laws.specs.Checkpoints.{bounded, told, told_by}
+use Rattle.queue_laws.specs.Checkpoints.{Misfit, misfit, bounded, told, told_by}
 use Rattle.queue_laws.specs.Kept.{Page, state_at, IsSound}
 use Rattle.queue_laws.specs.Resting.{Records, MayRecord}
+use Rattle.queue_laws.specs.Laws.{ReadIsRecorded}
 
 -- a state of a page is within its bounds
 pub within_bounds : (p : Page) (x len : ℕ) (rows : List PageRow) → IsSound p → length rows ≤ length p.rows → bounded (state_at p x rows len) ≡ Ok (state_at p x rows len)
@@ -39,10 +41,46 @@ fits_slot p turn x len rows sound turn_fits open_fits few short = record {
 pub records_told : (slots : Option (List ℕ)) (turn : ℕ) (s : PageState) → Records (bytes_of slots) turn s → bounded s ≡ Ok s → told slots ≡ Ok s
 records_told slots turn s r good =
     let file = bytes_of slots in
-    let spelling = slot_spelling turn s in
-    let newest : (slots_of file).newest ≡ Some ((slot_of 48 spelling).turn, says spelling) = newest_says file (slot_of 48 spelling) spelling r.newest in
-    let version : (slots_of file).version ≡ 1 = ap (version_at file) r.newest.is ∙ ap version_of r.newest.bytes_are ∙ read_version turn s in
-    ap (told_by (slots_of file)) newest ∙ cond-true _ _ _ (eq-eqb _ _ version) ∙ ap bounded (read_state turn s r.fits) ∙ good
+    let newest : (slots_of file).newest ≡ Some (r.slot.turn, says r.bytes) = newest_says file r.slot r.bytes r.newest in
+    let version : (slots_of file).version ≡ 1 = ap (version_at file) r.newest.is ∙ ap version_of r.newest.bytes_are ∙ r.version_is in
+    ap (told_by (slots_of file)) newest ∙ cond-true _ _ _ (eq-eqb _ _ version) ∙ ap bounded r.says_is ∙ good
+
+-- a slot as it is written
+pub spelled_records : (file : List ℕ) (turn : ℕ) (s : PageState) → FitsSlot turn s → NewestIs 48 file (slot_of 48 (slot_spelling turn s)) (slot_spelling turn s) → Records file turn s
+spelled_records file turn s fits newest = record {
+  fits = fits;
+  slot = slot_of 48 (slot_spelling turn s);
+  bytes = slot_spelling turn s;
+  newest = newest;
+  turn_is = (spelling_is_slot turn s fits.turn_fits).turn_is;
+  version_is = read_version turn s;
+  says_is = read_state turn s fits;
+}
+
+-- and as it is read
+version_told : (slots : Slots) (newest : ℕ × PageState) (s : PageState) → told_by slots (Some newest) ≡ Ok s → slots.version ≡ 1
+version_told slots newest s is = elim (cases_Bool (slots.version == 1)) [
+  | inl one ↦ eqb-true slots.version 1 one
+  | inr other ↦ absurd (not_ok (misfit 0 slots.version 1) s (sym (cond-false (slots.version == 1) (bounded newest.1) (Err (misfit 0 slots.version 1)) other) ∙ is))
+]
+  where
+    not_ok : (m : Misfit) (s : PageState) → ◌≡◌ {A = Result PageState Misfit} (Err m) (Ok s) → ⊥
+    not_ok m s is = absurd cc
+
+pub read_is_recorded : ReadIsRecorded
+read_is_recorded slots turn s fits said tells =
+    let file = bytes_of slots in
+    let w = sayer file turn s said in
+    let version : (slots_of file).version ≡ 1 = version_told (slots_of file) (turn, s) s (sym (ap (told_by (slots_of file)) said) ∙ tells) in
+    record {
+      fits = fits;
+      slot = w.newest;
+      bytes = w.bytes;
+      newest = w.is;
+      turn_is = w.turn_is;
+      version_is = sym (ap (version_at file) w.is.is ∙ ap version_of w.is.bytes_are) ∙ version;
+      says_is = w.says_it;
+    }
 
 -- a checkpoint that may have been written says what it said, or what was written
 pub torn_records : (slots : Option (List ℕ)) (turn : ℕ) (s t : PageState) (f : FileImage) → Records (bytes_of slots) turn s → FitsSlot (next_turn turn) t → MayRecord slots turn t f
@@ -50,15 +88,13 @@ pub torn_records : (slots : Option (List ℕ)) (turn : ℕ) (s t : PageState) (f
 torn_records slots turn s t f r fits may = ⊎_elim
     (λ (rests : f ≡ at_rest slots). inl (subst (λ (g : FileImage). Records (bytes_of g.file) turn s) (sym rests) r))
     (λ torn.
-    let old = slot_spelling turn s in
     let new = slot_spelling (next_turn turn) t in
-    let turn_is : (slot_of 48 old).turn ≡ turn = (spelling_is_slot turn s r.fits.turn_fits).turn_is in
     let holds : MayHoldSlot 48 (place_of 48 (next_turn turn)) new (bytes_of slots) (bytes_of f.file) = may_hold (next_turn turn) t fits slots f torn may.no_chance in
     let slot : IsSlotOf 48 (next_turn turn) new = spelling_is_slot (next_turn turn) t fits.turn_fits in
     ⊎_elim
-    (λ still. inl (record { fits = r.fits; newest = still }))
-    (λ written. inr (record { fits = fits; newest = written }))
-    (next_slot_is_old_or_new 48 (bytes_of slots) (bytes_of f.file) old new (slot_of 48 old) (omega arith) (omega (arith, turn_is, r.fits.turn_fits)) r.newest
-    (subst (λ n. IsSlotOf 48 (next_turn n) new) (sym turn_is) slot)
-    (subst (λ n. MayHoldSlot 48 (place_of 48 (next_turn n)) new (bytes_of slots) (bytes_of f.file)) (sym turn_is) holds)))
+    (λ still. inl (record { fits = r.fits; slot = r.slot; bytes = r.bytes; newest = still; turn_is = r.turn_is; version_is = r.version_is; says_is = r.says_is }))
+    (λ written. inr (spelled_records (bytes_of f.file) (next_turn turn) t fits written))
+    (next_slot_is_old_or_new 48 (bytes_of slots) (bytes_of f.file) r.bytes new r.slot (omega arith) (omega (arith, r.turn_is, r.fits.turn_fits)) r.newest
+    (subst (λ n. IsSlotOf 48 (next_turn n) new) (sym r.turn_is) slot)
+    (subst (λ n. MayHoldSlot 48 (place_of 48 (next_turn n)) new (bytes_of slots) (bytes_of f.file)) (sym r.turn_is) holds)))
     may.rests_or_torn

@@ -6,6 +6,7 @@ use Rattle.store_trait.specs.Images.{Image, FileImage}
 use Rattle.store_trait.specs.Chance.{NoChance}
 use Rattle.store_trait.specs.Tails.{passes}
 use Rattle.store_disk.specs.declared.pages.PageState.{PageState}
+use Rattle.queue_checkpoint.specs.Checkpoints.{FitsSlot, newest_in}
 use Rattle.queue_page.specs.Elements.{is_element}
 use Rattle.queue_page.specs.Pages.{opened}
 use Rattle.queue_page.specs.declared.row.PageRow.{PageRow}
@@ -32,6 +33,11 @@ FoundGoesByPages =
     (a b : Folder) (s : PageState) → told (a head) ≡ Ok s → told (b head) ≡ Ok s → ((n : ℕ) → n < s.page → b (page n) ≡ a (page n))
     → ((n : ℕ) → n < s.page → (b (checkpoint n) ≡ a (checkpoint n)) ⊎ (a (page n) ≡ None))
     → opened true s (bytes_of (b (page s.page))) ≡ opened true s (bytes_of (a (page s.page))) → found b ≡ found a
+
+-- what is read of a checkpoint is recorded there
+abbrev pub ReadIsRecorded : Type 0
+ReadIsRecorded =
+    (slots : Option (List ℕ)) (turn : ℕ) (s : PageState) → FitsSlot turn s → newest_in (bytes_of slots) ≡ Some (turn, s) → told slots ≡ Ok s → Records (bytes_of slots) turn s
 
 -- ---- what a stop leaves of one file of a queue
 

@@ -1,12 +1,13 @@
 -- What the files of a queue are between two calls, and what a stop may leave of each while a call changes it.
 use Rattle.std.specs.Prelude.{◌≡◌, ◌≢◌, ◌⊎◌, ◌≤◌, ◌<◌, ◌^◌, ℕ, ◌+◌, ⊤, List, [], ◌∷◌, ◌++◌, length, take, drop, Option, Some, None}
 use Rattle.io_traits.specs.Reads.{bytes_of}
-use Rattle.crc_frame.specs.Slots.{place_of, is_slot, slot_of, next_turn, NewestIs}
+use Rattle.crc_frame.specs.Slots.{place_of, is_slot, next_turn, NewestIs}
+use Rattle.crc_frame.specs.declared.slots.Slot.{Slot}
 use Rattle.store_trait.specs.Images.{Image, FileImage, TornFile, at_rest}
 use Rattle.store_trait.specs.Chance.{NoChance}
 use Rattle.store_trait.specs.Tails.{passes, TailImage}
 use Rattle.store_disk.specs.declared.pages.PageState.{PageState}
-use Rattle.queue_checkpoint.specs.Checkpoints.{FitsSlot, slot_spelling}
+use Rattle.queue_checkpoint.specs.Checkpoints.{FitsSlot, slot_spelling, version_of, says}
 use Rattle.queue_page.specs.Elements.{is_element}
 use Rattle.queue_page.specs.Grammar.{IsPage, AreElements}
 use Rattle.queue_laws.specs.Folders.{head, page, checkpoint, Folder, Names}
@@ -14,10 +15,15 @@ use Rattle.queue_laws.specs.Kept.{Page, Queue, first_open_of, state_at, NoTail}
 
 -- ---- checkpoint files
 
--- the newest slot of a checkpoint file is that of this turn, which says this
+-- the newest slot of a checkpoint file is of version 1 and of this turn, and says this
 pub record Records (file : List ℕ) (turn : ℕ) (s : PageState) : Type 0 where
   pub fits : FitsSlot turn s
-  pub newest : NewestIs 48 file (slot_of 48 (slot_spelling turn s)) (slot_spelling turn s)
+  pub slot : Slot
+  pub bytes : List ℕ
+  pub newest : NewestIs 48 file slot bytes
+  pub turn_is : slot.turn ≡ turn
+  pub version_is : version_of bytes ≡ 1
+  pub says_is : says bytes ≡ s
 
 -- a checkpoint file at rest, or in which the next slot is written, which says this; a stop may leave it torn, and no slot stands by chance
 pub record MayRecord (slots : Option (List ℕ)) (turn : ℕ) (s : PageState) (f : FileImage) : Type 0 where

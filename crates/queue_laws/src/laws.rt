@@ -1,5 +1,5 @@
 //! What holds of the folder of a queue. Each function here does nothing: its clauses are theorems.
-ghost use Rattle.queue_laws.specs.Laws.{StandingIsKept, NamesDiffer, FoundGoesByPages, TailsStand, MarkedHeadsStand, OpenHeadsStand, RestingIsKept, MarkingIsKept, StaysNew, FirstIsHeld, FirstIsEmpty, HeldStands, SameFilesStand, RolledIsQueue, RolledIsHeld, PurgedIsQueue, PurgedStands, PurgedIsHeld, MarkedKeeps, RowKeeps, RolledKeeps, PurgedKeeps};
+ghost use Rattle.queue_laws.specs.Laws.{StandingIsKept, NamesDiffer, FoundGoesByPages, ReadIsRecorded, TailsStand, MarkedHeadsStand, OpenHeadsStand, RestingIsKept, MarkingIsKept, StaysNew, FirstIsHeld, FirstIsEmpty, HeldStands, SameFilesStand, RolledIsQueue, RolledIsHeld, PurgedIsQueue, PurgedStands, PurgedIsHeld, MarkedKeeps, RowKeeps, RolledKeeps, PurgedKeeps};
 
 /// A folder whose files are those of a queue, each for itself, holds the rows of the queue.
 pub fn what_stands_is_kept()
@@ -15,6 +15,11 @@ pub fn names_differ()
 /// page change nothing of what a folder holds.
 pub fn what_is_found_goes_by_pages()
     ensures { FoundGoesByPages }
+{}
+
+/// What the newest slot of a checkpoint is read as is recorded there.
+pub fn what_is_read_is_recorded()
+    ensures { ReadIsRecorded }
 {}
 
 /// Whatever a stop leaves while marks are written, each page stands: its checkpoint says what it said before,

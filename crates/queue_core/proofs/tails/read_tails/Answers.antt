@@ -1,11 +1,10 @@
-use Rattle.std.proofs.Common.{◌∙◌, List, sym, subst}
+use Rattle.std.proofs.Common.{◌∙◌}
 use Rattle.std.proofs.lemmas.List.{drop_more}
 use Rattle.store_disk.proofs.Looking.{nothing_then}
 use Rattle.queue_laws.specs.Folders.{names_in}
 use Rattle.queue_core.specs.Marks.{read_in}
-use Rattle.queue_core.specs.Opening.{AllBounded, held_tail, held_at}
-use Rattle.queue_core.specs.declared.tails.Tail.{Tail}
-use Rattle.queue_core.proofs.Fallings.{one_bounded}
+use Rattle.queue_core.specs.Opening.{held_tail, held_at}
+use Rattle.queue_core.proofs.Fallings.{bounded_more}
 use Rattle.queue_core.proofs.Collecting.{item_lost, item_read}
 use Rattle.queue_core.proofs.tails.read_tails.Goals as goal
 
@@ -23,7 +22,7 @@ loop-number-preserved g c =
     let names = names_in c.args.folder.now in
     let at = c.loop-number.number-index in
     record {
-      bounded = subst AllBounded (sym {A = List Tail} c.in-Ok-push.ensures.items) (one_bounded c.loop-number.tails.items c.in-Ok.tail inv.bounded c.in-Ok.ensures.bounded);
+      bounded = bounded_more c.loop-number.tails.items c.push.new.self.items c.in-Ok.tail c.in-Ok-push.ensures.items inv.bounded c.in-Ok.ensures.bounded;
       same = nothing_then g.S.Store c.args.store.now c.loop-number.store c.read_tail.new.store inv.same c.read_tail.ensures.same;
       faults = c.in-Ok.ensures.cause.same (λ is. absurd cc) ∙ inv.faults;
       so_far = λ told. item_read (λ content. held_at (read_in names content)) (λ content. held_tail (read_in names content)) names (g.S.Store.seen c.args.store.now) (g.S.Store.seen c.loop-number.store) (inv.same.reads told)
