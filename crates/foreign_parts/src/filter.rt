@@ -1,4 +1,5 @@
-ghost use Rattle.std.specs.Prelude.{◌≡◌, ℕ, ◌+◌, Option, IfOk};
+ghost use Rattle.std.specs.Prelude.{◌≡◌, ℕ, Option, IfOk};
+ghost use Rattle.io_traits.specs.Counts.{one_more};
 ghost use Rattle.config_tree.specs.Joining.{Entries};
 ghost use Rattle.config_tree.specs.declared.fault.SettingFault.{SettingFault};
 ghost use Rattle.event_tree.specs.Events.{Ev};
@@ -52,7 +53,7 @@ pub trait ForeignFilter: Send + Drop {
     /// Whether it may make this of an event.
     ghost may: { Self → Ev → Verdict → Type 0 };
 
-    /// How often it was closed.
+    /// How often it was closed, as far as a number of 64 bits counts.
     ghost closes: { Self → ℕ };
 
     /// Reads the settings of the plugin that it is to be: all that stand in the text, those that
@@ -68,5 +69,5 @@ pub trait ForeignFilter: Send + Drop {
 
     /// Its last call.
     fn close(&mut self)
-        ensures { closes self.new ≡ closes self.old + 1 };
+        ensures { closes self.new ≡ one_more (closes self.old) };
 }

@@ -1,5 +1,5 @@
-ghost use Rattle.std.specs.Prelude.{◌≡◌, ◌<◌, ℕ, ◌+◌, List, [], Option, length};
-ghost use Rattle.io_traits.specs.Counts.{HasCause};
+ghost use Rattle.std.specs.Prelude.{◌≡◌, ◌<◌, ℕ, List, [], Option, length};
+ghost use Rattle.io_traits.specs.Counts.{HasCause, one_more};
 ghost use Rattle.io_traits.specs.Telling.{Grows};
 ghost use Rattle.config_tree.specs.Joining.{Entries};
 ghost use Rattle.config_tree.specs.declared.fault.SettingFault.{SettingFault};
@@ -71,7 +71,7 @@ pub trait ForeignOutput: Send + Drop {
     /// How often it answered that it takes events later.
     ghost laters: { Self → ℕ };
 
-    /// How often it was closed.
+    /// How often it was closed, as far as a number of 64 bits counts.
     ghost closes: { Self → ℕ };
 
     /// Reads the settings of the plugin that it is to be: all that stand in the text, `id` among
@@ -98,5 +98,5 @@ pub trait ForeignOutput: Send + Drop {
         ensures held { Grows (held self.old) (held self.new) [] }
         ensures faults { faults self.new ≡ faults self.old }
         ensures laters { laters self.new ≡ laters self.old }
-        ensures closes { closes self.new ≡ closes self.old + 1 };
+        ensures closes { closes self.new ≡ one_more (closes self.old) };
 }
