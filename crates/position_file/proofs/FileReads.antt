@@ -1,18 +1,16 @@
 -- What a position file records.
-use Rattle.std.proofs.Common.{◌≡◌, ◌≢◌, ◌⊎◌, ◌==◌, inl, inr, ⊎_elim, ℕ, ◌+◌, ◌-◌, ◌%◌, ◌<◌, ◌≤◌, ◌^◌, nat_lt, true, false, List, length, take, drop, Option, Some, None, if◌then◌else◌, refl, sym, ap, ◌∙◌, arith, subst, length-take, take-take}
-use Rattle.std.proofs.Math.Path.{ap₂}
+use Rattle.std.proofs.Common.{◌≡◌, ◌≢◌, ◌⊎◌, ◌==◌, inl, inr, ⊎_elim, ℕ, ◌-◌, ◌<◌, ◌≤◌, nat_lt, true, false, List, length, take, drop, Option, Some, None, refl, sym, ap, ◌∙◌, arith, subst, length-take, take-take}
 use Rattle.std.proofs.lemmas.Bool.{cond-true, cond-false, cases_Bool, eqb-true, eqb-false, eq-eqb}
 use Rattle.std.proofs.lemmas.Bool.Decides.{nat_tests}
 use Rattle.std.proofs.lemmas.Nat.{mod_below}
 use Rattle.byteorder.specs.Endian.{big_number}
 use Rattle.crc_frame.proofs.TornSlots.{newest_stands_whole}
 use Rattle.crc_frame.specs.Crc.{crc32, is_checked}
-use Rattle.crc_frame.specs.Slots.{turn_of, next_turn}
+use Rattle.crc_frame.specs.Slots.{turn_of}
 use Rattle.store_changes.specs.Slots.{newest_bytes, ComesNext, first, next}
 use Rattle.store_changes.proofs.NewestSlots.{found, front_says, misplaced_turn_is_odd}
 use Rattle.position_file.specs.Positions.{position_of, stored_crc, computed_crc, first_damage, recorded_by, recorded_in, DamagesDiffer, PositionsHaveRoom}
 use Rattle.position_file.specs.Writes.{IsNextTurn}
-use Rattle.position_file.specs.declared.recorded.Recorded.{Recorded}
 use Rattle.position_file.specs.declared.recorded.Recorded.TheVariants.{Nothing, Position, Damaged}
 
 -- by its newest slot, or none

@@ -1,3 +1,4 @@
 pub mod SlotBytes
 pub mod FileReads
 pub mod PositionWrites
+pub mod PathNames

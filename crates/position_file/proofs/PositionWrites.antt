@@ -1,16 +1,16 @@
 -- What a position file records after a slot was written into it, be it whole or torn.
-use Rattle.std.proofs.Common.{subst, ◌≡◌, ◌⊎◌, inl, inr, ⊎_elim, ℕ, ◌≤◌, ◌<◌, ◌^◌, List, length, Option, Some, None, refl, sym, ap, ◌∙◌, arith}
+use Rattle.std.proofs.Common.{subst, ◌≡◌, inl, inr, ⊎_elim, ℕ, ◌≤◌, ◌<◌, ◌^◌, List, length, Some, sym, ap, ◌∙◌, arith}
 use Rattle.std.proofs.Math.Path.{ap₂}
 use Rattle.io_traits.specs.Reads.{bytes_of}
-use Rattle.crc_frame.specs.Slots.{place_of, with_slot, turn_of}
-use Rattle.store_trait.specs.Images.{Image, FileImage}
+use Rattle.crc_frame.specs.Slots.{place_of, with_slot}
+use Rattle.store_trait.specs.Images.{FileImage}
 use Rattle.store_trait.specs.Moments.{EachMoment, ImagesTell}
 use Rattle.store_trait.specs.declared.stores.Store.{Ghosts as StoreWords}
 use Rattle.store_trait.proofs.Moments.{weaker}
 use Rattle.store_changes.specs.Changes.{Alters}
-use Rattle.store_changes.specs.Slots.{newest_bytes, ComesNext, first, next, HasOldOrNew, OldOrNew}
+use Rattle.store_changes.specs.Slots.{newest_bytes, ComesNext, first, next, OldOrNew}
 use Rattle.store_changes.proofs.NewestSlots.{written_newest}
-use Rattle.position_file.specs.Positions.{slot_spelling, position_of, recorded_in}
+use Rattle.position_file.specs.Positions.{slot_spelling, recorded_in}
 use Rattle.position_file.specs.Writes.{IsNextTurn, OldOrNewPosition}
 use Rattle.position_file.specs.declared.recorded.Recorded.TheVariants.{Position}
 use Rattle.position_file.proofs.SlotBytes.{spelling_is_slot, read_position}

@@ -1,4 +1,5 @@
 //! What holds of position files as bytes. Each function here does nothing: its clauses are theorems.
+ghost use Rattle.position_file.specs.Names.{NamesDiffer};
 ghost use Rattle.position_file.specs.Positions.{SlotsAreReadBack, SlotsAreSpelled, NoSlotBeginsAnother, DamagesDiffer, PositionsHaveRoom};
 
 /// Each slot has one spelling, and bytes are the spelling of at most one slot.
@@ -20,4 +21,9 @@ pub fn damages_differ()
 /// A file that records a position is long enough for each slot that comes next.
 pub fn positions_have_room()
     ensures { PositionsHaveRoom }
+{}
+
+/// No two paths have one name.
+pub fn names_differ()
+    ensures { NamesDiffer }
 {}

@@ -1,4 +1,4 @@
-use Rattle.std.proofs.Common.{take, ap, ◌∙◌}
+use Rattle.std.proofs.Common.{ap, ◌∙◌}
 use Rattle.io_traits.specs.Reads.{bytes_of}
 use Rattle.position_file.specs.Positions.{recorded_in}
 use Rattle.position_file.proofs.FileReads.{front_records}

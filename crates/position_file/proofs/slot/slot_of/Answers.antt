@@ -1,4 +1,4 @@
-use Rattle.std.proofs.Common.{◌≡◌, refl, sym, subst, arith}
+use Rattle.std.proofs.Common.{refl, sym, subst, arith}
 use Rattle.crc_frame.specs.Slots.{IsSlotOf}
 use Rattle.position_file.specs.Positions.{slot_body, slot_spelling}
 use Rattle.position_file.proofs.SlotBytes.{spelling_is_slot}
