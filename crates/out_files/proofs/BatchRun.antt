@@ -17,6 +17,7 @@ use Rattle.position_file.specs.Writes.{IsNextTurn, OldOrNewPosition}
 use Rattle.position_file.specs.declared.recorded.Recorded.TheVariants.{Position}
 use Rattle.out_files.specs.Views.{Output, IsOwn}
 use Rattle.out_files.specs.Outputs.{IsReady, content_of, LeavesOldOrNew, IsAppended}
+use Rattle.out_files.proofs.Staying.{own_rests}
 
 same_or_other : (a b : List ℕ) → (a ≡ b) ⊎ (a ≢ b)
 same_or_other a b = elim (cases_Bool (same_key a b)) [
@@ -66,18 +67,14 @@ module _ {S : Type 0} (store : StoreWords S) (tell : ImagesTell store) (out : Ou
     slot_is_other : out.slot ≢ out.path
     slot_is_other same = ready.differ (sym same)
 
-    own_rests : (d : Image) → NowOrSynced store old d → (name : List ℕ) → IsOwn out name → d name ≡ at_rest (store.seen old name)
-    own_rests d (inl left) name own = ready.settled d left name own
-    own_rests d (inr synced) name own = synced.1 name
-
     content_long : IsTrue store.tells → Position out.turn out.position ≡ Position out.turn (length (content_of store out old))
     content_long told = ap (Position out.turn) (sym (ready.ends told))
 
     -- while the batch is appended
     while_appended : (i : Image) → IsTrue store.tells → Appends i → Leaves i
     while_appended i told a =
-        let slot_rests : i out.slot ≡ at_rest (store.seen old out.slot) = a.2.there out.slot slot_is_other ∙ own_rests a.0 a.1 out.slot (inr refl) in
-        let kept = a.2.here (own_rests a.0 a.1 out.path (inl refl)) in
+        let slot_rests : i out.slot ≡ at_rest (store.seen old out.slot) = a.2.there out.slot slot_is_other ∙ own_rests store out old ready a.0 a.1 out.slot (inr refl) in
+        let kept = a.2.here (own_rests store out old ready a.0 a.1 out.path (inl refl)) in
         record {
           own = λ chance. inl (record {
             turn = out.turn;

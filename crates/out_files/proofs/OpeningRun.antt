@@ -13,6 +13,9 @@ use Rattle.position_file.specs.Writes.{IsNextTurn, OldOrNewPosition}
 use Rattle.position_file.specs.declared.recorded.Recorded.TheVariants.{Nothing, Position}
 use Rattle.out_files.specs.Outputs.{LeavesHeld}
 
+position_is_some : (t p : ℕ) → Position t p ≡ Nothing → ⊥
+position_is_some t p none = cc
+
 module _ {S : Type 0} (store : StoreWords S) (tell : ImagesTell store) (path slot : List ℕ) (old mid : S) where
   abbrev Leaves : Image → Type 0
   Leaves = LeavesHeld store path slot old
@@ -62,9 +65,6 @@ module _ {S : Type 0} (store : StoreWords S) (tell : ImagesTell store) (path slo
                 holds;
             beside = λ name not_path not_slot. a.2.there name not_path ∙ d_rests name;
           }
-        where
-          position_is_some : (t p : ℕ) → Position t p ≡ Nothing → ⊥
-          position_is_some t p none = cc
 
       pub cutting : EachMoment store old mid (NowOrSynced store old) → EachMoment store mid new Cuts → EachMoment store old new Leaves
       cutting one other = one_then_other store tell old mid new (NowOrSynced store old) Cuts Leaves one other (λ i told was. begun i was) while_cut
@@ -98,9 +98,6 @@ module _ {S : Type 0} (store : StoreWords S) (tell : ImagesTell store) (path slo
                 holds;
             beside = λ name not_path not_slot. a.2.there name not_slot ∙ d_rests name;
           }
-        where
-          position_is_some : (t p : ℕ) → Position t p ≡ Nothing → ⊥
-          position_is_some t p none = cc
 
       pub beginning : EachMoment store old mid (NowOrSynced store old) → EachMoment store mid new Begins → EachMoment store old new Leaves
       beginning one other = one_then_other store tell old mid new (NowOrSynced store old) Begins Leaves one other (λ i told was. begun i was) while_begun

@@ -1,5 +1,5 @@
 -- An output file beside the calls of others, and between its own.
-use Rattle.std.proofs.Common.{◌≡◌, ◌⊎◌, inl, inr, ⊎_elim, ◌≤◌, ℕ, IsTrue, List, length, take, refl, sym, ap, ◌∙◌, arith}
+use Rattle.std.proofs.Common.{◌≡◌, inl, inr, ◌≤◌, ℕ, IsTrue, List, length, take, refl, sym, ap, ◌∙◌, arith}
 use Rattle.std.proofs.lemmas.List.{take_all}
 use Rattle.io_traits.specs.Reads.{bytes_of, file_length}
 use Rattle.crc_frame.specs.Slots.{place_of, next_turn}
@@ -18,7 +18,7 @@ module _ {S : Type 0} (store : StoreWords S) (out : Output) (old : S) (ready : I
   pub has_room : IsTrue store.tells → place_of 24 (next_turn out.turn) ≤ file_length (store.seen old out.slot)
   has_room told = positions_have_room (bytes_of (store.seen old out.slot)) out.turn out.position (next_turn out.turn) (ready.recorded told)
 
-  own_rests : (d : Image) → NowOrSynced store old d → (name : List ℕ) → IsOwn out name → d name ≡ at_rest (store.seen old name)
+  pub own_rests : (d : Image) → NowOrSynced store old d → (name : List ℕ) → IsOwn out name → d name ≡ at_rest (store.seen old name)
   own_rests d (inl left) name own = ready.settled d left name own
   own_rests d (inr synced) name own = synced.1 name
 
