@@ -184,6 +184,8 @@ impl Page {
         ensures row { OnFile S.Store store.old name.now block.old (λ file.
             self.now.state.length ≤ length file → Answers (λ row. row) name.now result
             (element_at self.now.version number place (left_of file place self.now.state.length))) }
+        ensures next { IfOk result (λ row. (place + 16 ≤ row.next)
+            × (row.next ≤ self.now.state.length)) }
         ensures part { OnFile S.Store store.old name.now block.old (λ file. IsPart file block.new) }
         ensures same { ChangesNothing S.tells S.seen S.moment S.may_leave store.old store.new }
         ensures cause { HasCause (S.faults store.old) (S.faults store.new) (result ≡ Err f.Fault) }
