@@ -5,7 +5,7 @@ use filters_date::DateFilter;
 use filters_grok::Grok;
 use filters_mutate::Mutate;
 use filters_shape::{CloneFilter, DropFilter, SplitFilter};
-use filters_text::{Json, Kv};
+use filters_text::{Csv, Json, Kv};
 use std::alloc::AllocError;
 
 /// A filter of any kind.
@@ -16,6 +16,7 @@ pub enum Filter {
     Split(SplitFilter),
     Drop(DropFilter),
     Json(Json),
+    Csv(Csv),
     Kv(Kv),
     Date(DateFilter),
     Grok(Grok),
@@ -31,6 +32,7 @@ impl Filter {
             "split" => Ok(Some(Filter::Split(SplitFilter::from_settings(settings)?))),
             "drop" => Ok(Some(Filter::Drop(DropFilter::from_settings(settings)?))),
             "json" => Ok(Some(Filter::Json(Json::from_settings(settings)?))),
+            "csv" => Ok(Some(Filter::Csv(Csv::from_settings(settings)?))),
             "kv" => Ok(Some(Filter::Kv(Kv::from_settings(settings)?))),
             "date" => Ok(Some(Filter::Date(DateFilter::from_settings(settings)?))),
             "grok" => Ok(Some(Filter::Grok(Grok::from_settings(settings)?))),
@@ -45,6 +47,7 @@ impl Filter {
             Filter::Split(filter) => filter.apply(event),
             Filter::Drop(filter) => filter.apply(event),
             Filter::Json(filter) => filter.apply(event),
+            Filter::Csv(filter) => filter.apply(event),
             Filter::Kv(filter) => filter.apply(event),
             Filter::Date(filter) => filter.apply(event),
             Filter::Grok(filter) => filter.apply(event),

@@ -8,8 +8,8 @@
 //! - `FILTER` alone: whether its settings are read, or why they are refused.
 //!
 //! The answers in `stdout` were worked out by hand from the tables of the plugins: whether the filter matched, and the
-//! events that stand in the event's place. Those of `json` and `kv` were made with Python's `json` and `re`, and then
-//! looked through. Those of `grok` and `grok_library` are what Python's `re` finds by the same regular expressions.
+//! events that stand in the event's place. Those of `json`, `csv` and `kv` were made with Python's `json`, `csv` and
+//! `re`, and then looked through. Those of `grok` and `grok_library` are what Python's `re` finds by the same regular expressions.
 //!
 //! With the words of `timing` it applies one filter many times over instead, to be timed from outside.
 #![tactic(auto)]
@@ -21,13 +21,15 @@ mod timing;
 
 use std::{env, fs, io};
 
-const TABLES: [&str; 27] = [
+const TABLES: [&str; 29] = [
     "settings",
     "clone",
     "split",
     "drop",
     "json_settings",
     "json",
+    "csv_settings",
+    "csv",
     "kv_settings",
     "kv",
     "json_kv_hostile",
