@@ -1,12 +1,12 @@
 """Makes the tables of this folder, and `../stdout`, by the tables of the formats: run it in this folder.
 
 All numbers are big endian. The answers stand beside their rows and were worked out by hand, but for the CRC-32 of bytes,
-which is that of `zlib`.
+which is that of `zlib`, and for what stops leave of an output, which is worked out here from its calls.
 """
 
 from zlib import crc32
 
-TABLES = ["pages", "prefixes", "heads", "failing", "appends", "slots", "turns", "frames"]
+TABLES = ["pages", "prefixes", "heads", "failing", "appends", "slots", "turns", "names", "positions", "outputs", "batches", "images", "frames"]
 ROWS = {name: [] for name in TABLES}
 LAST = 2**63 - 1
 
@@ -288,6 +288,171 @@ written(0, G, s(MOST - 1) + s(MOST), s(0, G) + s(MOST), state(0, G))
 written(1, G, s(0) + s(MOST), s(0) + s(1, G), state(1, G))
 written(3, G, s(2) + s(1)[:20], s(2) + s(3, G), state(3, G))
 row("turns", "1 0 1 1 0 1", s(0)[:47], "not done")
+
+# ---- names of position files
+
+for path, name in [
+    ("out.log", "out.log"),
+    ("", ""),
+    ("AZaz09.-", "AZaz09.-"),
+    ("/var/log/a b.txt", "_2fvar_2flog_2fa_20b.txt"),
+    ("a_2f", "a_5f2f"),
+    ("\t\x01\x7f~", "_09_01_7f_7e"),
+    ("é/@[`{:", "_c3_a9_2f_40_5b_60_7b_3a"),
+]:
+    ROWS["names"].append((f"out {path}", f"out.{name}"))
+    ROWS["names"].append((f"in {path}", f"in.{name}"))
+
+# ---- position files
+
+
+def place(turn, position, version=1, zero=0):
+    return checked(u(2, version) + u(8, turn) + u(8, position) + u(2, zero))
+
+
+def recorded(data, answer):
+    row("positions", "", data, answer)
+
+
+def unslotted(data):
+    stored, computed = int.from_bytes(data[20:24], "big"), crc32(data[:20])
+    return f"{stored}, not {computed}"
+
+
+P, Q = place(0, 6), place(1, 4000)
+BROKEN = changed(P, 23, u(1, P[23] ^ 1)) + changed(Q, 20, u(1, Q[20] ^ 128))
+recorded(b"", "nothing")
+recorded(P[:10], "nothing")
+recorded(P[:23], "nothing")
+recorded(bytes(24), "nothing")
+recorded(Q, "nothing")  # the slot of an odd turn at 0
+recorded(P, "6 in turn 0")
+recorded(P + Q[:23], "6 in turn 0")
+recorded(P + Q, "4000 in turn 1")
+recorded(place(2, 9) + Q, "9 in turn 2")
+recorded(place(MOST - 1, 7) + place(MOST, 8), f"8 in turn {MOST}")
+recorded(P + place(MOST, 8), "6 in turn 0")
+recorded(place(0, MOST), f"{MOST} in turn 0")
+recorded(BROKEN[:24] + Q, "4000 in turn 1")
+recorded(P + BROKEN[24:], "6 in turn 0")
+recorded(P + Q + b"more", "4000 in turn 1")
+recorded(place(0, 6, version=9, zero=1), "6 in turn 0")
+recorded(BROKEN, unslotted(BROKEN))
+recorded(BROKEN[:25], unslotted(BROKEN))
+recorded(bytes(48), f"0, not {crc32(bytes(20))}")
+recorded(Q + P, "1, not 0")  # each at the other's place
+recorded(place(MOST, 5) + b"x", f"{MOST}, not {MOST - 1}")
+
+# ---- output files: their position files first
+
+TEXT = b"0123456789"
+
+
+def hexed(*parts):
+    return " | ".join(part.hex() for part in parts).rstrip()
+
+
+def opened(slots, file, answer):
+    ROWS["outputs"].append((hexed(slots, file), answer))
+
+
+def holds(slots, file):
+    return f"{slots.hex()} {file.hex()}"
+
+
+opened(P, TEXT, holds(P, TEXT[:6]))
+opened(P, TEXT[:6], holds(P, TEXT[:6]))
+opened(P, TEXT[:5], "out.log at 5: 5, not 6")
+opened(P, b"", "out.log at 0: 0, not 6")
+opened(P + Q, TEXT, "out.log at 10: 10, not 4000")
+opened(P + place(1, 0), TEXT, holds(P + place(1, 0), b""))
+opened(place(0, 0), b"", holds(place(0, 0), b""))
+opened(b"", TEXT, holds(place(0, 10), TEXT))
+opened(b"", b"", holds(place(0, 0), b""))
+opened(P[:10], TEXT, holds(place(0, 10), TEXT))
+opened(Q, TEXT, holds(place(0, 10), TEXT))
+opened(P[:12] + bytes(12), TEXT, holds(place(0, 10), TEXT))
+opened(P + Q[:5], TEXT, holds(P + Q[:5], TEXT[:6]))
+opened(BROKEN, TEXT, f"out.pos at 0: {unslotted(BROKEN)}")
+opened(Q + P, TEXT, "out.pos at 0: 1, not 0")
+opened(bytes(25), b"", f"out.pos at 0: 0, not {crc32(bytes(20))}")
+
+
+def batch(words, slots, file, more, answer):
+    ROWS["batches"].append((f"{words} {hexed(slots, file, more)}", answer))
+
+
+batch(99, P, TEXT, b"z", "done | " + holds(P + place(1, 7), b"012345z"))
+batch(99, P, TEXT, b"", "done | " + holds(P + place(1, 6), b"012345"))
+batch(99, b"", b"", b"a line\n", "done | " + holds(place(0, 0) + place(1, 7), b"a line\n"))
+batch(99, b"", b"base", b"!", "done | " + holds(place(0, 4) + place(1, 5), b"base!"))
+batch(99, place(2, 6) + place(1, 3), TEXT, b"z", "done | " + holds(place(2, 6) + place(3, 7), b"012345z"))
+batch(99, place(0, 1) + place(MOST, 6), TEXT, b"z", "done | " + holds(place(0, 1) + place(1, 2), b"0z"))
+batch(99, place(MOST - 1, 1) + place(MOST, 6), TEXT, b"z", "done | " + holds(place(0, 7) + place(MOST, 6), b"012345z"))
+batch(99, BROKEN, TEXT, b"z", " | ".join([f"out.pos at 0: {unslotted(BROKEN)}"] * 2))
+batch(99, P, b"01234", b"z", " | ".join(["out.log at 5: 5, not 6"] * 2))
+
+
+def run(slots, file, more):
+    """The calls that open an output and append a batch, each with what it changes: a file, and a place or None of a cut."""
+    begun = b"" if slots else [("pos", 0, place(0, len(file)))]
+    first = [None, None, None, *(begun or [("log", None, 6)]), None]
+    kept = file if begun else file[:6]
+    old = place(0, len(file)) if begun else slots
+    last = place(1, len(kept) + len(more))
+    return first + [("log", len(kept), more), None, ("pos", 24, last), None], (old, kept), (old + last, kept + more)
+
+
+def overlaid(at, data, old):
+    return old[:at] + data + old[at + len(data) :]
+
+
+def foreign(start, end, old):
+    start = min(start, len(old))
+    return overlaid(start, b"\xa5" * (end - start), old)
+
+
+def left(fate, at, new, old):
+    if at is None:  # a cut to `new` bytes
+        cut = {0: old[:new], 1: old, 2: old[: new + (len(old) - new) // 2], 3: foreign(new, len(old), old)}
+        return cut[fate]
+    end = at + len(new)
+    return {0: overlaid(at, new, old), 1: old, 2: overlaid(at, new[: len(new) // 2], old), 3: foreign(at, end, old)}[fate]
+
+
+def image(calls, files, choice):
+    """What a stop leaves: all, nothing since the last sync, all but the last call, which is torn, or other bytes."""
+    reads, image = dict(files), dict(files)
+    for i, call in enumerate(calls):
+        if call is None:
+            if i in SYNCS:
+                image = dict(reads)
+            continue
+        name, at, new = call
+        fate = choice if choice != 2 else (2 if i + 1 == len(calls) else 0)
+        image[name] = left(fate, at, new, image[name])
+        reads[name] = left(0, at, new, reads[name])
+    return image
+
+
+def reopened(slots, there, old, new):
+    """The two files behind an opening of an image with this position file."""
+    if there == new[0]:
+        return holds(*new)
+    return holds(there if slots else old[0] + there[24:], old[1])
+
+
+SYNCS = [0, 4, 6, 8]
+for slots, file in [(P, TEXT), (b"", b"base")]:
+    calls, old, new = run(slots, file, b"batch\n")
+    for call in range(len(calls)):
+        said = "fault, of 1" if call < 5 else "not done"
+        whole = new if call == 8 else old
+        batch(call, slots, file, b"batch\n", f"{said} | {holds(*whole)}")
+    for moment in range(len(calls) + 1):
+        for choice in range(4):
+            there = image(calls[:moment], {"pos": slots, "log": file}, choice)
+            ROWS["images"].append((f"{moment} {choice} {hexed(slots, file, b'batch' + bytes([10]))}", f"done | {reopened(slots, there['pos'], old, new)}"))
 
 # ---- frames
 

@@ -1,4 +1,4 @@
-//! Prints what is read of the files of a queue, and what is written into them, table by table.
+//! Prints what is read of the files of a queue and of an output, and what is written into them, table by table.
 //!
 //! A table is a file of `data/`, and each of its lines is a row. Numbers are decimal, and what is left of a line are bytes in
 //! base 16, where blanks don't count and `COUNT*DIGITS` stands for so many times these bytes:
@@ -10,6 +10,14 @@
 //! - `slots`: the bytes of a checkpoint file.
 //! - `turns`: a turn, the number of a page, its first open number, its least number, its count and its length, and the bytes of
 //!   a checkpoint file, into which the slot that says this is written.
+//! - `names`: `in` or `out`, and a path, which has no line feed. The answer is the name of its position file.
+//! - `positions`, `outputs`: the bytes of a position file, and of the output file that it belongs to, between bars. There is no
+//!   file where there are no bytes. The first tells what the position file records, the others the two files once the output
+//!   is open.
+//! - `batches`: the number of the call of the store that fails, such a row, and a batch that is appended to the open output. The
+//!   files are those behind one more opening.
+//! - `images`: a moment of the store, a choice of what a stop leaves of its changes, and such a row with a batch. The files are
+//!   those of the image behind an opening.
 //! - `frames`: bytes, of which the CRC-32 is computed, and which are read as a frame.
 //!
 //! `data/rows.py` made the tables and `stdout`, by the tables of the formats and with the CRC-32 of Python's `zlib`.
@@ -17,6 +25,7 @@
 
 mod files;
 mod frames;
+mod outputs;
 mod pages;
 mod slots;
 mod words;
@@ -32,10 +41,15 @@ enum Table {
     Appends,
     Slots,
     Turns,
+    Names,
+    Positions,
+    Outputs,
+    Batches,
+    Images,
     Frames,
 }
 
-const TABLES: [(&str, Table); 8] = [
+const TABLES: [(&str, Table); 13] = [
     ("pages", Table::Pages),
     ("prefixes", Table::Pages),
     ("heads", Table::Pages),
@@ -43,6 +57,11 @@ const TABLES: [(&str, Table); 8] = [
     ("appends", Table::Appends),
     ("slots", Table::Slots),
     ("turns", Table::Turns),
+    ("names", Table::Names),
+    ("positions", Table::Positions),
+    ("outputs", Table::Outputs),
+    ("batches", Table::Batches),
+    ("images", Table::Images),
     ("frames", Table::Frames),
 ];
 
@@ -66,6 +85,11 @@ fn add_answer(to: &mut String, table: Table, row: &str) -> Result<(), AllocError
         Table::Appends => pages::add_appended(to, row),
         Table::Slots => slots::add_newest(to, row),
         Table::Turns => slots::add_written(to, row),
+        Table::Names => outputs::add_name(to, row),
+        Table::Positions => outputs::add_position(to, row),
+        Table::Outputs => outputs::add_opened(to, row),
+        Table::Batches => outputs::add_appended(to, row),
+        Table::Images => outputs::add_image(to, row),
         Table::Frames => frames::add_read(to, row),
     }
 }
