@@ -1,5 +1,5 @@
 -- A shop of workers in threads: its jobs, and the results that it gives in the end.
-use Rattle.std.specs.Prelude.{ℕ, ◌+◌, List, [], ◌∷◌, ◌<◌, ◌≡◌, false, flat_map, length, reverse}
+use Rattle.std.specs.Prelude.{ℕ, ◌+◌, List, [], ◌∷◌, ◌<◌, ◌≡◌, ◌==◌, Bool, false, flat_map, fold, length, reverse}
 use Rattle.std.specs.List.{AllZip}
 use Rattle.std.specs.Prelude.{slice_index_or}
 use Rattle.batch_shop.specs.Desks.{is_out, job_out, looks}
@@ -14,6 +14,10 @@ module _ {T D : Type 0} where
   -- how many workers were started
   abbrev pub started_of : ThreadShop T D → ℕ
   started_of s = length s.desks.items
+
+  -- the last worker that was hired has no job out; false where there is none
+  abbrev pub last_is_idle : ThreadShop T D → Bool
+  last_is_idle s = fold (λ _ d. length (job_out d) == 0) false s.desks.items
 
   unfoldable pub all_looks : List (Desk T D) → ℕ
   all_looks [] = 0

@@ -1,4 +1,4 @@
-ghost use Rattle.std.specs.Prelude.{◌≡◌, ◌≤◌, ◌<◌, ◌+◌, [], length, IsTrue, IsFalse, vec_len, vec_capacity, IfOk, IfSome, IfNone, OnOk, OnErr};
+ghost use Rattle.std.specs.Prelude.{◌≡◌, ◌≤◌, ◌<◌, ◌+◌, ◌⊎◌, [], length, IsTrue, IsFalse, vec_len, vec_capacity, IfOk, IfSome, IfNone, OnOk, OnErr};
 ghost use Rattle.batch_shop.specs.Desks.{job_out};
 ghost use Rattle.batch_shop.specs.Adding.{AddsResult};
 
@@ -24,7 +24,7 @@ pub struct ThreadShop<T: Task> {
 }
 
 impl<T: Task> ThreadShop<T> {
-    ghost use Rattle.batch_shop.specs.Started.{jobs_of, started_of, AreResults, IsFree};
+    ghost use Rattle.batch_shop.specs.Started.{jobs_of, started_of, last_is_idle, AreResults, IsFree};
 
     /// A shop with room for so many workers, which has none yet.
     pub fn new(alloc: Global, workers: u32) -> Result<ThreadShop<T>, AllocError>
@@ -56,8 +56,11 @@ impl<T: Task> ThreadShop<T> {
         }
     }
 
-    /// Takes back the last worker that was hired, if it has no job; false where it has one, or where there is none.
+    /// Takes back the last worker that was hired, if it has no job; false exactly where it has one, or where there is
+    /// none. So it is true wherever a worker was hired and no job is out.
     pub fn dismiss(&mut self) -> bool
+        ensures answer { result ≡ last_is_idle self.old }
+        ensures refused { IsFalse result → (started_of self.old ≡ 0) ⊎ (0 < length (jobs_of self.old)) }
         ensures out { jobs_of self.new ≡ jobs_of self.old }
         ensures dismissed { IsTrue result → started_of self.new + 1 ≡ started_of self.old }
         ensures kept { IsFalse result → started_of self.new ≡ started_of self.old }
