@@ -33,7 +33,8 @@ fn parcel(alloc: Global, number: u64) -> Result<Parcel, AllocError>
     })
 }
 
-/// What a thread of its own does with an end of a link.
+/// What a thread of its own does with an end of a link. It stands here for the proof that an end may be sent, which is found
+/// where `Send` is among the bounds of a type, and not of a closure that takes the end itself.
 trait End: Send + Drop {
     /// The end is as its work begins with it.
     ghost is_new: { Self → Type 0 };
