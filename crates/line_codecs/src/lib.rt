@@ -1,0 +1,6 @@
+//! Codecs: how inputs read lines as events, and how outputs write events.
+#![tactic(auto)]
+
+mod codec;
+
+pub use codec::{Codec, OutCodec};

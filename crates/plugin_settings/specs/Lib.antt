@@ -1,0 +1,6 @@
+pub mod Numbers
+pub mod Codecs
+pub mod Common
+pub mod Inputs
+pub mod Outputs
+pub mod Read
