@@ -2,7 +2,7 @@ ghost use Rattle.std.specs.Prelude.{◌≡◌, IfOk};
 ghost use Rattle.event_text.specs.Template.{text, template_parts};
 
 use crate::cases::first_word;
-use crate::{json, numbers};
+use crate::{codecs, json, numbers};
 use event_json::{JsonFault, read_json};
 use event_text::{Template, value_text};
 use event_tree::{DeadList, DeadPart, Event, Path, Text, Value};
@@ -15,6 +15,7 @@ pub fn call(to: &mut String, event: &mut Event, line: &str) -> Result<(), AllocE
         "new" => write!(to, "{}", event.same(&Event::new(*to.allocator()))),
         "copy" => write!(to, "{}", is_copy(event)?),
         "letters" => write!(to, "{}", copied_letters(*to.allocator(), event)?),
+        "write" => codecs::add_written(to, event, given),
         "fill" => to.push_str(filled(*to.allocator(), given, event)?.as_str()),
         _ => call_at(to, event, call, given),
     }

@@ -6,6 +6,7 @@
 #![tactic(auto)]
 
 mod cases;
+mod codecs;
 mod elements;
 mod events;
 mod json;

@@ -2,5 +2,6 @@
 #![tactic(auto)]
 
 mod codec;
+mod writing;
 
 pub use codec::{Codec, OutCodec};
