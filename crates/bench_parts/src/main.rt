@@ -7,6 +7,7 @@ mod crc;
 mod elements;
 mod events;
 mod json;
+mod outputs;
 mod pages;
 mod parse;
 mod patterns;
@@ -22,6 +23,7 @@ crc FILE PASSES
 elements size|encode|decode ROUNDS
 events get|put|take|copy ROUNDS
 json read|write ROUNDS FILE
+outputs FILE SLOT BATCHES BYTES
 pages write|scan FILE ROWS EVERY
 parse parse|lex|print TIMES FILE
 patterns search FILE LINES
@@ -53,6 +55,7 @@ fn run(rt: &HostRuntime, part: &str, given: &[String]) -> Option<u64> {
         "elements" => elements::run(rt.alloc(), given),
         "events" => events::run(rt.alloc(), given),
         "json" => json::run(rt, given),
+        "outputs" => outputs::run(rt, given),
         "pages" => pages::run(rt, given),
         "parse" => parse::run(rt, given),
         "patterns" => patterns::run(rt, given),
