@@ -1,5 +1,2 @@
-pub mod Reading
-pub mod Turns
-mod Joined
 mod Placing
 mod Telling

@@ -1,6 +1,2 @@
-pub mod Read
-pub mod Seen
-pub mod Gives
-pub mod Tables
 pub mod Told
 pub mod Answers
