@@ -52,7 +52,7 @@ without_same [] a b same name = same name
 without_same (x ∷ names) a b same name =
     without_same names (λ n. if bytes_eq n x then None else a n) (λ n. if bytes_eq n x then None else b n) (λ n. ap (λ (o : Option (List ℕ)). if bytes_eq n x then None else o) (same n)) name
 
-without_lacks : (names : List (List ℕ)) (content : Content) → LacksSome names content (without names content)
+pub without_lacks : (names : List (List ℕ)) (content : Content) → LacksSome names content (without names content)
 without_lacks [] content name = inl refl
 without_lacks (x ∷ names) content name =
     let now : Content = λ n. if bytes_eq n x then None else content n in

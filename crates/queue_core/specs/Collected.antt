@@ -26,3 +26,9 @@ IsLost names f.Memory found = ⊤
 abbrev pub Finds : {X Y : Type 0} → (X → Y) → Names → Result X QueueFault → Result Y Damaged → Type 0
 Finds view names (Ok x) found = found ≡ Ok (view x)
 Finds view names (Err fault) found = IsLost names fault found
+
+-- the store failed, or there was no memory
+abbrev pub IsNoDamage : QueueFault → Type 0
+IsNoDamage (f.Damaged d) = ⊥
+IsNoDamage f.Fault = ⊤
+IsNoDamage f.Memory = ⊤

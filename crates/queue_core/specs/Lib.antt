@@ -6,3 +6,6 @@ pub mod Collected
 pub mod Opening
 pub mod Reading
 pub mod Removing
+pub mod Listing
+pub mod Unread
+pub mod Opened

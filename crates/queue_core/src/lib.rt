@@ -2,8 +2,11 @@
 #![tactic(auto)]
 
 pub mod laws;
+mod listing;
+mod looking;
 mod marking;
 mod naming;
+mod opening;
 mod purging;
 mod reading;
 mod removing;
@@ -13,8 +16,10 @@ mod scanning;
 mod starting;
 mod tails;
 mod telling;
+mod unread;
 
 pub use marking::{Mark, mark_pages};
+pub use opening::{Opened, open_folder};
 pub use purging::remove_page;
 pub use reading::{Scanned, read_pages};
 pub use removing::remove_files;

@@ -1,16 +1,17 @@
 // The files of a queue's folder, by their names.
-ghost use Rattle.std.specs.Prelude.{◌≡◌, ◌++◌, IfOk};
-ghost use Rattle.queue_laws.specs.Folders.{page, checkpoint, names_in};
+ghost use Rattle.std.specs.Prelude.{◌≡◌, ◌++◌, ◌<◌, ◌^◌, ℕ, Some, IfOk, IfSome};
+ghost use Rattle.std.specs.Fmt.{decimal};
+ghost use Rattle.queue_laws.specs.Folders.{page, checkpoint, head, names_in};
 
 use itoa::Buffer;
 use plain_data::Text;
 use std::alloc::{AllocError, Global};
 
 /// What the name of a page begins with.
-const PAGE: &str = "page.";
+pub(crate) const PAGE: &str = "page.";
 
 /// What the name of a checkpoint begins with.
-const CHECKPOINT: &str = "checkpoint.";
+pub(crate) const CHECKPOINT: &str = "checkpoint.";
 
 /// The path of the page of this number, in a folder whose path ends with a slash.
 pub(crate) fn page_name(alloc: Global, folder: &str, number: u32) -> Result<Text, AllocError>
@@ -26,6 +27,13 @@ pub(crate) fn checkpoint_name(alloc: Global, folder: &str, number: u32) -> Resul
     joined(alloc, folder, CHECKPOINT, Buffer::new().format(number))
 }
 
+/// The path of the checkpoint of the head page.
+pub(crate) fn head_name(alloc: Global, folder: &str) -> Result<Text, AllocError>
+    ensures { IfOk result (λ name. name ≡ names_in folder.now head) }
+{
+    joined(alloc, folder, CHECKPOINT, "head")
+}
+
 fn joined(alloc: Global, folder: &str, kind: &str, last: &str) -> Result<Text, AllocError>
     ensures { IfOk result (λ name. name ≡ folder.now ++ (kind.now ++ last.now)) }
 {
@@ -34,4 +42,29 @@ fn joined(alloc: Global, folder: &str, kind: &str, last: &str) -> Result<Text, A
     name.push_str(kind)?;
     name.push_str(last)?;
     Ok(Text::from_string(name))
+}
+
+/// The number in a name of this kind, which is written as it is in the names of a queue's files.
+pub(crate) fn number_in(name: &str, kind: &str) -> Option<u32>
+    ensures some { IfSome result (λ n. name.now ≡ kind.now ++ decimal n) }
+    ensures fits { IfSome result (λ n. n < 2 ^ 32) }
+    ensures all { (n : ℕ) → n < 2 ^ 32 → name.now ≡ kind.now ++ decimal n → result ≡ Some n }
+{
+    let digits = name.strip_prefix(kind)?;
+    number_of(digits)
+}
+
+/// The number below 2^32 whose digits these are, none of them a zero in front.
+fn number_of(digits: &str) -> Option<u32>
+    ensures some { IfSome result (λ n. digits.now ≡ decimal n) }
+    ensures all { (n : ℕ) → n < 2 ^ 32 → digits.now ≡ decimal n → result ≡ Some n }
+{
+    let Ok(number) = digits.parse::<u32>() else {
+        return None;
+    };
+    if Buffer::new().format(number) == digits {
+        Some(number)
+    } else {
+        None
+    }
 }

@@ -7,7 +7,7 @@ use queue_checkpoint::Checkpoint;
 use store_disk::{Failed, PageState, Store};
 
 /// How the page of a new queue stands: it has its version alone, and the next number is 1.
-const FIRST_STATE: PageState = PageState {
+pub(crate) const FIRST_STATE: PageState = PageState {
     page: 0,
     first_open: 1,
     least: 1,

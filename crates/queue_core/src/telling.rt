@@ -7,7 +7,7 @@ use queue_checkpoint::Slots;
 use store_disk::PageState;
 
 /// How many bytes a slot has.
-const SLOT_LEN: u64 = 48;
+pub(crate) const SLOT_LEN: u64 = 48;
 
 /// The version of slots.
 const VERSION: u16 = 1;

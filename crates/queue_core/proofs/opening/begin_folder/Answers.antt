@@ -1,0 +1,25 @@
+use Rattle.std.proofs.Common.{◌+◌, ◌∙◌, ap}
+use Rattle.store_disk.proofs.Looking.{nothing_yet}
+use Rattle.queue_laws.specs.Folders.{names_in}
+use Rattle.queue_laws.proofs.ApartNames.{names_apart}
+use Rattle.queue_page.specs.Views.{PageView}
+use Rattle.queue_core.proofs.Openings.{only_looked, first_made, first_found}
+use Rattle.queue_core.proofs.opening.begin_folder.Goals as goal
+
+pub returns-in_err-page-clause-keeps : goal.returns-in_err-page-clause-keeps
+returns-in_err-page-clause-keeps g c begun =
+    only_looked g.S.Store g.met.S.Store.images_tell (names_in c.args.folder.now) c.args.store.now c.args.store.now begun.rests (nothing_yet g.S.Store c.args.store.now)
+
+pub returns-in_err-make_first-clause-keeps : goal.returns-in_err-make_first-clause-keeps
+returns-in_err-make_first-clause-keeps g c begun =
+    first_made g.S.Store g.met.S.Store.images_tell (names_in c.args.folder.now) c.as_str.result.now c.args.checkpoint.now c.args.store.now c.make_first.new.store (names_apart c.args.folder.now)
+    (c.as_str.ensures ∙ c.in_ok-page.ensures) c.requires begun c.make_first.ensures.keeps
+
+pub returns-clause-keeps : goal.returns-clause-keeps
+returns-clause-keeps g c begun =
+    first_made g.S.Store g.met.S.Store.images_tell (names_in c.args.folder.now) c.as_str.result.now c.args.checkpoint.now c.args.store.now c.make_first.new.store (names_apart c.args.folder.now)
+    (c.as_str.ensures ∙ c.in_ok-page.ensures) c.requires begun c.make_first.ensures.keeps
+
+pub returns-clause-found : goal.returns-clause-found
+returns-clause-found g c begun told =
+    first_found g.S.Store g.met.S.Store.images_tell (names_in c.args.folder.now) c.args.store.now _ begun told (ap (λ (p : PageView). p.state.least + p.state.count) c.start.ensures)

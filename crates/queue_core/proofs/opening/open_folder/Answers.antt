@@ -1,0 +1,47 @@
+use Rattle.queue_laws.specs.Folders.{names_in}
+use Rattle.queue_laws.specs.Found.{found}
+use Rattle.queue_core.specs.Marks.{read_in}
+use Rattle.queue_core.proofs.Openings.{hands_on, no_damage, synced, then_looked, is_seen, then_opened, finds, opening_keeps}
+use Rattle.queue_core.proofs.opening.open_folder.Goals as goal
+
+pub returns-in_err-sync-clause-any_moment : goal.returns-in_err-sync-clause-any_moment
+returns-in_err-sync-clause-any_moment g c =
+    synced g.S.Store g.met.S.Store.images_tell (names_in c.args.folder.now) c.args.store.now c.sync.new.self c.sync.ensures.settled
+
+pub returns-in_err-sync-clause-keeps : goal.returns-in_err-sync-clause-keeps
+returns-in_err-sync-clause-keeps g c =
+    opening_keeps g.S.Store g.met.S.Store.images_tell (names_in c.args.folder.now) c.args.store.now c.sync.new.self
+    (synced g.S.Store g.met.S.Store.images_tell (names_in c.args.folder.now) c.args.store.now c.sync.new.self c.sync.ensures.settled)
+
+pub returns-in_err-look-clause-any_moment : goal.returns-in_err-look-clause-any_moment
+returns-in_err-look-clause-any_moment g c =
+    then_looked g.S.Store g.met.S.Store.images_tell (names_in c.args.folder.now) c.args.store.now c.sync.new.self c.sync.ensures.settled c.in_ok-sync.ensures.durable c.look_at.new.store c.look_at.ensures.same
+
+pub returns-in_err-look-clause-keeps : goal.returns-in_err-look-clause-keeps
+returns-in_err-look-clause-keeps g c =
+    opening_keeps g.S.Store g.met.S.Store.images_tell (names_in c.args.folder.now) c.args.store.now c.look_at.new.store
+    (then_looked g.S.Store g.met.S.Store.images_tell (names_in c.args.folder.now) c.args.store.now c.sync.new.self c.sync.ensures.settled c.in_ok-sync.ensures.durable c.look_at.new.store c.look_at.ensures.same)
+
+pub returns-in_err-look-clause-found : goal.returns-in_err-look-clause-found
+returns-in_err-look-clause-found g c told =
+    let names = names_in c.args.folder.now in
+    let folder = read_in names (g.S.Store.seen c.args.store.now) in
+    let lost = c.in_err-look.field-0.0 in
+    hands_on names folder c.from_residual-in_err-look.result lost c.from_residual-in_err-look.ensures.1 (no_damage names lost (found folder) c.in_err-look.ensures.whole)
+
+pub returns-clause-any_moment : goal.returns-clause-any_moment
+returns-clause-any_moment g c =
+    let seen = is_seen g.S.Store g.met.S.Store.images_tell (names_in c.args.folder.now) c.args.store.now c.sync.new.self c.sync.ensures.settled c.in_ok-sync.ensures.durable c.look_at.new.store c.look_at.ensures.same
+    c.in_ok-look.look c.in_ok-look.ensures.looked in
+    then_opened g.S.Store g.met.S.Store.images_tell (names_in c.args.folder.now) c.args.store.now c.sync.new.self c.sync.ensures.settled c.in_ok-sync.ensures.durable c.look_at.new.store c.look_at.ensures.same
+    c.open_seen.new.store (c.open_seen.ensures.keeps seen)
+
+pub returns-clause-keeps : goal.returns-clause-keeps
+returns-clause-keeps g c = opening_keeps g.S.Store g.met.S.Store.images_tell (names_in c.args.folder.now) c.args.store.now c.open_seen.new.store (returns-clause-any_moment g c)
+
+pub returns-clause-found : goal.returns-clause-found
+returns-clause-found g c told =
+    let seen = is_seen g.S.Store g.met.S.Store.images_tell (names_in c.args.folder.now) c.args.store.now c.sync.new.self c.sync.ensures.settled c.in_ok-sync.ensures.durable c.look_at.new.store c.look_at.ensures.same
+    c.in_ok-look.look c.in_ok-look.ensures.looked in
+    finds g.S.Store g.met.S.Store.images_tell (names_in c.args.folder.now) c.args.store.now c.sync.new.self c.sync.ensures.settled c.in_ok-sync.ensures.durable c.look_at.new.store c.look_at.ensures.same
+    c.open_seen.result told (c.open_seen.ensures.found seen told)

@@ -1,0 +1,35 @@
+use Rattle.std.proofs.Common.{sym, subst}
+use Rattle.store_disk.proofs.Looking.{nothing_yet}
+use Rattle.store_disk.specs.declared.faults.QueueFault.{QueueFault}
+use Rattle.queue_laws.specs.Folders.{names_in}
+use Rattle.queue_laws.specs.Found.{found}
+use Rattle.queue_core.specs.Collected.{IsLost}
+use Rattle.queue_core.specs.Marks.{read_in}
+use Rattle.queue_core.proofs.Openings.{only_looked, sees_new, sees_pages, sees_damage}
+use Rattle.queue_core.proofs.opening.open_seen.Goals as goal
+
+pub returns-then-is_new-clause-found : goal.returns-then-is_new-clause-found
+returns-then-is_new-clause-found g c seen told =
+    c.begin_folder.ensures.found (sees_new g.S.Store g.met.S.Store.images_tell (names_in c.args.folder.now) c.args.look c.args.store.now seen c.is_new.result c.is_new.ensures c.if-is_new.true) told
+
+pub returns-then-is_new-clause-keeps : goal.returns-then-is_new-clause-keeps
+returns-then-is_new-clause-keeps g c seen =
+    c.begin_folder.ensures.keeps (sees_new g.S.Store g.met.S.Store.images_tell (names_in c.args.folder.now) c.args.look c.args.store.now seen c.is_new.result c.is_new.ensures c.if-is_new.true)
+
+pub returns-in-Ok-clause-found : goal.returns-in-Ok-clause-found
+returns-in-Ok-clause-found g c seen told =
+    c.open_pages.ensures.found (sees_pages g.S.Store g.met.S.Store.images_tell (names_in c.args.folder.now) c.args.look c.args.store.now _ _ c.told.result seen c.told.ensures.told c.in-Ok.is) told
+
+pub returns-in-Ok-clause-keeps : goal.returns-in-Ok-clause-keeps
+returns-in-Ok-clause-keeps g c seen =
+    c.open_pages.ensures.keeps (sees_pages g.S.Store g.met.S.Store.images_tell (names_in c.args.folder.now) c.args.look c.args.store.now _ _ c.told.result seen c.told.ensures.told c.in-Ok.is)
+
+pub returns-in-Err-clause-found : goal.returns-in-Err-clause-found
+returns-in-Err-clause-found g c seen told =
+    let names = names_in c.args.folder.now in
+    subst (λ (fault : QueueFault). IsLost names fault (found (read_in names (g.S.Store.seen c.args.store.now)))) (sym c.damaged.ensures)
+    (sees_damage g.S.Store g.met.S.Store.images_tell names c.args.look c.args.store.now c.told.result c.in-Err.differing c.is_new.result c.args.look.head seen told c.told.ensures.told c.in-Err.is c.is_new.ensures c.if-is_new.false c.requires)
+
+pub returns-in-Err-clause-keeps : goal.returns-in-Err-clause-keeps
+returns-in-Err-clause-keeps g c seen =
+    only_looked g.S.Store g.met.S.Store.images_tell (names_in c.args.folder.now) c.args.store.now c.args.store.now seen.rests (nothing_yet g.S.Store c.args.store.now)
