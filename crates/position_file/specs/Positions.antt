@@ -1,11 +1,11 @@
 -- A position file: two slots of 24 bytes that are written in turn, of which the newest says how much of another file counts (this project's tables).
 -- A slot has the version, which is 1, in 2 bytes, the turn in 8, the position in 8, zero in 2, and the CRC-32 of these 20 bytes in 4. All
 -- numbers are big endian.
-use Rattle.std.specs.Prelude.{◌≡◌, ◌≢◌, ◌<◌, ◌≤◌, ◌-◌, ◌^◌, ◌==◌, ◌&&◌, ℕ, nat_lt, List, [], ◌++◌, length, take, drop, get_or, Option, Some, None, if◌then◌else◌}
+use Rattle.std.specs.Prelude.{◌≡◌, ◌≢◌, ◌<◌, ◌≤◌, ◌^◌, ◌==◌, ◌&&◌, ℕ, List, [], ◌++◌, length, drop, get_or, Option, Some, None, if◌then◌else◌}
 use Rattle.byteorder.specs.Endian.{big_bytes, big_number}
 use Rattle.crc_frame.specs.Crc.{crc32}
 use Rattle.crc_frame.specs.Slots.{place_of, turn_of, is_slot}
-use Rattle.store_changes.specs.Slots.{newest_bytes}
+use Rattle.store_changes.specs.Slots.{said}
 use Rattle.position_file.specs.declared.recorded.Recorded.{Recorded}
 use Rattle.position_file.specs.declared.recorded.Recorded.TheVariants.{Nothing, Position, Damaged}
 
@@ -36,12 +36,6 @@ position_of slot = big_number 8 (drop 10 slot)
 unfoldable pub zero_of : List ℕ → ℕ
 zero_of slot = big_number 2 (drop 18 slot)
 
-unfoldable pub stored_crc : List ℕ → ℕ
-stored_crc slot = big_number 4 (drop 20 slot)
-
-unfoldable pub computed_crc : List ℕ → ℕ
-computed_crc slot = crc32 (take 20 slot)
-
 -- the turn and the position of the slot that these bytes are, if they are one
 unfoldable pub slot_in : List ℕ → Option (ℕ × ℕ)
 slot_in bytes =
@@ -49,17 +43,15 @@ slot_in bytes =
 
 -- ---- what a file records
 
--- why the slot at 0 isn't intact: its checksum doesn't match, or its turn has the other place
-abbrev pub first_damage : List ℕ → Recorded
-first_damage slot = if stored_crc slot == computed_crc slot then Damaged (turn_of slot) (turn_of slot - 1) else Damaged (stored_crc slot) (computed_crc slot)
+abbrev pub position_said : List ℕ → Recorded
+position_said slot = Position (turn_of slot) (position_of slot)
 
--- by its newest intact slot; a file that has none is damaged, if it is longer than a slot
-abbrev pub recorded_by : List ℕ → Option (List ℕ) → Recorded
-recorded_by file (Some slot) = Position (turn_of slot) (position_of slot)
-recorded_by file None = if nat_lt 24 (length file) then first_damage (take 24 file) else Nothing
+abbrev pub damaged_at_first : ℕ × ℕ → Recorded
+damaged_at_first pair = Damaged pair.0 pair.1
 
+-- what its newest intact slot says; a file that has none is damaged, if it is longer than a slot
 abbrev pub recorded_in : List ℕ → Recorded
-recorded_in file = recorded_by file (newest_bytes 24 file)
+recorded_in file = said position_said damaged_at_first Nothing 24 file
 
 -- ---- laws
 

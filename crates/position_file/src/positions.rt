@@ -5,14 +5,14 @@ ghost use Rattle.crc_frame.specs.Slots.{place_of};
 ghost use Rattle.store_trait.specs.Calls.{ChangesNothing};
 ghost use Rattle.store_trait.specs.Moments.{EachMoment, ReadsBeside};
 ghost use Rattle.store_changes.specs.Changes.{AllRest, Alters};
-ghost use Rattle.position_file.specs.Positions.{first_damage, recorded_in};
+ghost use Rattle.position_file.specs.Positions.{recorded_in};
 ghost use Rattle.position_file.specs.Writes.{IsNextTurn, OldOrNewPosition};
 ghost use Rattle.position_file.specs.declared.recorded.Recorded.TheVariants.{Position};
 
 use crate::recorded::Recorded;
-use crate::slot::{SLOT_LEN, computed_crc, position_of, slot_of, stored_crc, turn_of};
+use crate::slot::{SLOT_LEN, position_of, slot_of};
 use crc_frame::newest;
-use store_changes::write_slot;
+use store_changes::{broken_slot, write_slot};
 use store_disk::{Failed, Store};
 
 /// What the position file of this name records. A missing one records nothing.
@@ -59,24 +59,9 @@ fn recorded_in(front: &[u8]) -> Recorded
         let bytes = &front[slot.place..slot.place + SLOT_LEN];
         return Recorded::Position(slot.turn, position_of(bytes));
     }
-    if front.len() > SLOT_LEN {
-        first_damage(&front[..SLOT_LEN])
-    } else {
-        Recorded::Nothing
+    if front.len() <= SLOT_LEN {
+        return Recorded::Nothing;
     }
-}
-
-// Why the slot at 0 isn't intact.
-fn first_damage(slot: &[u8]) -> Recorded
-    requires { length slot.now ≡ 24 }
-    ensures { result ≡ first_damage slot.now }
-{
-    let stored = stored_crc(slot);
-    let computed = computed_crc(slot);
-    if stored == computed {
-        let turn = turn_of(slot);
-        Recorded::Damaged(turn, turn.saturating_sub(1))
-    } else {
-        Recorded::Damaged(u64::from(stored), u64::from(computed))
-    }
+    let (found, expected) = broken_slot(&front[..SLOT_LEN]);
+    Recorded::Damaged(found, expected)
 }

@@ -1,7 +1,7 @@
 // One slot as bytes.
 ghost use Rattle.std.specs.Prelude.{◌≡◌, ◌<◌, ◌^◌, length};
-ghost use Rattle.crc_frame.specs.Slots.{turn_of, IsSlotOf};
-ghost use Rattle.position_file.specs.Positions.{slot_body, slot_spelling, position_of, stored_crc, computed_crc};
+ghost use Rattle.crc_frame.specs.Slots.{IsSlotOf};
+ghost use Rattle.position_file.specs.Positions.{slot_body, slot_spelling, position_of};
 
 use byteorder::{BigEndian, ByteOrder};
 use crc_frame::crc32;
@@ -38,30 +38,9 @@ pub(crate) fn slot_of(turn: u64, position: u64) -> [u8; SLOT_LEN]
     slot
 }
 
-pub(crate) fn turn_of(slot: &[u8]) -> u64
-    requires { length slot.now ≡ 24 }
-    ensures { result ≡ turn_of slot.now }
-{
-    BigEndian::read_u64(&slot[2..])
-}
-
 pub(crate) fn position_of(slot: &[u8]) -> u64
     requires { length slot.now ≡ 24 }
     ensures { result ≡ position_of slot.now }
 {
     BigEndian::read_u64(&slot[10..])
-}
-
-pub(crate) fn stored_crc(slot: &[u8]) -> u32
-    requires { length slot.now ≡ 24 }
-    ensures { result ≡ stored_crc slot.now }
-{
-    BigEndian::read_u32(&slot[BODY_LEN..])
-}
-
-pub(crate) fn computed_crc(slot: &[u8]) -> u32
-    requires { length slot.now ≡ 24 }
-    ensures { result ≡ computed_crc slot.now }
-{
-    crc32(&slot[..BODY_LEN])
 }

@@ -1,6 +1,8 @@
 -- A file of two slots that are written in turn, by the bytes of its newest slot: all that such a file says is read of them.
-use Rattle.std.specs.Prelude.{◌≡◌, ◌⊎◌, ◌<◌, ◌≤◌, ◌+◌, ◌^◌, ℕ, max, List, length, Option, Some, None, option_map}
+use Rattle.std.specs.Prelude.{◌≡◌, ◌⊎◌, ◌<◌, ◌≤◌, ◌+◌, ◌-◌, ◌^◌, ℕ, max, nat_lt, List, length, take, drop, Option, Some, None, option_map, if◌then◌else◌}
+use Rattle.byteorder.specs.Endian.{big_number}
 use Rattle.io_traits.specs.Reads.{bytes_of, file_length}
+use Rattle.crc_frame.specs.Crc.{crc32, is_checked}
 use Rattle.crc_frame.specs.Slots.{place_of, slot_bytes, turn_of, is_slot, newest_slot, next_turn}
 use Rattle.crc_frame.specs.declared.slots.Slot.{Slot}
 use Rattle.store_trait.specs.Images.{FileImage, at_rest}
@@ -25,3 +27,25 @@ pub record HasOldOrNew (width turn : ℕ) (slot : List ℕ) (file : Option (List
 abbrev pub OldOrNew : ℕ → ℕ → List ℕ → FileImage → FileImage → Type 0
 OldOrNew width turn slot old new =
     (file : Option (List ℕ)) → old ≡ at_rest file → ComesNext width (bytes_of file) turn → NoChance (passes (is_slot width)) new → HasOldOrNew width turn slot file new
+
+-- ---- what such a file says
+
+-- Why a slot isn't intact at 0, as what stands there and what ought to: its CRC-32 and the computed one; or, where these are equal, its turn, which has the other place, and the turn before.
+unfoldable pub broken_slot : List ℕ → ℕ × ℕ
+broken_slot slot =
+    if is_checked slot then (turn_of slot, turn_of slot - 1)
+    else (big_number 4 (drop (length slot - 4) slot), crc32 (take (length slot - 4) slot))
+
+-- What its newest slot says. A file without an intact one says nothing if it is no longer than a slot, and else why the slot at 0 isn't intact.
+abbrev pub said_by : {R : Type 0} → (List ℕ → R) → (ℕ × ℕ → R) → R → ℕ → List ℕ → Option (List ℕ) → R
+said_by says broken nothing width file (Some slot) = says slot
+said_by says broken nothing width file None = if nat_lt width (length file) then broken (broken_slot (take width file)) else nothing
+
+abbrev pub said : {R : Type 0} → (List ℕ → R) → (ℕ × ℕ → R) → R → ℕ → List ℕ → R
+said says broken nothing width file = said_by says broken nothing width file (newest_bytes width file)
+
+-- A slot that is written into a file at rest, where its turn may come next, leaves said what was, or what it says, if no slot stands by chance.
+abbrev pub OldOrNewSaid : {R : Type 0} → (List ℕ → R) → (ℕ × ℕ → R) → R → ℕ → ℕ → R → FileImage → FileImage → Type 0
+OldOrNewSaid says broken nothing width turn next_said old new =
+    (file : Option (List ℕ)) → old ≡ at_rest file → ComesNext width (bytes_of file) turn → NoChance (passes (is_slot width)) new
+    → (said says broken nothing width (bytes_of new.file) ≡ said says broken nothing width (bytes_of file)) ⊎ (said says broken nothing width (bytes_of new.file) ≡ next_said)

@@ -1,5 +1,5 @@
 //! Changes of one file of a store that are settled before the call returns: an append, a cut, and the next
-//! slot of a file of two slots that are written in turn.
+//! slot of a file of two slots that are written in turn. And what such a file says, by its newest slot.
 //!
 //! Each tells what a stop at any moment may leave of its file (`specs/Changes`, `specs/Slots`), beside which
 //! all others stay; and once it is done, all files of the store are at rest.
@@ -9,4 +9,4 @@ mod changes;
 mod slots;
 
 pub use changes::{append_settled, cut_settled};
-pub use slots::write_slot;
+pub use slots::{broken_slot, write_slot};

@@ -4,8 +4,10 @@ ghost use Rattle.io_traits.specs.Reads.{bytes_of, file_length};
 ghost use Rattle.crc_frame.specs.Slots.{place_of, with_slot, IsSlotOf};
 ghost use Rattle.store_trait.specs.Moments.{EachMoment, ReadsBeside};
 ghost use Rattle.store_changes.specs.Changes.{Settled, Alters};
-ghost use Rattle.store_changes.specs.Slots.{OldOrNew};
+ghost use Rattle.store_changes.specs.Slots.{OldOrNew, broken_slot};
 
+use byteorder::{BigEndian, ByteOrder};
+use crc_frame::crc32;
 use store_disk::{Failed, Store};
 
 // Where the slot of a turn stands.
@@ -34,3 +36,24 @@ pub fn write_slot<S: Store>(store: &mut S, name: &str, turn: u64, slot: &[u8]) -
     store.write_at(name, place_of(slot.len(), turn), slot)?;
     store.sync()
 }
+
+/// Why the slot at the beginning of a file without an intact slot isn't intact: what stands there, and what
+/// ought to. These are its CRC-32 and the computed one, or, where they are equal, its turn, which has the
+/// other place, and the turn before.
+#[tactic(auto, unfolding(crate::specs::Slots::broken_slot))]
+pub fn broken_slot(slot: &[u8]) -> (u64, u64)
+    requires { 14 ≤ length slot.now }
+    ensures { result ≡ broken_slot slot.now }
+{
+    let (covered, crc) = slot.split_at(slot.len() - CRC_LEN);
+    let stored = BigEndian::read_u32(crc);
+    let computed = crc32(covered);
+    if stored != computed {
+        return (u64::from(stored), u64::from(computed));
+    }
+    let turn = BigEndian::read_u64(&slot[2..]);
+    (turn, turn.saturating_sub(1))
+}
+
+/// How many bytes a CRC-32 has.
+const CRC_LEN: usize = 4;

@@ -22,4 +22,4 @@ returns-clause-any_moment g c =
     let spelled = c.slot_of-slot.ensures.spelling in
     let wide : length c.slot_of-slot.result ≡ 24 = ap length spelled ∙ length-spelling c.args.turn c.args.position in
     position_moments c.args.turn c.args.position (omega arith) (omega arith) g.S.Store g.met.S.Store.images_tell c.args.name.now c.args.store.now c.write_slot.new.store
-    (length c.slot_of-slot.result) c.slot_of-slot.result wide spelled c.write_slot.ensures.any_moment
+    c.slot_of-slot.result wide spelled c.write_slot.ensures.any_moment
