@@ -1,0 +1,3 @@
+pub mod LetterReads
+pub mod RecordReads
+pub mod Sheds

@@ -1,0 +1,15 @@
+//! What holds of letters, of records and of what is shed. Each function here does nothing: its clauses are
+//! theorems.
+ghost use Rattle.dead_letters.specs.Records.{RecordsAreReadBack, RecordsAreSpelled};
+ghost use Rattle.dead_letters.specs.Shedding.{FewestSegmentsLeave};
+
+/// The letters of a segment have one spelling, and bytes are the records of at most one list of letters.
+pub fn records_have_one_spelling()
+    ensures read_back { RecordsAreReadBack }
+    ensures spelled { RecordsAreSpelled }
+{}
+
+/// No more of the oldest segments leave than have to.
+pub fn fewest_segments_leave()
+    ensures { FewestSegmentsLeave }
+{}
