@@ -1,3 +1,4 @@
 pub mod LetterReads
 pub mod RecordReads
 pub mod Sheds
+pub mod SegmentSlots

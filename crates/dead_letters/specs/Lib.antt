@@ -1,3 +1,4 @@
 pub mod Letters
 pub mod Records
 pub mod Shedding
+pub mod Segments

@@ -1,6 +1,7 @@
 //! What holds of letters, of records and of what is shed. Each function here does nothing: its clauses are
 //! theorems.
 ghost use Rattle.dead_letters.specs.Records.{RecordsAreReadBack, RecordsAreSpelled};
+ghost use Rattle.dead_letters.specs.Segments.{CountedHaveRoom, DamagesDiffer};
 ghost use Rattle.dead_letters.specs.Shedding.{FewestSegmentsLeave};
 
 /// The letters of a segment have one spelling, and bytes are the records of at most one list of letters.
@@ -12,4 +13,16 @@ pub fn records_have_one_spelling()
 /// No more of the oldest segments leave than have to.
 pub fn fewest_segments_leave()
     ensures { FewestSegmentsLeave }
+{}
+
+/// Where the file is damaged that names the segments of a queue, what was found differs from what was
+/// expected.
+pub fn damages_differ()
+    ensures { DamagesDiffer }
+{}
+
+/// Segments that count are in order, and the file that names them is long enough for each slot that comes
+/// next.
+pub fn counted_segments_have_room()
+    ensures { CountedHaveRoom }
 {}

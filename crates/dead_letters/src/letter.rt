@@ -1,5 +1,5 @@
-ghost use Rattle.std.specs.Prelude.{◌≡◌, ◌<◌, ◌^◌, length};
-ghost use Rattle.dead_letters.specs.Letters.{letter_body, record_bytes};
+ghost use Rattle.std.specs.Prelude.{◌≡◌, ◌<◌, ◌↔◌, ◌^◌, IsTrue, length};
+ghost use Rattle.dead_letters.specs.Letters.{FitsRecord, letter_body, record_bytes};
 
 use crate::moment::MOMENT_LEN;
 use event_tree::{Event, Instant, Items, Text};
@@ -29,6 +29,19 @@ pub(crate) const LENGTH_BYTES: usize = 4;
 pub(crate) const RECORD_EXTRA: usize = 8;
 
 impl DeadLetter {
+    /// Whether its record can be written: its body has at most 2^32 - 1 bytes.
+    pub fn fits_record(&self) -> bool
+        ensures { IsTrue result ↔ FitsRecord self.now }
+    {
+        let texts = self
+            .kind
+            .len()
+            .saturating_add(self.id.len())
+            .saturating_add(self.reason.len());
+        let others = 3 * LENGTH_BYTES + MOMENT_LEN + self.event.size() as usize;
+        texts.saturating_add(others) <= u32::MAX as usize
+    }
+
     // The length of the body.
     pub(crate) fn body_len(&self) -> usize
         requires { length (letter_body self.now) < 2 ^ 32 }

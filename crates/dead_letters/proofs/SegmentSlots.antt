@@ -1,0 +1,132 @@
+-- The bytes of a slot of `dead.seg`, and what such a file says.
+use Rattle.std.proofs.Common.{◌≡◌, ◌≢◌, inl, inr, ℕ, ◌<◌, ◌≤◌, ◌^◌, nat_lt, true, false, List, length, take, drop, Option, Some, None, refl, sym, ap, ◌∙◌, arith, subst}
+use Rattle.std.proofs.Math.Path.{ap₂}
+use Rattle.std.proofs.lemmas.Bool.{and_from, eq-eqb, cond-true, cond-false, cases_Bool}
+use Rattle.std.proofs.lemmas.Bool.Decides.{nat_tests}
+use Rattle.std.proofs.lemmas.Nat.{mod_below}
+use Rattle.byteorder.specs.Numbers.{big_number-reads_back}
+use Rattle.crc_frame.specs.Crc.{is_checked}
+use Rattle.crc_frame.specs.Slots.{place_of, turn_of, is_slot, IsSlotOf}
+use Rattle.crc_frame.proofs.CrcLemmas.{is_checked-append}
+use Rattle.store_changes.specs.Slots.{newest_bytes, broken_slot}
+use Rattle.store_changes.proofs.Saying.{by_slot, by_none, by_broken, broken_differs, slot_is_long}
+use Rattle.dead_letters.specs.Segments.{segments, slot_body, slot_spelling, AreSegments, first_of, last_of, length_of, said_by, slot_says, damaged_at_first, counted_in, HasRoom, DamagesDiffer, CountedHaveRoom}
+use Rattle.dead_letters.specs.declared.counting.Segments.{Segments}
+use Rattle.dead_letters.specs.declared.counting.Counted.TheVariants.{Nothing, Count, Damaged}
+
+-- ---- what a slot spells is read
+
+module _ (turn : ℕ) (s : Segments) where
+  pub length-spelling : length (slot_spelling turn s) ≡ 32
+  unfolding slot_spelling slot_body
+  length-spelling = refl
+
+  read_turn : turn < 2 ^ 64 → turn_of (slot_spelling turn s) ≡ turn
+  unfolding turn_of slot_spelling slot_body
+  read_turn fits = big_number-reads_back 8 turn (drop 10 (slot_spelling turn s)) fits
+
+  read_first : s.first < 2 ^ 32 → first_of (slot_spelling turn s) ≡ s.first
+  unfolding first_of slot_spelling slot_body
+  read_first fits = big_number-reads_back 4 s.first (drop 14 (slot_spelling turn s)) fits
+
+  read_last : s.last < 2 ^ 32 → last_of (slot_spelling turn s) ≡ s.last
+  unfolding last_of slot_spelling slot_body
+  read_last fits = big_number-reads_back 4 s.last (drop 18 (slot_spelling turn s)) fits
+
+  read_length : s.length < 2 ^ 64 → length_of (slot_spelling turn s) ≡ s.length
+  unfolding length_of slot_spelling slot_body
+  read_length fits = big_number-reads_back 8 s.length (drop 26 (slot_spelling turn s)) fits
+
+  checked : is_checked (slot_spelling turn s) ≡ true
+  unfolding slot_spelling
+  checked = is_checked-append (slot_body turn s)
+
+  -- it is an intact slot at the place of its turn
+  pub spelling_is_slot : turn < 2 ^ 64 → IsSlotOf 32 turn (slot_spelling turn s)
+  unfolding is_slot
+  spelling_is_slot fits = record {
+    intact = and_from _ _ (and_from _ _ (eq-eqb _ _ length-spelling) checked) (eq-eqb _ _ (ap (place_of 32) (sym (read_turn fits))));
+    turn_is = read_turn fits;
+  }
+
+  pub spelling_says : turn < 2 ^ 64 → AreSegments s → slot_says (slot_spelling turn s) ≡ Count turn s
+  spelling_says fits are =
+      let order = are.order in
+      let test : nat_lt s.last s.first ≡ false = grind (arith, nat_tests, order) in
+      let same : segments (first_of (slot_spelling turn s)) (last_of (slot_spelling turn s)) (length_of (slot_spelling turn s)) ≡ s =
+      ap (λ f. segments f (last_of (slot_spelling turn s)) (length_of (slot_spelling turn s))) (read_first are.first)
+      ∙ ap (λ l. segments s.first l (length_of (slot_spelling turn s))) (read_last are.last) ∙ ap (segments s.first s.last) (read_length are.length) in
+      ap₂ said_by (read_turn fits) same ∙ cond-false _ _ _ test
+
+-- ---- what is damaged differs, and what counts has room
+
+said_order : (turn said_turn : ℕ) (s said : Segments) → said_by turn s ≡ Count said_turn said → said.first ≤ said.last
+said_order turn said_turn s said is = elim (cases_Bool (nat_lt s.last s.first)) [
+  | inl above ↦ let other : Damaged s.first s.last ≡ Count said_turn said = sym (cond-true _ _ _ above) ∙ is in absurd (damaged_is_none s said said_turn other)
+  | inr not_above ↦
+      let these : Count turn s ≡ Count said_turn said = sym (cond-false _ _ _ not_above) ∙ is in
+      let same : s ≡ said = cc in
+      let order : s.first ≤ s.last = grind (arith, nat_tests, not_above) in
+      subst (λ (x : Segments). x.first ≤ x.last) same order
+]
+  where
+    damaged_is_none : (s said : Segments) (said_turn : ℕ) → Damaged s.first s.last ≡ Count said_turn said → ⊥
+    damaged_is_none s said said_turn e = cc
+
+said_damage : (turn found expected : ℕ) (s : Segments) → said_by turn s ≡ Damaged found expected → found ≢ expected
+said_damage turn found expected s is = elim (cases_Bool (nat_lt s.last s.first)) [
+  | inl above ↦ λ same.
+      let these : Damaged s.first s.last ≡ Damaged found expected = sym (cond-true _ _ _ above) ∙ is in
+      let one : s.first ≡ found = cc in
+      let other : s.last ≡ expected = cc in
+      let less : s.last < s.first = grind (arith, nat_tests, above) in
+      omega (arith, less, one, other, same)
+  | inr not_above ↦ let other : Count turn s ≡ Damaged found expected = sym (cond-false _ _ _ not_above) ∙ is in λ same. cc
+]
+
+damaged_by : (file : List ℕ) (found expected : ℕ) (slot : Option (List ℕ)) → newest_bytes 32 file ≡ slot → counted_in file ≡ Damaged found expected → found ≢ expected
+damaged_by file found expected (Some slot) is said =
+    said_damage (turn_of slot) found expected (segments (first_of slot) (last_of slot) (length_of slot)) (sym (by_slot slot_says damaged_at_first Nothing 32 file slot is) ∙ said)
+damaged_by file found expected None is said = elim (cases_Bool (nat_lt 32 (length file))) [
+  | inl long ↦ λ same.
+      let longer : 32 < length file = grind (arith, nat_tests, long) in
+      let pair = broken_slot (take 32 file) in
+      let these : Damaged pair.0 pair.1 ≡ Damaged found expected = sym (by_broken slot_says damaged_at_first Nothing 32 file is longer) ∙ said in
+      let one : pair.0 ≡ found = cc in
+      let other : pair.1 ≡ expected = cc in
+      broken_differs 32 file (omega arith) longer is (one ∙ same ∙ sym other)
+  | inr not_long ↦
+      let shorter : length file ≤ 32 = grind (arith, nat_tests, not_long) in
+      let other : Nothing ≡ Damaged found expected = sym (by_none slot_says damaged_at_first Nothing 32 file is shorter) ∙ said in
+      λ same. cc
+]
+
+pub damages_differ : DamagesDiffer
+damages_differ file found expected said = damaged_by file found expected (newest_bytes 32 file) refl said
+
+counted_by : (file : List ℕ) (turn : ℕ) (s : Segments) (slot : Option (List ℕ)) → newest_bytes 32 file ≡ slot → counted_in file ≡ Count turn s → HasRoom file s
+counted_by file turn s (Some slot) is said =
+    let long = slot_is_long 32 file slot (omega arith) is in
+    record {
+      order = said_order (turn_of slot) turn (segments (first_of slot) (last_of slot) (length_of slot)) s (sym (by_slot slot_says damaged_at_first Nothing 32 file slot is) ∙ said);
+      room = λ next. (let half = mod_below next 2 (omega arith) in omega (arith, long, half));
+    }
+counted_by file turn s None is said = elim (cases_Bool (nat_lt 32 (length file))) [
+  | inl long ↦
+      let longer : 32 < length file = grind (arith, nat_tests, long) in
+      let other : damaged_at_first (broken_slot (take 32 file)) ≡ Count turn s = sym (by_broken slot_says damaged_at_first Nothing 32 file is longer) ∙ said in
+      absurd (no_count (broken_slot (take 32 file)) turn s other)
+  | inr not_long ↦
+      let shorter : length file ≤ 32 = grind (arith, nat_tests, not_long) in
+      let other : Nothing ≡ Count turn s = sym (by_none slot_says damaged_at_first Nothing 32 file is shorter) ∙ said in
+      absurd (none_counts turn s other)
+]
+  where
+    no_count : (pair : ℕ × ℕ) (turn : ℕ) (s : Segments) → Damaged pair.0 pair.1 ≡ Count turn s → ⊥
+    no_count pair turn s e = cc
+
+    none_counts : (turn : ℕ) (s : Segments) → Nothing ≡ Count turn s → ⊥
+    none_counts turn s e = cc
+
+pub counted_have_room : CountedHaveRoom
+counted_have_room file turn s said = counted_by file turn s (newest_bytes 32 file) refl said
