@@ -4,3 +4,4 @@ pub mod Options
 pub mod Pieces
 pub mod Trying
 pub mod Convert
+pub mod Paths

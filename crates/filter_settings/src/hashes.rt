@@ -69,7 +69,8 @@ pub fn read_field_conversions(
     }
 }
 
-fn hash_of(value: &SettingValue) -> Option<&[(Text, SettingValue)]>
+/// The entries of a hash; `None` of another value.
+pub fn hash_of(value: &SettingValue) -> Option<&[(Text, SettingValue)]>
     ensures { option_copied result ≡ spec.hash_of value.now }
 {
     match value {

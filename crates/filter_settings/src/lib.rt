@@ -10,6 +10,7 @@ mod faults;
 mod hashes;
 mod lists;
 mod options;
+mod paths;
 mod pieces;
 mod reading;
 mod trying;
@@ -20,10 +21,11 @@ pub use conversion::{Conversion, convert};
 pub use event_text::{Applied, Options, add_tag, try_put};
 pub use faults::{bad_pattern, wanted};
 pub use hashes::{
-    read_field_conversions, read_field_paths, read_field_templates, read_field_texts,
+    hash_of, read_field_conversions, read_field_paths, read_field_templates, read_field_texts,
 };
-pub use lists::{read_paths, read_templates, read_texts};
+pub use lists::{read_paths, read_templates, read_texts, text_item};
 pub use options::set_option;
+pub use paths::{is_same, path_under, written};
 pub use pieces::split_text;
 pub use reading::{SetByName, read_settings, require};
 pub use trying::{Change, change_at, finish, one_event, put_at};

@@ -103,8 +103,8 @@ fn template_items(
     Ok(Some(found))
 }
 
-// Where an item has to be a text, a number stands for its decimal text.
-pub(crate) fn text_item(alloc: Global, item: &SettingValue) -> Result<Option<Text>, AllocError>
+/// A text, or a number as its decimal text; `None` of another value.
+pub fn text_item(alloc: Global, item: &SettingValue) -> Result<Option<Text>, AllocError>
     ensures { IfOk result (λ text. text ≡ spec.text_item item.now) }
 {
     match item {

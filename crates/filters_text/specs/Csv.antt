@@ -18,7 +18,7 @@ use Rattle.filter_settings.specs.Options.{option_set}
 use Rattle.filter_settings.specs.declared.conversion.Conversion.{Conversion}
 use Rattle.filter_settings.specs.declared.trying.Change.{Change}
 use Rattle.filter_settings.specs.declared.trying.Change.TheVariants as c
-use Rattle.filters_text.specs.Targets.{path_under, same_path}
+use Rattle.filter_settings.specs.Paths.{path_under, same_path}
 use Rattle.filters_text.specs.declared.csv_filter.Csv.{Csv}
 use Rattle.filters_text.specs.declared.csv_filter.Column.{Column}
 

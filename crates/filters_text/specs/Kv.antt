@@ -16,7 +16,7 @@ use Rattle.decoded_fields.specs.Decoded.{text_of, named}
 use Rattle.filter_settings.specs.Settings.{Made, wanted, with_made, all_set}
 use Rattle.filter_settings.specs.Readers.{text_of as setting_text, flag_of, path_of, texts_of}
 use Rattle.filter_settings.specs.Options.{option_set}
-use Rattle.filters_text.specs.KvText.{pairs_in, trimmed}
+use Rattle.kv_text.specs.Pairs.{pairs_in, trimmed}
 use Rattle.filters_text.specs.Targets.{under}
 use Rattle.filters_text.specs.declared.kv_filter.Kv.{Kv}
 

@@ -3,14 +3,13 @@ ghost use Rattle.filter_settings.specs.Settings.{Gives, Leaves, wanted};
 ghost use Rattle.filter_settings.specs.Trying.{tried};
 ghost use Rattle.filters_text.specs.Csv as spec;
 
-use crate::target::{is_same, path_under};
 use csv_row::one_row;
 use decoded_fields::{field_path, text_in};
 use event_tree::{Event, Items, Names, Path, Text, Value};
 use filter_settings::{
     Applied, Change, Conversion, FromFault, Options, SetByName, SettingValue, Settings, convert,
-    finish, one_event, put_at, read_field_conversions, read_flag, read_path, read_paths,
-    read_settings, read_text, set_option, wanted,
+    finish, is_same, one_event, path_under, put_at, read_field_conversions, read_flag, read_path,
+    read_paths, read_settings, read_text, set_option, wanted,
 };
 use std::alloc::{AllocError, Global};
 
@@ -226,6 +225,7 @@ impl Csv {
     fn put_fields(&self, event: &mut Event, row: Names) -> Result<bool, AllocError>
         ensures { IfOk result (λ fine. tried fine event.new ≡ spec.put_fields self.now 0 row event.old) }
     {
+        // Read for the proof alone: a length fits in a usize, so each place below it does.
         let _count = row.len();
         let mut index = 0;
         for text in row.into_vec() {

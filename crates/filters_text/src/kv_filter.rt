@@ -7,9 +7,8 @@ ghost use Rattle.event_text.specs.Options.{each_done};
 ghost use Rattle.decoded_fields.specs.Decoded.{text_of};
 ghost use Rattle.filter_settings.specs.Settings.{Gives, Leaves, wanted};
 ghost use Rattle.filters_text.specs.Kv as spec;
-ghost use Rattle.filters_text.specs.KvViews.{both_chars};
+ghost use Rattle.kv_text.specs.Views.{both_chars};
 
-use crate::kv_text::{Splits, trimmed};
 use crate::target::field_under;
 use decoded_fields::{field_path, text_in};
 use event_tree::{Event, Fields, Items, Names, Path, Text, Value};
@@ -17,6 +16,7 @@ use filter_settings::{
     Applied, FromFault, Options, SetByName, SettingValue, Settings, one_event, read_flag,
     read_path, read_settings, read_text, read_texts, set_option, try_put,
 };
+use kv_text::{Splits, trimmed};
 use std::alloc::{AllocError, Global};
 
 /// The filter `kv`: the pairs of keys and values that a text writes become fields.

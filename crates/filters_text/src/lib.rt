@@ -4,7 +4,6 @@
 mod csv_filter;
 mod json_filter;
 mod kv_filter;
-mod kv_text;
 mod target;
 
 pub use csv_filter::{Column, Csv};

@@ -1,0 +1,3 @@
+pub mod CutChars
+mod Missing
+mod Pieces
