@@ -20,3 +20,8 @@ pub mod Openings
 pub mod FirstRun
 pub mod RollRun
 pub mod PurgeRun
+pub mod QueuePages
+pub mod QueueHead
+pub mod QueueOpens
+pub mod QueueReads
+pub mod QueueReady

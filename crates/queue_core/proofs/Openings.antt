@@ -93,7 +93,7 @@ module _ {S : Type 0} (store : StoreWords S) (tell : ImagesTell store) (names : 
       then_read new keeps = one_then_other store tell old mid new (λ i. found (folder_in names i) ≡ found (now old)) (λ i. NoChances names i → found (folder_in names i) ≡ found (now mid))
           (λ i. NoChances names i → found (folder_in names i) ≡ found (now old)) go (keeps tidy.rests head_told) (λ i told_is holds chances. holds) (λ i told_is holds chances. holds chances ∙ (tidy.tidied told_is).found_is)
 
-      found_here : s.page < 2 ^ 32 → IsTrue store.tells → found (now old) ≡ found_of (now mid) s (filter (λ n. nat_lt n s.page) l.pages.items)
+      pub found_here : s.page < 2 ^ 32 → IsTrue store.tells → found (now old) ≡ found_of (now mid) s (filter (λ n. nat_lt n s.page) l.pages.items)
       found_here fits told_is = found_tidied (now old) (now mid) s l.pages.items (read.listed told_is).pages (read.tells told_is) fits (tidy.tidied told_is)
 
       pub reads_pages : s.page < 2 ^ 32 → IsTrue store.tells → (numbers : List ℕ) → numbers ≡ filter (λ n. nat_lt n s.page) l.pages.items → (o : Opened) → IsScanned (now mid) s numbers o.pages → IsOpened (now old) o

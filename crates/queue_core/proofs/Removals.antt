@@ -24,7 +24,7 @@ use Rattle.queue_core.specs.Removing.{without, LacksSome, files_of, UnreadFilesM
 pub split_at : (names : List (List ℕ)) (i : ℕ) (x : List ℕ) → x ≡ get_or names i x → i < length names → drop i names ≡ x ∷ drop (i + 1) names
 split_at names i x is within = drop_more names i x within ∙ ap (λ n. n ∷ drop (i + 1) names) (sym is)
 
-is_or_not : (name x : List ℕ) → (name ≡ x) ⊎ ((name ≢ x) × (bytes_eq name x ≡ false))
+pub is_or_not : (name x : List ℕ) → (name ≡ x) ⊎ ((name ≢ x) × (bytes_eq name x ≡ false))
 is_or_not name x = by (bytes_eq name x) refl
   where
     by : (b : Bool) → bytes_eq name x ≡ b → (name ≡ x) ⊎ ((name ≢ x) × (bytes_eq name x ≡ false))

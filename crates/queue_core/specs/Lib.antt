@@ -9,3 +9,4 @@ pub mod Removing
 pub mod Listing
 pub mod Unread
 pub mod Opened
+pub mod Queues

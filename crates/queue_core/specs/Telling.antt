@@ -8,10 +8,6 @@ use Rattle.queue_core.specs.declared.telling.Differing.{Differing}
 abbrev pub misfit_of : Differing → Misfit
 misfit_of d = misfit 0 d.found d.expected
 
-abbrev pub as_bounded : Result PageState Differing → Result PageState Misfit
-as_bounded (Ok s) = Ok s
-as_bounded (Err d) = Err (misfit_of d)
-
 -- with the turn of its slot
 abbrev pub as_told : Result (ℕ × PageState) Differing → Result PageState Misfit
 as_told (Ok newest) = Ok newest.1

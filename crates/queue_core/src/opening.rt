@@ -1,10 +1,12 @@
 // A folder that is opened.
-ghost use Rattle.std.specs.Prelude.{◌≡◌, ◌≤◌, ◌+◌, ◌-◌, ◌^◌, IsTrue, Err};
+ghost use Rattle.std.specs.Prelude.{◌≡◌, ◌≤◌, ◌+◌, ◌-◌, ◌^◌, IsTrue, IfOk, Err};
 ghost use Rattle.io_traits.specs.Counts.{HasCause};
 ghost use Rattle.io_traits.specs.Folders.{folder_start};
+ghost use Rattle.io_traits.specs.Reads.{bytes_of};
 ghost use Rattle.store_disk.specs.declared.faults.QueueFault.TheVariants as f;
 ghost use Rattle.queue_laws.specs.Folders.{head, names_in};
 ghost use Rattle.queue_core.specs.Marks.{read_in};
+ghost use Rattle.queue_core.specs.Queues.{IsNewest, OpensReady};
 ghost use Rattle.queue_core.specs.Unread.{IsRead};
 ghost use Rattle.queue_core.specs.Opened.{FindsOpened, IsSeen, IsBegun, HoldsFound, KeepsOpened, OpeningKeeps};
 
@@ -35,7 +37,8 @@ pub struct Opened {
 /// first damage, and cuts from the head page what stands behind its rows.
 ///
 /// What it finds is what the folder holds as the store reads. A stop at any moment leaves what it might have
-/// left before, or a folder that holds the same.
+/// left before, or a folder that holds the same. Where the folder is as a queue leaves it, its queue is ready
+/// then.
 pub fn open_folder<S: Store>(
     alloc: Global,
     store: &mut S,
@@ -46,6 +49,7 @@ pub fn open_folder<S: Store>(
         (read_in (names_in folder.now) (S.seen store.old)) result }
     ensures any_moment { KeepsOpened S.Store (names_in folder.now) store.old store.new }
     ensures keeps { OpeningKeeps S.Store (names_in folder.now) store.old store.new }
+    ensures ready { IfOk result (λ o. OpensReady S.Store (names_in folder.now) o store.old store.new) }
     ensures cause { HasCause (S.faults store.old) (S.faults store.new) (result ≡ Err f.Fault) }
 {
     store.sync()?;
@@ -66,6 +70,8 @@ fn open_seen<S: Store>(
         (read_in (names_in folder.now) (S.seen store.old)) result }
     ensures keeps { IsSeen S.Store (names_in folder.now) look store.old
         → HoldsFound S.Store (names_in folder.now) store.old store.new }
+    ensures ready { IfOk result (λ o. IsSeen S.Store (names_in folder.now) look store.old
+        → OpensReady S.Store (names_in folder.now) o store.old store.new) }
     ensures cause { HasCause (S.faults store.old) (S.faults store.new) (result ≡ Err f.Fault) }
 {
     let Look {
@@ -95,18 +101,19 @@ fn begin_folder<S: Store>(
         (read_in (names_in folder.now) (S.seen store.old)) result }
     ensures keeps { IsBegun S.Store (names_in folder.now) store.old
         → HoldsFound S.Store (names_in folder.now) store.old store.new }
+    ensures ready { IfOk result (λ o. IsBegun S.Store (names_in folder.now) store.old
+        → OpensReady S.Store (names_in folder.now) o store.old store.new) }
     ensures cause { HasCause (S.faults store.old) (S.faults store.new) (result ≡ Err f.Fault) }
 {
     let page = page_name(alloc, folder, 0)?;
     make_first(store, page.as_str(), checkpoint)?;
+    let tails = Vec::new(alloc);
+    let pages = Vec::new(alloc);
+    let top = Page::start(FIRST_STATE);
     Ok(Opened {
         turn: 0,
         state: FIRST_STATE,
-        pages: Scanned {
-            tails: Vec::new(alloc),
-            pages: Vec::new(alloc),
-            top: Page::start(FIRST_STATE),
-        },
+        pages: Scanned { tails, pages, top },
     })
 }
 
@@ -125,6 +132,10 @@ fn open_pages<S: Store>(
         (read_in (names_in folder.now) (S.seen store.old)) result }
     ensures keeps { IsRead S.Store (names_in folder.now) listing state store.old
         → HoldsFound S.Store (names_in folder.now) store.old store.new }
+    ensures ready { IfOk result (λ o. IsRead S.Store (names_in folder.now) listing state store.old
+        → (IsTrue S.tells → IsNewest (bytes_of (S.seen store.old (names_in folder.now head)))
+        turn state)
+        → OpensReady S.Store (names_in folder.now) o store.old store.new) }
     ensures cause { HasCause (S.faults store.old) (S.faults store.new) (result ≡ Err f.Fault) }
 {
     remove_unread(alloc, store, folder, &listing, &state)?;

@@ -1,9 +1,10 @@
 // The pages of a folder whose head slot is known.
-ghost use Rattle.std.specs.Prelude.{◌≡◌, ◌≤◌, ◌-◌, ◌+◌, ◌^◌, IsTrue, Err};
+ghost use Rattle.std.specs.Prelude.{◌≡◌, ◌≤◌, ◌-◌, ◌+◌, ◌^◌, IsTrue, IfOk, Err};
 ghost use Rattle.io_traits.specs.Counts.{HasCause};
 ghost use Rattle.store_disk.specs.declared.faults.QueueFault.TheVariants as f;
 ghost use Rattle.queue_laws.specs.Folders.{names_in};
 ghost use Rattle.queue_core.specs.Marks.{read_in};
+ghost use Rattle.queue_core.specs.Queues.{IsAllAtRest, LeavesRead};
 ghost use Rattle.queue_core.specs.Reading.{FindsScanned, KeepsFound};
 
 use crate::naming::page_name;
@@ -27,7 +28,7 @@ pub struct Scanned {
 /// to the first damage. Of the head page the rows behind what is recorded are kept, what is behind them is
 /// cut, and the cut is settled.
 ///
-/// A stop at any moment leaves a folder that holds the same.
+/// A stop at any moment leaves a folder that holds the same. Then, if all was at rest, all is.
 pub fn read_pages<S: Store>(
     alloc: Global,
     store: &mut S,
@@ -39,6 +40,8 @@ pub fn read_pages<S: Store>(
     ensures found { IsTrue S.tells → FindsScanned (names_in folder.now)
         (read_in (names_in folder.now) (S.seen store.old)) head.now numbers.now result }
     ensures keeps { KeepsFound S.Store (names_in folder.now) head.now store.old store.new }
+    ensures leaves { IfOk result (λ r. IsAllAtRest S.Store store.old
+        → LeavesRead S.Store (names_in folder.now) head.now r store.old store.new) }
     ensures cause { HasCause (S.faults store.old) (S.faults store.new) (result ≡ Err f.Fault) }
 {
     let tails = read_tails(alloc, store, folder, numbers)?;

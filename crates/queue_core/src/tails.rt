@@ -1,11 +1,13 @@
 // The pages below the head, as their checkpoints tell of them.
 ghost use Rattle.std.specs.Prelude.{◌≡◌, ◌≤◌, ◌-◌, ◌+◌, ◌^◌, IsTrue, IfOk, Err, map};
 ghost use Rattle.io_traits.specs.Counts.{HasCause};
+ghost use Rattle.io_traits.specs.Reads.{bytes_of};
 ghost use Rattle.store_trait.specs.Calls.{ChangesNothing};
 ghost use Rattle.store_disk.specs.declared.faults.QueueFault.TheVariants as f;
 ghost use Rattle.queue_laws.specs.Folders.{names_in, checkpoint};
 ghost use Rattle.queue_core.specs.Marks.{read_in};
 ghost use Rattle.queue_core.specs.Collected.{Finds};
+ghost use Rattle.queue_core.specs.Queues.{IsNewest, AreNewest};
 ghost use Rattle.queue_core.specs.Opening.{IsBounded, AllBounded, held_tail, held_at, held_of};
 
 use crate::naming::checkpoint_name;
@@ -38,6 +40,8 @@ pub(crate) fn read_tails<S: Store>(
         (names_in folder.now) result
         (held_of (read_in (names_in folder.now) (S.seen store.old)) numbers.now) }
     ensures bounded { IfOk result (λ tails. AllBounded tails.items) }
+    ensures newest { IsTrue S.tells → IfOk result (λ tails.
+        AreNewest (read_in (names_in folder.now) (S.seen store.old)) tails.items) }
     ensures same { ChangesNothing S.tells S.seen S.moment S.may_leave store.old store.new }
     ensures cause { HasCause (S.faults store.old) (S.faults store.new) (result ≡ Err f.Fault) }
 {
@@ -66,6 +70,9 @@ fn read_tail<S: Store>(
         (names_in folder.now) result
         (held_at (read_in (names_in folder.now) (S.seen store.old)) number) }
     ensures bounded { IfOk result (λ tail. IsBounded tail) }
+    ensures newest { IsTrue S.tells → IfOk result (λ tail.
+        IsNewest (bytes_of (S.seen store.old (names_in folder.now (checkpoint tail.number))))
+        tail.turn tail.state) }
     ensures same { ChangesNothing S.tells S.seen S.moment S.may_leave store.old store.new }
     ensures cause { HasCause (S.faults store.old) (S.faults store.new) (result ≡ Err f.Fault) }
 {

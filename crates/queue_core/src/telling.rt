@@ -1,7 +1,8 @@
 // What a checkpoint tells of its page, or how it is damaged.
 ghost use Rattle.std.specs.Prelude.{◌≡◌, ◌≤◌, ◌+◌, ◌-◌, ◌^◌, Some, IfOk};
 ghost use Rattle.queue_laws.specs.Checkpoints.{unslotted, bounded, told_by};
-ghost use Rattle.queue_core.specs.Telling.{misfit_of, as_told, as_bounded};
+ghost use Rattle.queue_checkpoint.specs.Checkpoints.{FitsSlot};
+ghost use Rattle.queue_core.specs.Telling.{misfit_of, as_told};
 
 use queue_checkpoint::Slots;
 use store_disk::PageState;
@@ -30,6 +31,7 @@ pub(crate) fn told(slots: &Slots) -> Result<(u64, PageState), Differing>
     ensures told { as_told result ≡ told_by slots.now slots.now.newest }
     ensures newest { IfOk result (λ newest. slots.now.newest ≡ Some newest) }
     ensures numbers { IfOk result (λ newest. newest.1.least + newest.1.count ≤ 2 ^ 63 - 1) }
+    ensures fits { IfOk result (λ newest. FitsSlot newest.0 newest.1) }
 {
     let Some((turn, state)) = slots.newest else {
         return Err(unslotted(slots));
@@ -40,7 +42,7 @@ pub(crate) fn told(slots: &Slots) -> Result<(u64, PageState), Differing>
             expected: VERSION as u64,
         });
     }
-    Ok((turn, bounded(state)?))
+    bounded(turn, state)
 }
 
 /// Why no slot is intact.
@@ -66,12 +68,13 @@ fn unslotted(slots: &Slots) -> Differing
     }
 }
 
-/// What a slot says, if it is within its bounds.
+/// What the slot of a turn says, if it is within its bounds.
 #[tactic(auto, unfolding(queue_laws::specs::Checkpoints::bounded))]
-fn bounded(state: PageState) -> Result<PageState, Differing>
-    ensures told { as_bounded result ≡ bounded state }
-    ensures same { IfOk result (λ s. s ≡ state) }
-    ensures numbers { IfOk result (λ s. s.least + s.count ≤ 2 ^ 63 - 1) }
+fn bounded(turn: u64, state: PageState) -> Result<(u64, PageState), Differing>
+    ensures told { as_told result ≡ bounded state }
+    ensures same { IfOk result (λ newest. newest ≡ (turn, state)) }
+    ensures numbers { IfOk result (λ newest. newest.1.least + newest.1.count ≤ 2 ^ 63 - 1) }
+    ensures fits { IfOk result (λ newest. FitsSlot newest.0 newest.1) }
 {
     if state.page > LAST_PAGE {
         return Err(Differing {
@@ -92,5 +95,5 @@ fn bounded(state: PageState) -> Result<PageState, Differing>
             expected: most,
         });
     }
-    Ok(state)
+    Ok((turn, state))
 }

@@ -1,9 +1,11 @@
-use Rattle.std.proofs.Common.{◌+◌, ◌∙◌, ap}
+use Rattle.std.proofs.Common.{◌+◌, ◌∙◌, refl, ap}
 use Rattle.store_disk.proofs.Looking.{nothing_yet}
 use Rattle.queue_laws.specs.Folders.{names_in}
 use Rattle.queue_laws.proofs.ApartNames.{names_apart}
 use Rattle.queue_page.specs.Views.{PageView}
+use Rattle.queue_core.specs.declared.opening.Opened.{Opened}
 use Rattle.queue_core.proofs.Openings.{only_looked, first_made, first_found}
+use Rattle.queue_core.proofs.QueueReady.{ready_first}
 use Rattle.queue_core.proofs.opening.begin_folder.Goals as goal
 
 pub returns-in_err-page-clause-keeps : goal.returns-in_err-page-clause-keeps
@@ -22,4 +24,11 @@ returns-clause-keeps g c begun =
 
 pub returns-clause-found : goal.returns-clause-found
 returns-clause-found g c begun told =
-    first_found g.S.Store g.met.S.Store.images_tell (names_in c.args.folder.now) c.args.store.now _ begun told (ap (λ (p : PageView). p.state.least + p.state.count) c.start.ensures)
+    first_found g.S.Store g.met.S.Store.images_tell (names_in c.args.folder.now) c.args.store.now _ begun told (ap (λ (p : PageView). p.state.least + p.state.count) c.start-top.ensures)
+
+pub returns-clause-ready : goal.returns-clause-ready
+returns-clause-ready g c begun =
+    let opened : Opened =
+    record { turn = 0; state = record { page = 0; first_open = 1; least = 1; count = 0; length = 1 }; pages = record { tails = c.new-tails.result; pages = c.new-pages.result; top = c.start-top.result } } in
+    ready_first g.S.Store g.met.S.Store.images_tell (names_in c.args.folder.now) c.as_str.result.now c.args.checkpoint.now opened c.args.store.now c.make_first.new.store (names_apart c.args.folder.now)
+    (c.as_str.ensures ∙ c.in_ok-page.ensures) c.requires begun c.in_ok-make_first.ensures.ready c.new-tails.ensures.items refl refl c.start-top.ensures

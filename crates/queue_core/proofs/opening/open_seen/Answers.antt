@@ -6,6 +6,7 @@ use Rattle.queue_laws.specs.Found.{found}
 use Rattle.queue_core.specs.Collected.{IsLost}
 use Rattle.queue_core.specs.Marks.{read_in}
 use Rattle.queue_core.proofs.Openings.{only_looked, sees_new, sees_pages, sees_damage}
+use Rattle.queue_core.proofs.QueueReady.{if_ok_so, newest_of}
 use Rattle.queue_core.proofs.opening.open_seen.Goals as goal
 
 pub returns-then-is_new-clause-found : goal.returns-then-is_new-clause-found
@@ -33,3 +34,14 @@ returns-in-Err-clause-found g c seen told =
 pub returns-in-Err-clause-keeps : goal.returns-in-Err-clause-keeps
 returns-in-Err-clause-keeps g c seen =
     only_looked g.S.Store g.met.S.Store.images_tell (names_in c.args.folder.now) c.args.store.now c.args.store.now seen.rests (nothing_yet g.S.Store c.args.store.now)
+
+pub returns-then-is_new-clause-ready : goal.returns-then-is_new-clause-ready
+returns-then-is_new-clause-ready g c =
+    if_ok_so _ _ c.begin_folder.result c.begin_folder.ensures.ready
+    (λ o ready seen. ready (sees_new g.S.Store g.met.S.Store.images_tell (names_in c.args.folder.now) c.args.look c.args.store.now seen c.is_new.result c.is_new.ensures c.if-is_new.true))
+
+pub returns-in-Ok-clause-ready : goal.returns-in-Ok-clause-ready
+returns-in-Ok-clause-ready g c =
+    if_ok_so _ _ c.open_pages.result c.open_pages.ensures.ready
+    (λ o ready seen. ready (sees_pages g.S.Store g.met.S.Store.images_tell (names_in c.args.folder.now) c.args.look c.args.store.now _ _ c.told.result seen c.told.ensures.told c.in-Ok.is)
+    (λ told. newest_of _ c.args.look.slots _ _ (seen.looked told).slots_are c.in-Ok.ensures.newest c.in-Ok.ensures.fits))

@@ -4,6 +4,7 @@ use Rattle.queue_laws.specs.Folders.{names_in}
 use Rattle.queue_laws.proofs.ApartNames.{names_apart}
 use Rattle.queue_core.specs.Marks.{read_in}
 use Rattle.queue_core.proofs.ScanReads.{handed_on, none_falls, pages_lost, pages_read, head_lost, head_read, found_tail_lost, found_top_lost, found_rows, rows_found}
+use Rattle.queue_core.proofs.QueueReads.{leaves_read}
 use Rattle.queue_core.proofs.FoundStays.{looked, opened_run}
 use Rattle.queue_core.proofs.reading.read_pages.Goals as goal
 
@@ -88,3 +89,10 @@ returns-clause-found g c told =
       is_found = rows_found folder s c.args.numbers.now tails held rises c.in_ok-pages.pages.items read c.in_ok-top.top rows;
       next = rows.next;
     }
+
+pub returns-clause-leaves : goal.returns-clause-leaves
+returns-clause-leaves g c rests =
+    leaves_read g.S.Store g.met.S.Store.images_tell (names_in c.args.folder.now) (names_apart c.args.folder.now) c.args.head.now c.args.store.now c.scan_tails.new.store c.scan.new.store rests
+    (nothing_then g.S.Store c.args.store.now c.read_tails.new.store c.scan_tails.new.store c.read_tails.ensures.same c.scan_tails.ensures.same)
+    c.as_str.result.now (c.as_str.ensures ∙ c.in_ok-name-2.ensures) (record { tails = c.in_ok-tails.tails; pages = c.in_ok-pages.pages; top = c.in_ok-top.top }) c.in_ok-top.ensures.page c.in_ok-top.ensures.kept c.in_ok-top.ensures.settled
+    c.scan.ensures.reads c.scan.ensures.beside c.in_ok-tails.ensures.newest

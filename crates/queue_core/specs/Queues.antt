@@ -1,0 +1,120 @@
+-- The queue that the pages of a folder are.
+use Rattle.std.specs.Prelude.{◌≡◌, ◌≢◌, ◌≤◌, ◌<◌, ◌+◌, ◌^◌, nat_lt, ℕ, Bool, IsTrue, ⊤, List, [], ◌∷◌, ◌++◌, length, take, Some, option_map, Ok}
+use Rattle.io_traits.specs.Reads.{bytes_of}
+use Rattle.store_trait.specs.Images.{Image, IsAtRest}
+use Rattle.store_trait.specs.Moments.{MayLeaveNow}
+use Rattle.store_trait.specs.declared.stores.Store.{Ghosts as StoreWords}
+use Rattle.store_disk.specs.declared.pages.PageState.{PageState}
+use Rattle.queue_checkpoint.specs.Checkpoints.{FitsSlot, newest_in}
+use Rattle.queue_page.specs.Laws.{AreBytes}
+use Rattle.queue_page.specs.Pages.{PageRows, view_of}
+use Rattle.queue_page.specs.declared.row.PageRow.{PageRow}
+use Rattle.queue_laws.specs.Folders.{Role, page, checkpoint, Folder, Names}
+use Rattle.queue_laws.specs.Checkpoints.{told}
+use Rattle.queue_laws.specs.Found.{Row, since, found}
+use Rattle.queue_laws.specs.Kept.{Page, Queue}
+use Rattle.queue_core.specs.Marks.{read_in}
+use Rattle.queue_core.specs.Ready.{Ready}
+use Rattle.queue_core.specs.declared.opening.Opened.{Opened}
+use Rattle.queue_core.specs.declared.reading.Scanned.{Scanned}
+use Rattle.queue_core.specs.declared.tails.Tail.{Tail}
+
+-- ---- pages as they were read
+
+-- which of these rows have a number below this
+abbrev pub below : ℕ → List PageRow → List Bool
+below from [] = []
+below from (r ∷ rows) = nat_lt r.number from ∷ below from rows
+
+-- the page of this number, of which a slot of this turn says this, and which was read so: what is below its first open number is acknowledged
+abbrev pub page_of : ℕ → ℕ → PageState → PageRows → Page
+page_of number turn s read = record {
+  number = number;
+  version = read.version;
+  least = s.least;
+  rows = read.rows;
+  acknowledged = below s.first_open read.rows;
+  from = s.first_open;
+  turn = turn;
+}
+
+-- the pages of which these tell, with as many rows
+abbrev pub ArePages : List Tail → List Page → Type 0
+ArePages [] pages = pages ≡ []
+ArePages (t ∷ tails) pages = (read : PageRows) × (rest : List Page) × (pages ≡ page_of t.number t.turn t.state read ∷ rest) × (length read.rows ≡ t.state.count) × ArePages tails rest
+
+-- their rows, and those of the head page, from the first number of each on that isn't recorded as acknowledged
+abbrev pub all_rows : List Page → Page → List Row
+all_rows [] top = since top.from top.rows
+all_rows (p ∷ tails) top = since p.from p.rows ++ all_rows tails top
+
+-- ---- folders as a queue writes them
+
+-- the slot of the page names it, its first open number is one of the page or the next, and the file ends with the rows
+pub record IsTrim (number : ℕ) (s : PageState) (bytes : List ℕ) : Type 0 where
+  pub named : s.page ≡ number
+  pub begins : s.least ≤ s.first_open
+  pub within : s.first_open ≤ s.least + s.count
+  pub exact : length bytes ≡ s.length
+
+abbrev pub AreTrim : Folder → List Tail → Type 0
+AreTrim folder [] = ⊤
+AreTrim folder (t ∷ tails) = IsTrim t.number t.state (bytes_of (folder (page t.number))) × AreTrim folder tails
+
+-- the newest slot of this file has this turn, and says this
+pub record IsNewest (slots : List ℕ) (turn : ℕ) (s : PageState) : Type 0 where
+  pub fits : FitsSlot turn s
+  pub is : newest_in slots ≡ Some (turn, s)
+
+abbrev pub AreNewest : Folder → List Tail → Type 0
+AreNewest folder [] = ⊤
+AreNewest folder (t ∷ tails) = IsNewest (bytes_of (folder (checkpoint t.number))) t.turn t.state × AreNewest folder tails
+
+-- the newest slot of each tells what was read of it
+abbrev pub AreTold : Folder → List Tail → Type 0
+AreTold folder [] = ⊤
+AreTold folder (t ∷ tails) = (told (folder (checkpoint t.number)) ≡ Ok t.state) × AreTold folder tails
+
+-- a folder with these pages, as a queue leaves it: its pages are bytes, of each the first open number is one of it or the next, and the file of the
+-- head page has a length
+pub record IsAsWritten (folder : Folder) (o : Opened) : Type 0 where
+  pub bytes : (n : ℕ) → AreBytes (bytes_of (folder (page n)))
+  pub tails : AreTrim folder o.pages.tails.items
+  pub begins : o.state.least ≤ o.state.first_open
+  pub within : o.state.first_open ≤ o.state.least + o.pages.top.state.count
+  pub short : o.pages.top.state.length < 2 ^ 64
+
+-- the queue of a folder that was opened
+pub record IsQueueOf (folder : Folder) (o : Opened) (q : Queue) : Type 0 where
+  pub tails : ArePages o.pages.tails.items q.tails
+  pub read : PageRows
+  pub top : q.top ≡ page_of o.state.page o.turn o.state read
+  pub top_is : o.pages.top ≡ view_of o.state read
+  pub marked : q.marked ≡ o.state.count
+  pub is_found : found folder ≡ Ok (record { rows = all_rows q.tails q.top; next = q.top.least + length q.top.rows })
+
+-- ---- what reads give once pages are read
+
+-- all as before, but that of the head page only what was read is left
+pub record IsCut (s : PageState) (r : Scanned) (a b : Folder) : Type 0 where
+  pub top : b (page s.page) ≡ option_map (take r.top.state.length) (a (page s.page))
+  pub others : (role : Role) → role ≢ page s.page → b role ≡ a role
+
+module _ {S : Type 0} (store : StoreWords S) where
+  abbrev pub IsAllAtRest : S → Type 0
+  IsAllAtRest s = (i : Image) → MayLeaveNow store s i → IsAtRest (store.seen s) i
+
+  -- The pages were read of a folder at rest, and all is at rest. Their checkpoints have these turns.
+  pub record LeavesRead (names : Names) (s : PageState) (r : Scanned) (old new : S) : Type 0 where
+    pub rests : (i : Image) → MayLeaveNow store new i → IsAtRest (store.seen new) i
+    pub cut : IsTrue store.tells → IsCut s r (read_in names (store.seen old)) (read_in names (store.seen new))
+    pub newest : IsTrue store.tells → AreNewest (read_in names (store.seen old)) r.tails.items
+
+  -- where a folder is as a queue leaves it, its queue is ready
+  pub record OpensQueue (names : Names) (o : Opened) (old new : S) : Type 0 where
+    pub queue : Queue
+    pub is : IsQueueOf (read_in names (store.seen old)) o queue
+    pub ready : Ready store names queue new
+
+  abbrev pub OpensReady : Names → Opened → S → S → Type 0
+  OpensReady names o old new = IsTrue store.tells → IsAsWritten (read_in names (store.seen old)) o → OpensQueue names o old new
