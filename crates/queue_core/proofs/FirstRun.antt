@@ -1,5 +1,5 @@
 -- A new queue, call by call.
-use Rattle.std.proofs.Common.{◌≡◌, ◌≢◌, ⊎_elim, ℕ, ◌≤◌, IsTrue, List, [], ◌∷◌, ◌++◌, length, take, Option, Some, None, option_map, Ok, refl, sym, ◌∙◌, ap, subst, arith}
+use Rattle.std.proofs.Common.{◌≡◌, ◌≢◌, inl, ⊎_elim, ℕ, ◌≤◌, IsTrue, List, [], ◌∷◌, ◌++◌, length, take, Option, Some, None, option_map, Ok, refl, sym, ◌∙◌, ap, subst, arith}
 use Rattle.io_traits.specs.Folders.{Content}
 use Rattle.io_traits.specs.Reads.{bytes_of, file_length}
 use Rattle.crc_frame.specs.Slots.{place_of, slot_of, newest_slot, with_slot, MayHoldSlot, NewestIs, IsSlotOf}
@@ -28,7 +28,7 @@ use Rattle.queue_core.proofs.TornMarks.{number_of}
 use Rattle.queue_core.proofs.Keeping.{at_rest_rests}
 
 first_sound : IsSound first_page
-first_sound = record { number = omega arith; turn = omega arith; least = omega arith; numbers = omega arith; count = omega arith; numbered = tt; each = refl; begins = omega arith; from = omega arith }
+first_sound = record { number = omega arith; turn = omega arith; least = omega arith; numbers = omega arith; count = omega arith; numbered = tt; each = refl; from_fits = omega arith; from = inl (omega arith) }
 
 first_is : IsQueue first_queue
 first_is = (omega arith, omega arith, first_sound)

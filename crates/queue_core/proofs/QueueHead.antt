@@ -20,7 +20,7 @@ use Rattle.queue_laws.specs.Kept.{Page, Queue, state_at, AreNumbered, IsSound}
 use Rattle.queue_laws.specs.Resting.{Records, TopHeld}
 use Rattle.queue_laws.proofs.Recording.{read_is_recorded}
 use Rattle.queue_core.specs.Queues.{page_of, IsNewest}
-use Rattle.queue_core.proofs.QueuePages.{are_numbered, below_each, below_leads, InBounds, in_bounds, told_bounded, damage_ok}
+use Rattle.queue_core.proofs.QueuePages.{are_numbered, below_each, below_open, InBounds, in_bounds, told_bounded, damage_ok}
 
 -- a run ends behind its elements
 run_ends : (limit version number place : ℕ) (bytes : List ℕ) (size : ℕ) → size ≤ length bytes → AreElements version number place (run limit version number place bytes).rows (take size bytes)
@@ -96,8 +96,8 @@ module _ (a b : Folder) (turn : ℕ) (s : PageState) (bytes : IsBytes (bytes_of 
   numbered = more_numbered s.least r0.rows r.rows (are_numbered r0.version s.least 1 r0.rows spelled.0.elements spelled.0.are)
       (subst (λ n. AreNumbered (s.least + n) r.rows) (sym spelled.1) (are_numbered r0.version (s.least + s.count) s.length r.rows (take run_of.size (drop s.length file)) run_of.are))
 
-  pub head_sound : s.least ≤ s.first_open → s.first_open ≤ s.least + length read.rows → IsSound top
-  head_sound begins within = record {
+  pub head_sound : IsSound top
+  head_sound = record {
     number = omega (arith, bounds.page, newest.fits.page);
     turn = newest.fits.turn_fits;
     least = bounds.least;
@@ -105,8 +105,8 @@ module _ (a b : Folder) (turn : ℕ) (s : PageState) (bytes : IsBytes (bytes_of 
     count = omega (arith, newest.fits.count, many, few, (room s).rows);
     numbered = numbered;
     each = below_each s.first_open read.rows;
-    begins = begins;
-    from = omega (arith, below_leads s.first_open s.least read.rows numbered begins within);
+    from_fits = newest.fits.first_open;
+    from = below_open s.first_open s.least read.rows numbered;
   }
 
   module _ (q : Queue) (top_is : q.top ≡ top) (marked_is : q.marked ≡ s.count) (cut : b (page s.page) ≡ option_map (take read.length) (a (page s.page))) (short : read.length < 2 ^ 64) where

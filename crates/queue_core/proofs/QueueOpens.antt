@@ -91,8 +91,8 @@ pub record Opens (b : Folder) (turn : ℕ) (s : PageState) (r : Scanned) (rows :
   pub rows_are : rows ≡ record { rows = all_rows queue.tails queue.top; next = queue.top.least + length queue.top.rows }
 
 module _ (m b : Folder) (turn : ℕ) (s : PageState) (numbers : List ℕ) (r : Scanned) (scanned : IsScanned m s numbers r) (tells : told (m head) ≡ Ok s) (newest : IsNewest (bytes_of (m head)) turn s) (turns : AreNewest m r.tails.items)
-    (stand : AreStanding 0 s.page m numbers) (bytes : (n : ℕ) → n ≤ s.page → IsBytes (bytes_of (m (page n)))) (trim : AreTrim m r.tails.items) (begins : s.least ≤ s.first_open)
-    (within : s.first_open ≤ s.least + r.top.state.count) (short : r.top.state.length < 2 ^ 64) (cut : IsCut s r m b)
+    (stand : AreStanding 0 s.page m numbers) (bytes : (n : ℕ) → n ≤ s.page → IsBytes (bytes_of (m (page n)))) (trim : AreTrim m r.tails.items)
+    (short : r.top.state.length < 2 ^ 64) (cut : IsCut s r m b)
     (no_pages : (n : ℕ) → s.page < n → n < 2 ^ 32 → m (page n) ≡ None) (no_checkpoints : (n : ℕ) → s.page ≤ n → n < 2 ^ 32 → m (checkpoint n) ≡ None) where
   abbrev file : List ℕ
   file = bytes_of (m (page s.page))
@@ -128,7 +128,7 @@ module _ (m b : Folder) (turn : ℕ) (s : PageState) (numbers : List ℕ) (r : S
   head_same = cut.others head (λ is. absurd cc)
 
   sound : IsSound top
-  sound = head_sound m b turn s (bytes s.page (omega arith)) parts.r0 parts.reads head_same newest tells begins (omega (arith, within, count_is))
+  sound = head_sound m b turn s (bytes s.page (omega arith)) parts.r0 parts.reads head_same newest tells
 
   listed_are : AreListed m numbers r.tails.items
   listed_are = listed m numbers r.tails.items scanned.tails

@@ -1,5 +1,5 @@
 -- The pages that were read are pages of a queue.
-use Rattle.std.proofs.Common.{◌≡◌, ◌≢◌, inl, inr, ⊎_elim, ℕ, suc, ◌+◌, ◌-◌, ◌<◌, ◌≤◌, ◌^◌, ◌==◌, nat_lt, Bool, true, false, List, [], ◌∷◌, ◌++◌, length, map, take, Option, Some, None, IsSome, Result, Ok, Err, if◌then◌else◌, refl, sym, ◌∙◌, ap, subst, arith}
+use Rattle.std.proofs.Common.{◌≡◌, ◌≢◌, ◌⊎◌, inl, inr, ⊎_elim, ℕ, suc, ◌+◌, ◌-◌, ◌<◌, ◌≤◌, ◌^◌, ◌==◌, nat_lt, Bool, true, false, List, [], ◌∷◌, ◌++◌, length, map, take, Option, Some, None, IsSome, Result, Ok, Err, if◌then◌else◌, refl, sym, ◌∙◌, ap, subst, arith}
 use Rattle.std.proofs.lemmas.Bool.{cases_Bool, cases_lt, cond-true, cond-false, false≢true}
 use Rattle.std.proofs.lemmas.Bool.Decides.{nat_tests}
 use Rattle.std.proofs.lemmas.List.{take_all}
@@ -34,19 +34,16 @@ pub below_each : (from : ℕ) (rows : List PageRow) → length (below from rows)
 below_each from [] = refl
 below_each from (r ∷ rows) = ap suc (below_each from rows)
 
--- so many are below
-pub below_leads : (from number : ℕ) (rows : List PageRow) → AreNumbered number rows → number ≤ from → from ≤ number + length rows → number + leading (below from rows) ≡ from
-below_leads from number [] are begins within = omega (arith, begins, within)
-below_leads from number (r ∷ rows) are begins within = elim (cases_Bool (nat_lt r.number from)) [
+-- no row is below that isn't among the first of them
+pub below_open : (from number : ℕ) (rows : List PageRow) → AreNumbered number rows → (from ≤ number + leading (below from rows)) ⊎ (number + length rows ≤ number + leading (below from rows))
+below_open from number [] are = inr (omega arith)
+below_open from number (r ∷ rows) are = elim (cases_Bool (nat_lt r.number from)) [
   | inl less ↦
-      let less_is : r.number < from = grind (arith, nat_tests, less) in
-      let rest = below_leads from (suc number) rows are.1 (omega (arith, less_is, are.0)) (omega (arith, within)) in
       let here : leading (below from (r ∷ rows)) ≡ suc (leading (below from rows)) = ap (λ (a : Bool). if a then suc (leading (below from rows)) else 0) less in
-      omega (arith, rest, here)
+      ⊎_elim (λ past. inl (omega (arith, past, here))) (λ all. inr (omega (arith, all, here))) (below_open from (suc number) rows are.1)
   | inr more ↦
       let more_is : from ≤ r.number = grind (arith, nat_tests, more) in
-      let here : leading (below from (r ∷ rows)) ≡ 0 = ap (λ (a : Bool). if a then suc (leading (below from rows)) else 0) more in
-      omega (arith, here, more_is, are.0, begins)
+      inl (omega (arith, more_is, are.0))
 ]
 
 -- ---- what is recorded of a page
@@ -134,8 +131,8 @@ module _ (number turn : ℕ) (s : PageState) (slots file : Option (List ℕ)) (r
         count = omega (arith, newest.fits.count, spelled.1);
         numbered = numbered;
         each = below_each s.first_open read.rows;
-        begins = trim.begins;
-        from = omega (arith, below_leads s.first_open s.least read.rows numbered trim.begins (omega (arith, trim.within, spelled.1)));
+        from_fits = newest.fits.first_open;
+        from = below_open s.first_open s.least read.rows numbered;
       }
 
 -- ---- all of them

@@ -39,7 +39,7 @@ trim_same : (from h : ℕ) (a m : Folder) (tails : List Tail) → AreStanding fr
 trim_same from h a m [] stand same trim = tt
 trim_same from h a m (t ∷ tails) stand same trim =
     let here = same t.number stand.1 in (
-      record { named = trim.0.named; begins = trim.0.begins; within = trim.0.within; exact = ap (λ (o : Option (List ℕ)). length (bytes_of o)) here ∙ trim.0.exact },
+      record { named = trim.0.named; exact = ap (λ (o : Option (List ℕ)). length (bytes_of o)) here ∙ trim.0.exact },
       trim_same _ h a m tails stand.4 same trim.1,
     )
 
@@ -58,7 +58,7 @@ module _ {S : Type 0} (store : StoreWords S) (tell : ImagesTell store) (names : 
       let trim = trim_same 0 s.page (now old) (now mid) r.tails.items (subst (AreStanding 0 s.page (now mid)) (sym which.numbers_are) stand) (λ n less. t.pages n (omega (arith, less))) written.tails in
       let opens = opens_queue (now mid) (now new) turn s numbers r (scanned told_is) (ap told t.head_is ∙ read.tells told_is)
       (subst (λ (x : Option (List ℕ)). IsNewest (bytes_of x) turn s) (sym t.head_is) (newest told_is)) (leaves.newest told_is) stand
-      (λ n within. subst (λ (x : Option (List ℕ)). IsBytes (bytes_of x)) (sym (t.pages n within)) (written.bytes n)) trim written.begins written.within written.short (leaves.cut told_is) t.no_pages t.no_checkpoints in
+      (λ n within. subst (λ (x : Option (List ℕ)). IsBytes (bytes_of x)) (sym (t.pages n within)) (written.bytes n)) trim written.short (leaves.cut told_is) t.no_pages t.no_checkpoints in
       record {
         queue = opens.queue;
         is = record { tails = opens.tails; read = opens.read; top = opens.top; top_is = opens.top_is; marked = opens.marked; is_found = found_here store tell names l s old mid read go tidy fits told_is ∙ ap (found_of (now mid) s) (sym are) ∙ (scanned told_is).is_found ∙ ap Ok opens.rows_are };

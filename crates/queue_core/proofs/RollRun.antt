@@ -22,7 +22,7 @@ use Rattle.queue_laws.specs.Resting.{Records, Held}
 use Rattle.queue_laws.specs.Steps.{next_top, rolled, CanRoll}
 use Rattle.queue_laws.specs.Changes.{SameFiles, IsRolled}
 use Rattle.queue_laws.proofs.Recording.{fits_slot, spelled_records, within_bounds, records_told, torn_records}
-use Rattle.queue_laws.proofs.Torn.{open_fits, next_fits}
+use Rattle.queue_laws.proofs.Torn.{next_fits}
 use Rattle.queue_laws.proofs.Kept.{standing_is_kept}
 use Rattle.queue_laws.proofs.Whole.{rising_top, resting_stands, resting_is_kept}
 use Rattle.queue_laws.proofs.Keeping.{rolled_keeps}
@@ -67,12 +67,12 @@ module _ (q : Queue) (is : IsQueue q) where
 
   -- how the page was recorded that becomes one below the head
   pub sealed_fits : (len : ℕ) → len < 2 ^ 64 → FitsSlot 0 (state_at q.top q.top.from q.top.rows len)
-  sealed_fits len short = fits_slot q.top 0 q.top.from len q.top.rows top_sound (omega arith) (omega (arith, top_sound.from, open_fits q.top top_sound)) (omega arith) short
+  sealed_fits len short = fits_slot q.top 0 q.top.from len q.top.rows top_sound (omega arith) top_sound.from_fits (omega arith) short
 
   pub next_state_fits : CanRoll q → FitsSlot (next_turn q.top.turn) (state_at (next_top q.top) (next_top q.top).from [] 1)
   next_state_fits can =
       let sound = rising_top 0 0 (rolled q).tails (next_top q.top) (rolled_is_queue q is can) in
-      fits_slot (next_top q.top) (next_turn q.top.turn) (next_top q.top).from 1 [] sound (next_fits q.top.turn) (omega (arith, sound.from, open_fits (next_top q.top) sound)) (omega arith) (omega arith)
+      fits_slot (next_top q.top) (next_turn q.top.turn) (next_top q.top).from 1 [] sound (next_fits q.top.turn) sound.from_fits (omega arith) (omega arith)
 
 module _ {S : Type 0} (store : StoreWords S) (tell : ImagesTell store) (names : Names) (apart : AreApart names) (q : Queue) (can : CanRoll q) (next : NextPage) (s0 : S) (ready : Ready store names q s0)
     (are : IsNextPageOf store names q s0 ready next) (slots file at_head : List ℕ) (is_slots : slots ≡ next.checkpoint) (is_file : file ≡ next.file) (is_head : at_head ≡ next.head) where

@@ -51,8 +51,8 @@ marked_sound p turn fits sound = record {
   count = sound.count;
   numbered = sound.numbered;
   each = sound.each;
-  begins = omega arith;
-  from = omega arith;
+  from_fits = open_fits p sound;
+  from = inl (omega arith);
 }
 
 marked_turn : (p : Page) → IsSound p → (if first_open_of p == p.from then p.turn else next_turn p.turn) < 2 ^ 64

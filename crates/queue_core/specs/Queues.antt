@@ -1,5 +1,5 @@
 -- The queue that the pages of a folder are.
-use Rattle.std.specs.Prelude.{◌≡◌, ◌≢◌, ◌≤◌, ◌<◌, ◌+◌, ◌^◌, nat_lt, ℕ, Bool, IsTrue, ⊤, List, [], ◌∷◌, ◌++◌, length, take, Some, option_map, Ok}
+use Rattle.std.specs.Prelude.{◌≡◌, ◌≢◌, ◌<◌, ◌+◌, ◌^◌, nat_lt, ℕ, Bool, IsTrue, ⊤, List, [], ◌∷◌, ◌++◌, length, take, Some, option_map, Ok}
 use Rattle.io_traits.specs.Reads.{bytes_of}
 use Rattle.store_trait.specs.Images.{Image, IsAtRest}
 use Rattle.store_trait.specs.Moments.{MayLeaveNow}
@@ -50,11 +50,9 @@ all_rows (p ∷ tails) top = since p.from p.rows ++ all_rows tails top
 
 -- ---- folders as a queue writes them
 
--- the slot of the page names it, its first open number is one of the page or the next, and the file ends with the rows
+-- the slot of the page names it, and its file ends with its rows
 pub record IsTrim (number : ℕ) (s : PageState) (bytes : List ℕ) : Type 0 where
   pub named : s.page ≡ number
-  pub begins : s.least ≤ s.first_open
-  pub within : s.first_open ≤ s.least + s.count
   pub exact : length bytes ≡ s.length
 
 abbrev pub AreTrim : Folder → List Tail → Type 0
@@ -75,13 +73,10 @@ abbrev pub AreTold : Folder → List Tail → Type 0
 AreTold folder [] = ⊤
 AreTold folder (t ∷ tails) = (told (folder (checkpoint t.number)) ≡ Ok t.state) × AreTold folder tails
 
--- a folder with these pages, as a queue leaves it: its pages are bytes, of each the first open number is one of it or the next, and the file of the
--- head page has a length
+-- a folder with these pages, as a queue leaves it: its pages are bytes, and the head page has a length
 pub record IsAsWritten (folder : Folder) (o : Opened) : Type 0 where
   pub bytes : (n : ℕ) → AreBytes (bytes_of (folder (page n)))
   pub tails : AreTrim folder o.pages.tails.items
-  pub begins : o.state.least ≤ o.state.first_open
-  pub within : o.state.first_open ≤ o.state.least + o.pages.top.state.count
   pub short : o.pages.top.state.length < 2 ^ 64
 
 -- the queue of a folder that was opened

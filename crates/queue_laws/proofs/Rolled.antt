@@ -1,5 +1,5 @@
 -- A new head page behind a queue.
-use Rattle.std.proofs.Common.{◌≡◌, ◌≢◌, inr, ℕ, suc, ◌+◌, ◌-◌, ◌<◌, ◌^◌, List, [], ◌∷◌, ◌++◌, length, refl, ◌∙◌, arith}
+use Rattle.std.proofs.Common.{◌≡◌, ◌≢◌, inl, inr, ℕ, suc, ◌+◌, ◌-◌, ◌<◌, ◌^◌, List, [], ◌∷◌, ◌++◌, length, refl, ◌∙◌, arith}
 use Rattle.queue_laws.specs.Folders.{head, page, checkpoint, Folder}
 use Rattle.queue_laws.specs.Kept.{Page, NoTail, Rising, IsSound}
 use Rattle.queue_laws.specs.Resting.{TailHeld, TailsHeld}
@@ -19,7 +19,7 @@ sealed_sound p sound = record {
   count = sound.count;
   numbered = sound.numbered;
   each = sound.each;
-  begins = sound.begins;
+  from_fits = sound.from_fits;
   from = sound.from;
 }
 
@@ -32,8 +32,8 @@ next_sound p room sound = record {
   count = omega arith;
   numbered = tt;
   each = refl;
-  begins = omega arith;
-  from = omega arith;
+  from_fits = omega (arith, sound.numbers);
+  from = inl (omega arith);
 }
 
 rolled_rising : (number end : ℕ) (tails : List Page) (top : Page) → suc top.number < 2 ^ 32 - 1 → Rising number end tails top → Rising number end (tails ++ sealed top ∷ []) (next_top top)

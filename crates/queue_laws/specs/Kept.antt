@@ -115,7 +115,7 @@ abbrev pub AreNumbered : ℕ → List PageRow → Type 0
 AreNumbered number [] = ⊤
 AreNumbered number (r ∷ rows) = (r.number ≡ number) × AreNumbered (suc number) rows
 
--- a page that can be recorded: each of its rows is acknowledged or not, and no number is recorded as acknowledged that isn't
+-- a page that can be recorded: each of its rows is acknowledged or not, and none of them is recorded as acknowledged that isn't
 pub record IsSound (p : Page) : Type 0 where
   pub number : p.number < 2 ^ 32 - 1
   pub turn : p.turn < 2 ^ 64
@@ -124,8 +124,8 @@ pub record IsSound (p : Page) : Type 0 where
   pub count : length p.rows < 2 ^ 32
   pub numbered : AreNumbered p.least p.rows
   pub each : length p.acknowledged ≡ length p.rows
-  pub begins : p.least ≤ p.from
-  pub from : p.from ≤ first_open_of p
+  pub from_fits : p.from < 2 ^ 64
+  pub from : (p.from ≤ first_open_of p) ⊎ (p.least + length p.rows ≤ first_open_of p)
 
 -- the pages have rising numbers, and so have their rows
 abbrev pub Rising : ℕ → ℕ → List Page → Page → Type 0
