@@ -6,7 +6,7 @@ which is that of `zlib`, and for what stops leave of an output, which is worked 
 
 from zlib import crc32
 
-TABLES = ["pages", "prefixes", "heads", "failing", "appends", "slots", "turns", "names", "positions", "outputs", "batches", "images", "frames"]
+TABLES = ["pages", "prefixes", "heads", "failing", "appends", "slots", "turns", "names", "positions", "outputs", "batches", "images", "letters", "sheds", "segments", "counts", "frames"]
 ROWS = {name: [] for name in TABLES}
 LAST = 2**63 - 1
 
@@ -453,6 +453,130 @@ for slots, file in [(P, TEXT), (b"", b"base")]:
         for choice in range(4):
             there = image(calls[:moment], {"pos": slots, "log": file}, choice)
             ROWS["images"].append((f"{moment} {choice} {hexed(slots, file, b'batch' + bytes([10]))}", f"done | {reopened(slots, there['pos'], old, new)}"))
+
+# ---- dead letters
+
+
+def text(data):
+    return u(4, len(data)) + data
+
+
+def moment(nanos):
+    return (nanos // 10**9).to_bytes(8, "big", signed=True) + u(4, nanos % 10**9)
+
+
+def letter(kind, id, reason, nanos=0, event=EMPTY):
+    return text(kind) + text(id) + text(reason) + moment(nanos) + event
+
+
+def record(body, crc=None):
+    covered = u(4, len(body)) + body
+    return covered + u(4, crc32(covered) if crc is None else crc)
+
+
+def letters(data, answer):
+    row("letters", "", data, answer)
+
+
+NINE = letter(b"if", b"9", b"x")
+NINE_SHOWN = '"if", "9", "x", 0 {}|{}; '
+SAME = "the same again"
+assert len(record(NINE)) == 44
+
+letters(b"", SAME)
+letters(record(NINE), NINE_SHOWN + SAME)
+letters(record(NINE) * 2, NINE_SHOWN * 2 + SAME)
+letters(record(letter(b"", b"", b"", -1)), '"", "", "", -1 {}|{}; ' + SAME)
+letters(record(letter(b"k", b"i", b"\xc3\xa4", 10**18 + 7, FIFTEEN)), '"k", "i", "ä", 1000000000000000007 {"a":1.5}|{}; ' + SAME)
+letters(record(letter(b"k", b"i", b"x" * 65536)), '"k", "i", 65536 bytes, 0 {}|{}; ' + SAME)
+letters(record(letter(b"k", b"i", b"r", -62135596800 * 10**9)), f'"k", "i", "r", {-62135596800 * 10**9} {{}}|{{}}; ' + SAME)
+# a record that leaves the segment; a length that is cut counts as 0
+letters(record(NINE)[:-1], "at 0: 44, not 43")
+letters(record(NINE)[:4], "at 0: 44, not 4")
+letters(record(NINE)[:3], "at 0: 8, not 3")
+letters(record(NINE) + b"\0", "at 44: 52, not 45")
+letters(record(NINE) + record(NINE)[:20], "at 44: 88, not 64")
+letters(u(4, 2**32 - 1) + bytes(4), f"at 0: {2**32 + 7}, not 8")
+# a checksum that is another
+letters(record(NINE, 1), f"at 0: 1, not {crc32(u(4, 36) + NINE)}")
+letters(record(NINE) + changed(record(NINE), 9, b"g"), f"at 44: {crc32(u(4, 36) + NINE)}, not {crc32(changed(u(4, 36) + NINE, 9, b'g'))}")
+letters(bytes(8), f"at 0: 0, not {crc32(bytes(4))}")
+# a body that fits no letter: the place in it, and its length, or one more
+letters(record(b""), "at 0: 0, not 1")
+letters(record(NINE + b"\0"), "at 0: 36, not 37")
+letters(record(NINE[:-1]), "at 0: 35, not 36")
+letters(record(u(4, 3) + b"if"), "at 0: 6, not 7")
+letters(record(letter(b"\xff", b"9", b"x")), "at 0: 4, not 35")
+letters(record(letter(b"if", b"\xff", b"x")), "at 0: 10, not 36")
+letters(record(letter(b"if", b"9", b"\xc3")), "at 0: 15, not 36")
+letters(record(NINE[:16] + u(8, 0) + u(4, 10**9) + EMPTY), "at 0: 16, not 36")
+letters(record(NINE[:16] + u(8, 2**62) + u(4, 0) + EMPTY), "at 0: 16, not 36")
+letters(record(letter(b"if", b"9", b"x", 0, TEN)), "at 0: 37, not 51")
+
+
+def shed(policy, limit, segments, records, answer):
+    words = f"{policy} {limit} {' '.join(map(str, segments))} | {' '.join(map(str, records))}"
+    ROWS["sheds"].append((words, answer))
+
+
+ONE = [44]
+NONE = "older 0, newer"
+for policy in ["hold", "drop_newer", "drop_older"]:
+    shed(policy, 88, [0], ONE, NONE)
+    shed(policy, 88, ONE, ONE, NONE)
+    shed(policy, 0, [0], ONE, "older 0, newer 0")
+    shed(policy, 2**64 - 1, [2**64 - 1], ONE, "older 0, newer 0")
+shed("drop_newer", 88, [44, 44], ONE, "older 0, newer 0")
+shed("drop_older", 88, [44, 44], ONE, "older 1, newer")
+shed("drop_older", 40, [0], ONE, "older 0, newer 0")
+shed("drop_older", 88, [88], ONE, "older 0, newer 0")
+shed("drop_older", 88, [44, 44], [44, 44], "older 1, newer 1")
+shed("drop_older", 88, [44, 44], [89, 44, 1], "older 1, newer 0 2")
+shed("drop_older", 88, [10, 20, 30, 28], [30], "older 2, newer")
+shed("drop_older", 88, [10, 20, 30, 28], [10], "older 1, newer")
+shed("drop_older", 88, [10, 20, 30, 28], [11], "older 2, newer")
+shed("drop_older", 88, [], [44, 44, 44], "older 0, newer 2")
+shed("drop_newer", 88, [40], [50, 48, 1, 0], "older 0, newer 0 2")
+shed("drop_newer", 88, [100], [0], "older 0, newer 0")
+shed("drop_older", 352, ONE * 8, ONE * 8, "older 7, newer 7")
+shed("drop_newer", 100, [2**64 - 1, 2**64 - 1], ONE, "older 0, newer 0")
+shed("drop_older", 100, [2**64 - 1, 2**64 - 1, 50], ONE, "older 2, newer")
+
+
+def named_segments(turn, first, last, length, version=2, zero=0):
+    return checked(u(2, version) + u(8, turn) + u(4, first) + u(4, last) + u(8, length) + u(2, zero))
+
+
+def says(data, answer):
+    row("segments", "", data, answer)
+
+
+Z = named_segments(0, 0, 0, 88)
+W = 2**32 - 1
+says(b"", "nothing")
+says(Z[:-1], "nothing")
+says(bytes(32), "nothing")
+says(Z, "0 to 0, 88 bytes, in turn 0")
+says(Z + named_segments(1, 1, 3, 7), "1 to 3, 7 bytes, in turn 1")
+says(Z + named_segments(1, 1, 3, 7)[:-1], "0 to 0, 88 bytes, in turn 0")
+says(named_segments(MOST - 1, W, W, MOST) + named_segments(MOST, 0, W, MOST), f"0 to {W}, {MOST} bytes, in turn {MOST}")
+says(Z + named_segments(MOST, 4, 5, 6), "0 to 0, 88 bytes, in turn 0")
+says(named_segments(2, 4, 3, 6), "4, not 3")
+says(Z + named_segments(1, W, 0, 6), f"{W}, not 0")
+says(changed(Z, 30, b"\0\0") + b"\0", f"{int.from_bytes(changed(Z, 30, bytes(2))[28:], 'big')}, not {crc32(Z[:28])}")
+says(named_segments(5, 1, 2, 3) + b"\0", "5, not 4")
+
+
+def counts(turn, first, last, length, data, answer):
+    row("counts", f"{turn} {first} {last} {length}", data, answer)
+
+
+counts(0, 0, 0, 0, b"", f"{named_segments(0, 0, 0, 0).hex()} | 0 to 0, 0 bytes, in turn 0")
+counts(1, 0, 2, 9, Z, f"{(Z + named_segments(1, 0, 2, 9)).hex()} | 0 to 2, 9 bytes, in turn 1")
+counts(2, 7, W, MOST, Z + named_segments(1, 0, 2, 9), f"{(named_segments(2, 7, W, MOST) + named_segments(1, 0, 2, 9)).hex()} | 7 to {W}, {MOST} bytes, in turn 2")
+counts(0, 1, 1, 4, Z[:9], f"{named_segments(0, 1, 1, 4).hex()} | 1 to 1, 4 bytes, in turn 0")
+counts(1, 0, 0, 0, b"", "not done")
+counts(2, 3, 2, 0, Z, "not done")
 
 # ---- frames
 

@@ -18,6 +18,11 @@
 //!   files are those behind one more opening.
 //! - `images`: a moment of the store, a choice of what a stop leaves of its changes, and such a row with a batch. The files are
 //!   those of the image behind an opening.
+//! - `letters`: the bytes of a segment of dead letters. The letters are shown, and whether they are written so.
+//! - `sheds`: a policy, a limit, the bytes of segments, and those of new records behind a bar.
+//! - `segments`: the bytes of a file that names the segments of dead letters.
+//! - `counts`: a turn, a first segment, a last one, its length, and the bytes of such a file, into which the slot that says
+//!   this is written.
 //! - `frames`: bytes, of which the CRC-32 is computed, and which are read as a frame.
 //!
 //! `data/rows.py` made the tables and `stdout`, by the tables of the formats and with the CRC-32 of Python's `zlib`.
@@ -25,6 +30,7 @@
 
 mod files;
 mod frames;
+mod letters;
 mod outputs;
 mod pages;
 mod slots;
@@ -46,10 +52,14 @@ enum Table {
     Outputs,
     Batches,
     Images,
+    Letters,
+    Sheds,
+    Segments,
+    Counts,
     Frames,
 }
 
-const TABLES: [(&str, Table); 13] = [
+const TABLES: [(&str, Table); 17] = [
     ("pages", Table::Pages),
     ("prefixes", Table::Pages),
     ("heads", Table::Pages),
@@ -62,6 +72,10 @@ const TABLES: [(&str, Table); 13] = [
     ("outputs", Table::Outputs),
     ("batches", Table::Batches),
     ("images", Table::Images),
+    ("letters", Table::Letters),
+    ("sheds", Table::Sheds),
+    ("segments", Table::Segments),
+    ("counts", Table::Counts),
     ("frames", Table::Frames),
 ];
 
@@ -90,6 +104,10 @@ fn add_answer(to: &mut String, table: Table, row: &str) -> Result<(), AllocError
         Table::Outputs => outputs::add_opened(to, row),
         Table::Batches => outputs::add_appended(to, row),
         Table::Images => outputs::add_image(to, row),
+        Table::Letters => letters::add_read(to, row),
+        Table::Sheds => letters::add_shed(to, row),
+        Table::Segments => letters::add_counted(to, row),
+        Table::Counts => letters::add_written(to, row),
         Table::Frames => frames::add_read(to, row),
     }
 }

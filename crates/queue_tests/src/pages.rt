@@ -164,7 +164,8 @@ fn add_row(to: &mut String, row: &PageRow) -> Result<(), AllocError> {
     add_json(to, row.event.meta())
 }
 
-fn add_json(to: &mut String, value: &Value) -> Result<(), AllocError> {
+/// Adds a value as JSON, or how long that is.
+pub fn add_json(to: &mut String, value: &Value) -> Result<(), AllocError> {
     let mut bytes = Vec::new(*to.allocator());
     write_json(value, &mut bytes)?;
     if bytes.len() > SHOWN {

@@ -42,8 +42,8 @@ pub fn add_written(to: &mut String, row: &str) -> Result<(), AllocError> {
     add_said(to, &mut store)
 }
 
-// The length of the file, 0 where it is missing.
-fn length_of(store: &MemoryStore, name: &str) -> u64
+/// The length of a file, 0 where it is missing.
+pub fn length_of(store: &MemoryStore, name: &str) -> u64
     ensures { result ≡ file_length (reads_of store.now name.now) }
 {
     match store.bytes(name) {
