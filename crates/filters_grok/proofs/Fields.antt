@@ -9,7 +9,7 @@ use Rattle.filters_grok.specs.Grok.{searched, field_searched, found_in, behind_m
 use Rattle.filters_grok.specs.declared.grok.Searched.{Searched}
 use Rattle.filters_grok.specs.declared.grok.Searched.TheVariants as x
 use Rattle.filters_grok.specs.Searching.{put_in}
-use Rattle.filters_grok.specs.declared.expansion.Expanded.{Expanded}
+use Rattle.grok_patterns.specs.declared.expansion.Expanded.{Expanded}
 use Rattle.filters_grok.specs.declared.grok_pattern.Put.{Put}
 use Rattle.filters_grok.specs.declared.searching.How.{How}
 

@@ -5,7 +5,7 @@ use Rattle.std.proofs.lemmas.Option.{slice_get-get_or, get_or_from_slice_get}
 use Rattle.event_tree.specs.declared.value.Value.{Value}
 use Rattle.event_text.proofs.Going.{front, behind_end}
 use Rattle.filters_grok.specs.Searching.{none, and_finds, both, text_finds, pattern_finds, item_finds, values_finds}
-use Rattle.filters_grok.specs.declared.expansion.Expanded.{Expanded}
+use Rattle.grok_patterns.specs.declared.expansion.Expanded.{Expanded}
 use Rattle.filters_grok.specs.declared.grok_pattern.Put.{Put}
 use Rattle.filters_grok.specs.declared.searching.Finds.{Finds}
 use Rattle.filters_grok.specs.declared.searching.How.{How}

@@ -1,6 +1,3 @@
-mod Scanning
-mod Adding
-mod Finding
-mod Cutting
-mod Matching
+pub mod Finding
 mod Fields
+mod Matching

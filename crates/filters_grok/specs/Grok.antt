@@ -12,8 +12,8 @@ use Rattle.filter_settings.specs.Readers.{text_of, flag_of, path_of, paths_of}
 use Rattle.filter_settings.specs.Options.{option_set}
 use Rattle.filters_grok.specs.Searching.{none, value_finds, put_in}
 use Rattle.filters_grok.specs.Settings.{rules_of, definitions_of, match_of}
-use Rattle.filters_grok.specs.declared.expansion.Expanded.{Expanded}
-use Rattle.filters_grok.specs.declared.expansion.Rules.{Rules}
+use Rattle.grok_patterns.specs.declared.expansion.Expanded.{Expanded}
+use Rattle.grok_patterns.specs.declared.expansion.Rules.{Rules}
 use Rattle.filters_grok.specs.declared.grok.Grok.{Grok}
 use Rattle.filters_grok.specs.declared.grok.Searched.{Searched}
 use Rattle.filters_grok.specs.declared.grok.Searched.TheVariants as x

@@ -10,12 +10,12 @@ use Rattle.event_tree.specs.Paths.{over}
 use Rattle.event_tree.specs.declared.value.Value.{Value}
 use Rattle.event_tree.specs.declared.value.Value.TheVariants as v
 use Rattle.event_json_laws.specs.Numbers.{number_of}
-use Rattle.filters_grok.specs.Expansions.{is_same}
-use Rattle.filters_grok.specs.declared.expansion.Capture.{Capture}
-use Rattle.filters_grok.specs.declared.expansion.Expanded.{Expanded}
+use Rattle.filter_settings.specs.Paths.{same_path}
+use Rattle.grok_patterns.specs.declared.expansion.Capture.{Capture}
+use Rattle.grok_patterns.specs.declared.expansion.Expanded.{Expanded}
 use Rattle.filters_grok.specs.declared.grok_pattern.Put.{Put}
-use Rattle.filters_grok.specs.declared.piece.Coercion.{Coercion}
-use Rattle.filters_grok.specs.declared.piece.Coercion.TheVariants as coercion
+use Rattle.grok_patterns.specs.declared.piece.Coercion.{Coercion}
+use Rattle.grok_patterns.specs.declared.piece.Coercion.TheVariants as coercion
 
 -- the spans of a match and of its groups
 abbrev pub Spans : Type 0
@@ -59,7 +59,7 @@ kept_at keep_empty text spans c = option_and_then (kept_text keep_empty) (text_a
 
 -- a capture found something for the field of another
 abbrev pub is_before : Bool → List ℕ → Spans → Capture → Capture → Bool
-is_before keep_empty text spans c d = is_same c.path d.path && is_some (kept_at keep_empty text spans d)
+is_before keep_empty text spans c d = same_path c.path d.path && is_some (kept_at keep_empty text spans d)
 
 -- one of the captures in front found something for the same field
 abbrev pub stands : Bool → List ℕ → Spans → List Capture → Capture → Bool

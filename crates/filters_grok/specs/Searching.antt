@@ -7,8 +7,8 @@ use Rattle.event_tree.specs.declared.value.Value.TheOpen.{Value-F}
 use Rattle.event_text.specs.Options.{values, value_and as value_or_list}
 use Rattle.filter_settings.specs.Trying.{Tried, put_at}
 use Rattle.filters_grok.specs.Matches.{puts_in}
-use Rattle.filters_grok.specs.declared.expansion.Capture.{Capture}
-use Rattle.filters_grok.specs.declared.expansion.Expanded.{Expanded}
+use Rattle.grok_patterns.specs.declared.expansion.Capture.{Capture}
+use Rattle.grok_patterns.specs.declared.expansion.Expanded.{Expanded}
 use Rattle.filters_grok.specs.declared.grok_pattern.Put.{Put}
 use Rattle.filters_grok.specs.declared.searching.Finds.{Finds}
 use Rattle.filters_grok.specs.declared.searching.How.{How}

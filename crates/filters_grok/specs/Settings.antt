@@ -10,10 +10,10 @@ use Rattle.config_tree.specs.declared.tree.SettingValue.{SettingValue}
 use Rattle.config_tree.specs.declared.fault.SettingFault.TheVariants as fault
 use Rattle.filter_settings.specs.Settings.{Made, wanted, next}
 use Rattle.filter_settings.specs.Readers.{text_item, texts_of, flag_of, path_of, paths_of, hash_of, at_field}
-use Rattle.filters_grok.specs.Pieces.{pieces_of}
-use Rattle.filters_grok.specs.Expansions.{known_patterns, expanded}
-use Rattle.filters_grok.specs.declared.expansion.Expanded.{Expanded}
-use Rattle.filters_grok.specs.declared.expansion.Rules.{Rules}
+use Rattle.grok_patterns.specs.Pieces.{pieces_of}
+use Rattle.grok_patterns.specs.Expansions.{known_patterns, expanded}
+use Rattle.grok_patterns.specs.declared.expansion.Expanded.{Expanded}
+use Rattle.grok_patterns.specs.declared.expansion.Rules.{Rules}
 
 -- a name with its pattern
 abbrev pub definition : List ℕ × SettingValue → Option (List ℕ × List ℕ)

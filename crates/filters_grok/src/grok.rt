@@ -3,9 +3,8 @@ ghost use Rattle.event_tree.specs.Events.{Way};
 ghost use Rattle.filter_settings.specs.Settings.{Gives, Leaves};
 ghost use Rattle.filter_settings.specs.Trying.{tried};
 ghost use Rattle.filters_grok.specs.Grok as spec;
-ghost use Rattle.filters_grok.specs.declared.expansion.Expanded.{Expanded as Said};
+ghost use Rattle.grok_patterns.specs.declared.expansion.Expanded.{Expanded as Said};
 
-use crate::expansion::Rules;
 use crate::searching::{Finds, How, put_all, search_value};
 use crate::settings::{FieldPatterns, read_definitions, read_match, rules_of};
 use event_tree::{Event, Items, Text};
@@ -13,6 +12,7 @@ use filter_settings::{
     Applied, FromFault, Options, SetByName, SettingValue, Settings, finish, read_flag, read_path,
     read_paths, read_settings, read_text, require, set_option,
 };
+use grok_patterns::Rules;
 use std::alloc::{AllocError, Global};
 
 /// The filter `grok`: patterns find fields in texts.

@@ -6,10 +6,10 @@ ghost use Rattle.regex.specs.Search.{LiesWithin};
 ghost use Rattle.regex.specs.Utf8.{CutsCleanly};
 ghost use Rattle.filters_grok.specs.Matches as spec;
 
-use crate::expansion::{Capture, Expanded, is_same};
-use crate::piece::Coercion;
 use event_text::number_of;
 use event_tree::{Items, Number, Text, Value};
+use filter_settings::is_same;
+use grok_patterns::{Capture, Coercion, Expanded};
 use pattern_box::{Pattern, PatternFault, Spans};
 use std::alloc::{AllocError, Global};
 use std::marker::Model;
@@ -43,7 +43,7 @@ impl Drop for GrokPattern {
 
 impl Model for GrokPattern {
     ghost use Rattle.pattern_box.specs.Patterns.{IsReadFrom};
-    ghost use Rattle.filters_grok.specs.declared.expansion.Expanded.{Expanded};
+    ghost use Rattle.grok_patterns.specs.declared.expansion.Expanded.{Expanded};
 
     ghost Value = { Expanded };
 

@@ -4,20 +4,12 @@
 //! expanded and compiled once, when the filter is made.
 #![tactic(auto)]
 
-mod expansion;
 mod grok;
 mod grok_pattern;
-mod library;
-mod piece;
-mod scan;
 mod searching;
 mod settings;
 
-pub use expansion::{Capture, Expanded, Known, Rules, expand, known_patterns};
 pub use filter_settings::Applied;
 pub use grok::Grok;
 pub use grok_pattern::{GrokPattern, Put};
-pub use library::LIBRARY;
-pub use piece::{Coercion, Field, Piece, Pieces, read_pieces};
-pub use scan::{Place, Scan};
 pub use settings::{FieldPatterns, pattern_of};

@@ -3,13 +3,13 @@ ghost use Rattle.std.specs.Prelude.{◌≡◌, ◌<◌, ◌∷◌, ◌++◌, [],
 ghost use Rattle.std.specs.Option.{option_copied};
 ghost use Rattle.filter_settings.specs.Trying.{tried, all_tried};
 ghost use Rattle.filters_grok.specs.Searching as spec;
-ghost use Rattle.filters_grok.specs.declared.expansion.Expanded.{Expanded as Said};
+ghost use Rattle.grok_patterns.specs.declared.expansion.Expanded.{Expanded as Said};
 
-use crate::expansion::Capture;
 use crate::grok_pattern::{GrokPattern, Put};
 use event_text::values;
 use event_tree::{Event, Items, Value};
 use filter_settings::put_at;
+use grok_patterns::Capture;
 use std::alloc::{AllocError, Global};
 
 /// How fields are searched.

@@ -1,20 +1,18 @@
 // How the settings of the filter are read.
 ghost use Rattle.std.specs.Prelude.{◌≡◌, ◌<◌, ℕ, List, Option, IfOk};
-ghost use Rattle.std.specs.Option.{option_copied};
 ghost use Rattle.event_text.specs.Options.{each_in};
 ghost use Rattle.filter_settings.specs.Readers as readers;
 ghost use Rattle.filter_settings.specs.Settings.{Gives, wanted};
 ghost use Rattle.filters_grok.specs.Settings as spec;
 
-use crate::expansion::{Rules, expand, known_patterns};
 use crate::grok_pattern::GrokPattern;
-use crate::piece::read_pieces;
 use event_text::path_in;
 use event_tree::{Items, Names, Pairs, Path, Text};
 use filter_settings::{
-    FromFault, SettingValue, Settings, bad_pattern, read_flag, read_path, read_paths, read_texts,
-    wanted,
+    FromFault, SettingValue, Settings, bad_pattern, hash_of, read_flag, read_path, read_paths,
+    read_texts, text_item, wanted,
 };
+use grok_patterns::{Rules, expand, known_patterns, read_pieces};
 use pattern_box::PatternFault;
 use std::alloc::{AllocError, Global};
 
@@ -129,35 +127,10 @@ fn definition(
     }
 }
 
-// A text, or a number as its decimal text, which is a list of one.
-fn text_item(alloc: Global, value: &SettingValue) -> Result<Option<Text>, AllocError>
-    ensures { IfOk result (λ text. text ≡ readers.text_item value.now) }
-{
-    match value {
-        SettingValue::Text(_) | SettingValue::Number(_) => match texts_of(alloc, value)? {
-            Some(mut texts) => Ok(texts.pop()),
-            None => Ok(None),
-        },
-        SettingValue::Nested(_) | SettingValue::Array(_) | SettingValue::Hash(_) => Ok(None),
-    }
-}
-
 fn texts_of(alloc: Global, value: &SettingValue) -> Result<Option<Names>, AllocError>
     ensures { IfOk result (λ texts. texts ≡ readers.texts_of value.now) }
 {
     unless_refused(read_texts(alloc, "match", value))
-}
-
-fn hash_of(value: &SettingValue) -> Option<&[(Text, SettingValue)]>
-    ensures { option_copied result ≡ readers.hash_of value.now }
-{
-    match value {
-        SettingValue::Hash(entries) => Some(entries.as_slice()),
-        SettingValue::Text(_)
-        | SettingValue::Number(_)
-        | SettingValue::Nested(_)
-        | SettingValue::Array(_) => None,
-    }
 }
 
 /// The fields with their patterns.

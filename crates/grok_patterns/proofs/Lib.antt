@@ -1,0 +1,3 @@
+pub mod Adding
+mod Cutting
+pub mod Scanning

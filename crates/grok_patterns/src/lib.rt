@@ -1,0 +1,13 @@
+//! What grok patterns stand for: how they are written, the library of patterns with names, and the regular
+//! expression to which a pattern is expanded.
+#![tactic(auto)]
+
+mod expansion;
+mod library;
+mod piece;
+mod scan;
+
+pub use expansion::{Capture, Expanded, Known, Rules, expand, known_patterns};
+pub use library::LIBRARY;
+pub use piece::{Coercion, Field, Piece, Pieces, read_pieces};
+pub use scan::{Place, Scan};
