@@ -1,8 +1,6 @@
-use crate::filter::{ForeignFilter, Verdict};
+use crate::filter::ForeignFilter;
 use crate::output::ForeignOutput;
 use config_tree::{FromFault, Settings};
-use event_tree::Event;
-use std::alloc::AllocError;
 
 /// What the rack holds: a box with its number, which reads settings.
 pub trait Plugged: Drop {
@@ -44,27 +42,6 @@ impl Plugged for PluggedFilter {
 
     fn configure(&mut self, settings: &Settings) -> Result<(), FromFault> {
         self.filter.configure(settings)
-    }
-}
-
-/// It is what its box is, so that callers need not name the box.
-impl ForeignFilter for PluggedFilter {
-    ghost refusal = { λ p. (ForeignFilter-box p.filter).refusal p.filter.value };
-
-    ghost may = { λ p. (ForeignFilter-box p.filter).may p.filter.value };
-
-    ghost closes = { λ p. (ForeignFilter-box p.filter).closes p.filter.value };
-
-    fn configure(&mut self, settings: &Settings) -> Result<(), FromFault> {
-        self.filter.configure(settings)
-    }
-
-    fn apply(&self, event: &Event) -> Result<Verdict, AllocError> {
-        self.filter.apply(event)
-    }
-
-    fn close(&mut self) {
-        self.filter.close();
     }
 }
 
