@@ -1,1 +1,3 @@
 pub mod Makes
+pub mod Flats
+pub mod Conditions

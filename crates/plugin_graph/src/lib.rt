@@ -1,10 +1,15 @@
-//! Configurations made ready to be run: filters with their settings read.
+//! Configurations made ready to be run: filters with their settings read, conditions with their
+//! patterns, and statements taken apart into both.
 #![tactic(auto)]
 
 mod boxed;
 mod built;
+mod condition;
 mod filter;
+mod flat;
 
 pub use boxed::BoxedFilter;
 pub use built::BuiltFilter;
+pub use condition::{CompiledCondition, NamedCondition};
 pub use filter::Filter;
+pub use flat::Flat;
