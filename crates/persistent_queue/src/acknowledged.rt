@@ -1,0 +1,68 @@
+ghost use Rattle.std.specs.Prelude.{◌≡◌, ◌≤◌, ◌<◌, ◌^◌, ◌++◌, ◌∷◌, [], false, length, OnOk, OnErr};
+ghost use Rattle.queue_laws.specs.Kept.{leading};
+ghost use Rattle.persistent_queue.specs.Bits.{with_range};
+
+use crate::words::{first_unset, make_room, set_bits};
+use std::alloc::{AllocError, Global};
+use std::marker::Model;
+
+/// Which rows of a page are acknowledged, the first row first: a bit each.
+#[derive(Drop)]
+pub struct Acknowledged {
+    words: Vec<u64>,
+    count: usize,
+    leading: usize,
+}
+
+impl Model for Acknowledged {
+    ghost use Rattle.std.specs.Prelude.{List, Bool};
+    ghost use Rattle.persistent_queue.specs.Bits.{bits_from, AreHeld};
+
+    ghost Value = { List Bool };
+
+    ghost view = { λ a. bits_from a.words.items 0 a.count };
+
+    ghost invariant = { λ a. AreHeld a.words.items a.count a.leading };
+}
+
+impl Acknowledged {
+    /// Those of a page without rows. It takes no memory.
+    pub fn new(alloc: Global) -> Self
+        ensures { result ≡ [] }
+    {
+        Acknowledged {
+            words: Vec::new(alloc),
+            count: 0,
+            leading: 0,
+        }
+    }
+
+    /// One row more, which isn't acknowledged. Where there is no memory, all stays.
+    pub fn push(&mut self) -> Result<(), AllocError>
+        requires { length self.old < 2 ^ 32 }
+        ensures ok { OnOk result (self.new ≡ self.old ++ false ∷ []) }
+        ensures err { OnErr result (self.new ≡ self.old) }
+    {
+        make_room(&mut self.words, self.count)?;
+        self.count += 1;
+        Ok(())
+    }
+
+    /// The rows from one on are acknowledged, up to another, where rows are counted from 0. It takes no
+    /// memory.
+    pub fn add(&mut self, from: usize, to: usize)
+        requires order { from ≤ to }
+        requires within { to ≤ length self.old }
+        ensures { self.new ≡ with_range 0 from to self.old }
+    {
+        set_bits(&mut self.words, from, to);
+        self.leading = first_unset(&self.words, self.leading, self.count);
+    }
+
+    /// How many are acknowledged before the first that isn't.
+    pub fn leading(&self) -> usize
+        ensures { result ≡ leading self.now }
+    {
+        self.leading
+    }
+}
