@@ -1,5 +1,5 @@
 -- The queue that the pages of a folder are.
-use Rattle.std.specs.Prelude.{◌≡◌, ◌≢◌, ◌<◌, ◌+◌, ◌^◌, nat_lt, ℕ, Bool, IsTrue, ⊤, List, [], ◌∷◌, ◌++◌, length, take, Some, option_map, Ok}
+use Rattle.std.specs.Prelude.{◌≡◌, ◌≢◌, ◌<◌, ◌+◌, ◌^◌, nat_lt, ℕ, Bool, IsTrue, ⊤, List, [], ◌∷◌, ◌++◌, length, map, take, Some, option_map, Ok}
 use Rattle.io_traits.specs.Reads.{bytes_of}
 use Rattle.store_trait.specs.Images.{Image, IsAtRest}
 use Rattle.store_trait.specs.Moments.{MayLeaveNow}
@@ -12,8 +12,9 @@ use Rattle.queue_page.specs.declared.row.PageRow.{PageRow}
 use Rattle.queue_laws.specs.Folders.{Role, page, checkpoint, Folder, Names}
 use Rattle.queue_laws.specs.Checkpoints.{told}
 use Rattle.queue_laws.specs.Found.{Row, since, found}
-use Rattle.queue_laws.specs.Kept.{Page, Queue}
+use Rattle.queue_laws.specs.Kept.{Page, Queue, Stands}
 use Rattle.queue_core.specs.Marks.{read_in}
+use Rattle.queue_core.specs.Reading.{AreStanding}
 use Rattle.queue_core.specs.Ready.{Ready}
 use Rattle.queue_core.specs.declared.opening.Opened.{Opened}
 use Rattle.queue_core.specs.declared.reading.Scanned.{Scanned}
@@ -72,6 +73,11 @@ AreNewest folder (t ∷ tails) = IsNewest (bytes_of (folder (checkpoint t.number
 abbrev pub AreTold : Folder → List Tail → Type 0
 AreTold folder [] = ⊤
 AreTold folder (t ∷ tails) = (told (folder (checkpoint t.number)) ≡ Ok t.state) × AreTold folder tails
+
+-- So it is of each page below the head of a queue that stands.
+abbrev pub StandingIsTrim : Type 0
+StandingIsTrim =
+    (q : Queue) (folder : Folder) (tails : List Tail) → Stands q folder → AreStanding 0 q.top.number folder (map (λ t. t.number) tails) → AreTold folder tails → AreTrim folder tails
 
 -- a folder with these pages, as a queue leaves it: its pages are bytes, and the head page has a length
 pub record IsAsWritten (folder : Folder) (o : Opened) : Type 0 where
