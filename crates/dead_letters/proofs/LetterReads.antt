@@ -61,22 +61,24 @@ module _ (bytes own rest : List ℕ) where
   pub text_refused : run_at bytes ≡ Ok (own, rest) → is_utf8 own ≡ false → text_at bytes ≡ Err (length bytes - 4)
   text_refused h is = rw (h, is) refl
 
-text_again : (own rest : List ℕ) → IsUtf8 own → length own < 2 ^ 32 → text_at (run_bytes own ++ rest) ≡ Ok (own, rest)
+pub text_again : (own rest : List ℕ) → IsUtf8 own → length own < 2 ^ 32 → text_at (run_bytes own ++ rest) ≡ Ok (own, rest)
 text_again own rest is short =
     text_taken (run_bytes own ++ rest) own rest (ap run_at (append_assoc (count_bytes (length own)) own rest) ∙ run_again own rest short) is
 
-record TextTaken (bytes : List ℕ) (x : List ℕ × List ℕ) : Type 0 where
-  utf8 : IsUtf8 x.0
-  is : bytes ≡ run_bytes x.0 ++ x.1
-  fits : IsBytes x.1
+pub record TextTaken (bytes : List ℕ) (x : List ℕ × List ℕ) : Type 0 where
+  pub utf8 : IsUtf8 x.0
+  pub short : length x.0 < 2 ^ 32
+  pub is : bytes ≡ run_bytes x.0 ++ x.1
+  pub fits : IsBytes x.1
 
-text_takes : (bytes : List ℕ) (x : List ℕ × List ℕ) → IsBytes bytes → text_at bytes ≡ Ok x → TextTaken bytes x
+pub text_takes : (bytes : List ℕ) (x : List ℕ × List ℕ) → IsBytes bytes → text_at bytes ≡ Ok x → TextTaken bytes x
 text_takes bytes x fit h =
     let b = bind_ok (run_at bytes) (λ y. (if is_utf8 y.0 then Ok y else Err (length bytes - 4))) x h in
     let r = run_takes bytes b.0 fit b.1 in
     elim (chosen (is_utf8 b.0.0) (Ok b.0) (Err (length bytes - 4)) (Ok x) b.2) [
       | inl w ↦ subst (TextTaken bytes) (ok_is b.0 x w.1) (record {
         utf8 = IsUtf8-from_is_utf8 b.0.0 w.0;
+        short = r.short;
         is = r.is ∙ sym (append_assoc (count_bytes (length b.0.0)) b.0.0 b.0.1);
         fits = r.fits;
       })
@@ -112,10 +114,10 @@ told_moment None seconds nanos z is low told = elim (cases_Bool (nat_lt nanos 10
       absurd (told (subst IsMoment (sym is) moment))
 ]
 
-instant_again : (t : ℤ) → IsMoment t → instant_in (time_bytes t) ≡ Some t
+pub instant_again : (t : ℤ) → IsMoment t → instant_in (time_bytes t) ≡ Some t
 instant_again t is = from_value t (instant_in (time_bytes t)) (sym (value_of (time_bytes t)) ∙ time_again t is)
 
-moment_again : (t : ℤ) (rest : List ℕ) → IsMoment t → moment_at (time_bytes t ++ rest) ≡ Ok (t, rest)
+pub moment_again : (t : ℤ) (rest : List ℕ) → IsMoment t → moment_at (time_bytes t ++ rest) ≡ Ok (t, rest)
 moment_again t rest is = rw (front_again (time_bytes t) rest 12 (sym (length-time_bytes t)), instant_again t is) refl
 
 pub moment_found : (bytes own behind : List ℕ) (t : ℤ) → front_at 12 bytes ≡ Ok (own, behind) → instant_in own ≡ Some t → moment_at bytes ≡ Ok (t, drop 12 bytes)
@@ -135,12 +137,12 @@ moment_whole bytes own behind h = elim (chosen (nat_lt (length bytes) 12) (Err 0
   | inr w ↦ grind (arith, nat_tests, w.0)
 ]
 
-record MomentTaken (bytes : List ℕ) (x : ℤ × List ℕ) : Type 0 where
-  valid : IsMoment x.0
-  is : bytes ≡ time_bytes x.0 ++ x.1
-  fits : IsBytes x.1
+pub record MomentTaken (bytes : List ℕ) (x : ℤ × List ℕ) : Type 0 where
+  pub valid : IsMoment x.0
+  pub is : bytes ≡ time_bytes x.0 ++ x.1
+  pub fits : IsBytes x.1
 
-instant_takes : (bytes : List ℕ) (t : ℤ) → IsBytes bytes → length bytes ≡ 12 → instant_in bytes ≡ Some t → IsMoment t × (bytes ≡ time_bytes t)
+pub instant_takes : (bytes : List ℕ) (t : ℤ) → IsBytes bytes → length bytes ≡ 12 → instant_in bytes ≡ Some t → IsMoment t × (bytes ≡ time_bytes t)
 instant_takes bytes t fit long h =
     let k = time_takes bytes (v.Time t) fit long (value_of bytes ∙ ap (option_map v.Time) h) in
     let same : t ≡ k.nanos = search (k.is, rules) in
@@ -150,7 +152,7 @@ found_is : {X : Type 0} (left : ℕ) (found : Option X) (x : X) → found_or lef
 found_is left None x h = absurd (search (h, rules))
 found_is left (Some y) x h = ap Some (ok_is y x h)
 
-moment_takes : (bytes : List ℕ) (x : ℤ × List ℕ) → IsBytes bytes → moment_at bytes ≡ Ok x → MomentTaken bytes x
+pub moment_takes : (bytes : List ℕ) (x : ℤ × List ℕ) → IsBytes bytes → moment_at bytes ≡ Ok x → MomentTaken bytes x
 moment_takes bytes x fit h =
     let b = bind_ok (front_at 12 bytes) (λ y. (found_or (length bytes) (instant_in y.0) >>= λ t. Ok (t, y.1))) x h in
     let f = front_takes 12 bytes b.0 fit b.1 in
@@ -179,11 +181,11 @@ event_takes bytes e fit h = elim (chosen (nat_lt 16777216 (length bytes)) (Err (
 
 -- where reading stops, a place is refused
 pub record Stopped (bytes : List ℕ) (left : ℕ) : Type 0 where
-  at : ℕ
-  sum : at + left ≡ length bytes
-  is : IsRefusedAt bytes at
+  pub at : ℕ
+  pub sum : at + left ≡ length bytes
+  pub is : IsRefusedAt bytes at
 
-event_refuses : (bytes : List ℕ) (left : ℕ) → IsBytes bytes → short_event_at bytes ≡ Err left → Stopped bytes left
+pub event_refuses : (bytes : List ℕ) (left : ℕ) → IsBytes bytes → short_event_at bytes ≡ Err left → Stopped bytes left
 event_refuses bytes left fit h = elim (chosen (nat_lt 16777216 (length bytes)) (Err (length bytes - 16777216)) (event_at bytes) (Err left) h) [
   | inl w ↦
       let more : 16777216 < length bytes = grind (arith, nat_tests, w.0) in

@@ -1,5 +1,5 @@
 -- What is shed, by what is left of a list.
-use Rattle.std.proofs.Common.{◌≡◌, inl, inr, ⊎_elim, ℕ, zero, suc, ◌+◌, ◌<◌, ◌≤◌, true, false, List, [], ◌∷◌, length, drop, get_or, refl, sym, ap, subst, ◌∙◌, arith, length-drop}
+use Rattle.std.proofs.Common.{◌≡◌, inl, inr, ⊎_elim, ℕ, zero, suc, ◌+◌, ◌<◌, ◌≤◌, true, false, List, [], ◌∷◌, length, take, drop, get_or, refl, sym, ap, subst, ◌∙◌, arith, length-drop}
 use Rattle.std.specs.Prelude.{nat_le, fold}
 use Rattle.std.specs.List.{sum}
 use Rattle.std.proofs.lemmas.Bool.{cond-true, cond-false, cases_Bool}
@@ -19,6 +19,18 @@ sum_cons s rest = fold_from (0 + s) rest ∙ omega arith
 
 pub sum_left : (sizes : List ℕ) (i : ℕ) → i < length sizes → sum (drop i sizes) ≡ get_or sizes i 0 + sum (drop (i + 1) sizes)
 sum_left sizes i less = ap sum (drop_more sizes i 0 less) ∙ sum_cons (get_or sizes i 0) (drop (i + 1) sizes)
+
+pub sum_split : (sizes : List ℕ) (i : ℕ) → sum (take i sizes) + sum (drop i sizes) ≡ sum sizes
+sum_split sizes zero = omega arith
+sum_split [] (suc i) = refl
+sum_split (s ∷ rest) (suc i) = let more = sum_split rest i in omega (arith, more, sum_cons s (take i rest), sum_cons s rest)
+
+-- the sum so far, and one size more
+pub sum_more : (sizes : List ℕ) (i : ℕ) → i < length sizes → sum (take (i + 1) sizes) ≡ sum (take i sizes) + get_or sizes i 0
+sum_more sizes i less = omega (arith, sum_split sizes i, sum_split sizes (i + 1), sum_left sizes i less)
+
+pub sum_within : (sizes : List ℕ) (i : ℕ) → i < length sizes → sum (take i sizes) + get_or sizes i 0 ≤ sum sizes
+sum_within sizes i less = omega (arith, sum_split sizes i, sum_left sizes i less)
 
 -- ---- segments
 

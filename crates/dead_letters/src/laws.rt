@@ -1,5 +1,7 @@
 //! What holds of letters, of records and of what is shed. Each function here does nothing: its clauses are
 //! theorems.
+ghost use Rattle.dead_letters.specs.Places.{PlacesAreExact};
+ghost use Rattle.dead_letters.specs.Queues.{NamesDiffer, PiecesMakeSegments};
 ghost use Rattle.dead_letters.specs.Records.{RecordsAreReadBack, RecordsAreSpelled};
 ghost use Rattle.dead_letters.specs.Segments.{CountedHaveRoom, DamagesDiffer};
 ghost use Rattle.dead_letters.specs.Shedding.{FewestSegmentsLeave};
@@ -25,4 +27,20 @@ pub fn damages_differ()
 /// next.
 pub fn counted_segments_have_room()
     ensures { CountedHaveRoom }
+{}
+
+/// Bytes are refused as the body of a letter exactly at the place where reading stops: so at one place at
+/// most, and at none where they are one.
+pub fn places_are_exact()
+    ensures { PlacesAreExact }
+{}
+
+/// No two files of a queue have one name.
+pub fn names_differ()
+    ensures { NamesDiffer }
+{}
+
+/// The pieces into which new records are cut make the segments that the rule says.
+pub fn pieces_make_segments()
+    ensures { PiecesMakeSegments }
 {}

@@ -11,7 +11,7 @@ use std::alloc::{AllocError, Global};
 #[derive(Drop)]
 pub struct Shedding {
     /// How many of the oldest segments leave the queue.
-    pub older: usize,
+    pub older: u64,
     /// The places of the new letters that don't enter it, in order; the first letter has the place 0.
     pub newer: Items<usize>,
 }
@@ -41,7 +41,10 @@ pub fn shed(
     let older = older_of(policy, limit, added, segments);
     let used = total(&segments[older..]);
     let newer = not_kept(alloc, limit, used, records)?;
-    Ok(Shedding { older, newer })
+    Ok(Shedding {
+        older: older as u64,
+        newer,
+    })
 }
 
 fn total(sizes: &[u64]) -> u128

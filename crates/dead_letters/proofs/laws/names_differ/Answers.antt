@@ -1,0 +1,5 @@
+use Rattle.dead_letters.proofs.NamesApart.{names_differ}
+use Rattle.dead_letters.proofs.laws.names_differ.Goals as goal
+
+pub returns : goal.returns
+returns c = names_differ
