@@ -1,6 +1,6 @@
 -- The bytes of dead letters (this project's tables). The body of a letter is its kind, its id and its reason, each behind its length in four
 -- bytes, the moment in twelve, and the event. A record is the length of a body in four bytes, the body, and the CRC-32 of both in four.
-use Rattle.std.specs.Prelude.{◌≡◌, ◌<◌, ◌≤◌, ◌^◌, ℕ, ℤ, List, [], ◌∷◌, ◌++◌, length, ⊤}
+use Rattle.std.specs.Prelude.{◌<◌, ◌≤◌, ◌^◌, ℕ, ℤ, List, [], ◌∷◌, ◌++◌, length, ⊤}
 use Rattle.std.specs.Str.{IsUtf8}
 use Rattle.byteorder.specs.Endian.{big_bytes}
 use Rattle.crc_frame.specs.Crc.{crc32}
@@ -40,12 +40,6 @@ pub record IsLetter (l : DeadLetter) : Type 0 where
 -- its body has a length of four bytes
 abbrev pub FitsRecord : DeadLetter → Type 0
 FitsRecord l = length (letter_body l) < 2 ^ 32
-
--- these bytes are the body of this letter
-pub record LetterBody (bytes : List ℕ) (l : DeadLetter) : Type 0 where
-  pub is_letter : IsLetter l
-  pub short : length bytes < 2 ^ 32
-  pub spelled : letter_body l ≡ bytes
 
 -- the bytes of a segment: its records, one behind the other
 abbrev pub segment_bytes : List DeadLetter → List ℕ
