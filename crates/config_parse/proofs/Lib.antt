@@ -1,2 +1,5 @@
+pub mod Reading
+pub mod Turns
+mod Joined
 mod Placing
 mod Telling

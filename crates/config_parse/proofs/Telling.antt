@@ -6,9 +6,9 @@ use Rattle.config_grammar.specs.Levels.{IsSyntax, IsDeep}
 use Rattle.config_lex.specs.declared.token.Lexeme.{Lexeme}
 use Rattle.config_lex.specs.Lexemes.{lexemes, tokens, place_in}
 use Rattle.config_grammar.specs.Texts.{Reads, IsSyntaxAt, IsDeepAt}
-use Rattle.config_descent.specs.declared.error.ReadError.{ReadError}
-use Rattle.config_descent.specs.declared.error.ReadError.TheVariants as errors
-use Rattle.config_descent.specs.Seen.{tokens_of}
+use Rattle.config_parse.specs.declared.error.ReadError.{ReadError}
+use Rattle.config_parse.specs.declared.error.ReadError.TheVariants as errors
+use Rattle.config_parse.specs.Seen.{tokens_of}
 use Rattle.config_parse.specs.Told.{ToldLeft, Told, placed}
 use Rattle.config_parse.specs.declared.fault.ConfigFault.{ConfigFault}
 use Rattle.config_parse.specs.declared.fault.ConfigFault.TheVariants as fault

@@ -7,8 +7,8 @@ use Rattle.config_grammar.specs.Grammar.{ReadsConfig}
 use Rattle.config_grammar.specs.Levels.{IsSyntax, IsDeep}
 use Rattle.config_lex.specs.Lexemes.{place_in}
 use Rattle.config_grammar.specs.Texts.{Reads, IsSyntaxAt, IsDeepAt}
-use Rattle.config_descent.specs.declared.error.ReadError.{ReadError}
-use Rattle.config_descent.specs.declared.error.ReadError.TheVariants as errors
+use Rattle.config_parse.specs.declared.error.ReadError.{ReadError}
+use Rattle.config_parse.specs.declared.error.ReadError.TheVariants as errors
 use Rattle.config_parse.specs.declared.fault.ConfigFault.{ConfigFault}
 use Rattle.config_parse.specs.declared.fault.ConfigFault.TheVariants as fault
 

@@ -1,13 +1,22 @@
 //! Reads the text of a configuration.
 //!
-//! Sections are read as their parts are (`config_descent`): what reading by descent gives is what the grammar's machine makes, so
-//! the answers on a text are told by the grammar.
+//! The parser reads tokens by descent, with a function for each symbol of the grammar's stack machine. Each function's clause
+//! says that it gives what the machine's table reads for its symbol; that this makes what the machine makes is
+//! `reading_is_right`. A function calls itself, through others, only with fewer levels left, so calls nest as far as the
+//! levels of the text.
 #![tactic(auto)]
 
+mod conditions;
+mod error;
 mod fault;
-mod sections;
+mod joining;
+mod laws;
+mod names;
+mod statements;
 mod text;
+mod tokens;
+mod values;
 
-pub use config_descent::reading_is_right;
 pub use fault::ConfigFault;
+pub use laws::reading_is_right;
 pub use text::{LENGTH, LEVELS, parse};

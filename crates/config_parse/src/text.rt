@@ -5,11 +5,13 @@ ghost use Rattle.config_lex.specs.Lexemes.{place_in};
 ghost use Rattle.config_parse.specs.Answers as answers;
 ghost use Rattle.config_parse.specs.Told as told;
 ghost use Rattle.config_parse.specs.declared.fault.ConfigFault.TheVariants as fault;
-ghost use Rattle.config_descent.specs.Seen.{tokens_of};
+ghost use Rattle.config_parse.specs.Seen.{tokens_of};
 
+use crate::error::ReadError;
 use crate::fault::ConfigFault;
-use crate::sections::sections;
-use config_descent::{ReadError, first, reading_is_right, refuse};
+use crate::laws::reading_is_right;
+use crate::statements::sections;
+use crate::tokens::{first, refuse};
 use config_grammar::{machine_is_right, one_answer, reads_once};
 use config_lex::{Lexeme, lexemes};
 use config_tree::Config;

@@ -1,5 +1,0 @@
-use Rattle.config_descent.proofs.Reading.{reads_made}
-use Rattle.config_descent.proofs.laws.reading_is_right.Goals as goal
-
-pub returns : goal.returns
-returns c = λ levels ts. reads_made levels ts

@@ -1,6 +1,0 @@
-use Rattle.std.proofs.Common.{◌≡◌, ◌++◌}
-use Rattle.config_values.specs.Tables.{values_of}
-use Rattle.config_values.proofs.joining.finished_settings.Given as goal
-
-abbrev pub invariant-loop-name : goal.invariant-loop-name
-invariant-loop-name l = l.entries ++ values_of l.name-iterator ≡ values_of l.fn.settings.entries
