@@ -1,3 +1,5 @@
 pub mod Makes
 pub mod Flats
 pub mod Conditions
+pub mod Each
+pub mod Numbering

@@ -7,9 +7,14 @@ mod built;
 mod condition;
 mod filter;
 mod flat;
+mod lists;
+mod output;
+mod places;
 
 pub use boxed::BoxedFilter;
 pub use built::BuiltFilter;
 pub use condition::{CompiledCondition, NamedCondition};
 pub use filter::Filter;
 pub use flat::Flat;
+pub use lists::{add_named, compile_conditions, read_filters};
+pub use output::{Output, Outputs, Target};

@@ -1,0 +1,57 @@
+ghost use Rattle.std.specs.Prelude.{◌≡◌, ◌++◌, OnOk};
+ghost use Rattle.filter_settings.specs.Settings.{Gives};
+ghost use Rattle.plugin_graph.specs.Conditions.{compiled};
+ghost use Rattle.plugin_graph.specs.Each as spec;
+ghost use Rattle.plugin_graph.specs.Makes.{filter_of};
+
+use crate::condition::{CompiledCondition, NamedCondition};
+use crate::filter::Filter;
+use config_tree::{Condition, FromFault, Plugin};
+use plain_data::{Items, Text};
+use std::alloc::{AllocError, Global};
+
+/// The filters that plugins are. The fault is that of the first setting that is refused, in the order
+/// of the text.
+#[tactic(auto, using(crate::proofs::Making::making))]
+pub fn read_filters(alloc: Global, plugins: &[Plugin]) -> Result<Items<Filter>, FromFault>
+    ensures { Gives result (spec.each_made filter_of plugins.now) }
+{
+    let mut filters = Items::with_capacity(alloc, plugins.len())?;
+    for plugin in plugins {
+        filters.push(Filter::from_plugin(plugin)?)?;
+    }
+    Ok(filters)
+}
+
+/// Adds the conditions of a section, with their ids.
+pub fn add_named(
+    alloc: Global,
+    section: &str,
+    conditions: Items<Condition>,
+    to: &mut Items<NamedCondition>,
+) -> Result<(), AllocError>
+    ensures { OnOk result (to.new ≡ to.old ++ spec.named section.now 1 conditions) }
+{
+    let mut number: u64 = 0;
+    for condition in conditions.into_vec() {
+        number = number.checked_add(1).ok_or(AllocError)?;
+        let id = Text::from_string(format!(in alloc; "{section}_if_{number}")?);
+        to.push(NamedCondition { condition, id })?;
+    }
+    Ok(())
+}
+
+/// Conditions with their patterns. It is refused where a text of one of them is no pattern.
+#[tactic(auto, using(crate::proofs::Making::making))]
+pub fn compile_conditions(
+    alloc: Global,
+    conditions: Items<NamedCondition>,
+) -> Result<Items<CompiledCondition>, FromFault>
+    ensures { Gives result (spec.each_made compiled conditions) }
+{
+    let mut found = Items::with_capacity(alloc, conditions.len())?;
+    for condition in conditions.into_vec() {
+        found.push(CompiledCondition::new(alloc, condition)?)?;
+    }
+    Ok(found)
+}

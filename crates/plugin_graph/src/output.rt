@@ -1,0 +1,117 @@
+ghost use Rattle.std.specs.Prelude.{◌≡◌, ◌++◌, ◌∷◌, [], IfOk, OnOk};
+ghost use Rattle.event_flow.specs.declared.cell.Cell.TheVariants as cell;
+ghost use Rattle.plugin_graph.specs.Numbering as spec;
+
+use crate::places::{places_of, plugin_id};
+use config_tree::Plugin;
+use event_flow::{Cell, Targets};
+use event_tree::Event;
+use foreign_parts::Place;
+use plain_data::{Items, Text};
+use std::alloc::{AllocError, Global};
+
+/// A place of an output.
+pub struct Target {
+    /// The output's id.
+    pub output: Text,
+    pub place: Place,
+}
+
+// Written out, so that it is one call wherever an error is handed on while a target is held.
+impl Drop for Target {
+    fn drop(self) {
+        let Target {
+            output: _output,
+            place: _place,
+        } = self;
+    }
+}
+
+/// An output, with the numbers of its targets.
+#[derive(Drop)]
+pub struct Output {
+    pub id: Text,
+    pub targets: Targets,
+}
+
+impl Output {
+    /// An event is sent to the targets, and goes on.
+    pub fn send(
+        &self,
+        event: Event,
+        targets: Targets,
+        to: &mut Items<Cell>,
+    ) -> Result<(), AllocError>
+        ensures { OnOk result (to.new
+            ≡ to.old ++ cell.At 0 event (targets ++ self.now.targets) ∷ []) }
+    {
+        let mut targets = targets;
+        add_numbers(&mut targets, self.targets.as_slice())?;
+        to.push(Cell::At(0, event, targets))
+    }
+}
+
+fn add_numbers(to: &mut Targets, numbers: &[u64]) -> Result<(), AllocError>
+    ensures { OnOk result (to.new ≡ to.old ++ numbers.now) }
+{
+    for number in numbers {
+        to.push(*number)?;
+    }
+    Ok(())
+}
+
+/// The outputs of a configuration, and their targets.
+#[derive(Drop)]
+pub struct Outputs {
+    pub outputs: Items<Output>,
+    pub targets: Items<Target>,
+}
+
+impl Outputs {
+    /// The outputs that plugins are, with their places; those of boxed outputs have the numbers that
+    /// were drawn for their ids.
+    pub fn of_plugins(
+        alloc: Global,
+        draws: &[(Text, u64)],
+        plugins: &[Plugin],
+    ) -> Result<Outputs, AllocError>
+        ensures { IfOk result (λ outputs. outputs ≡ spec.outputs_of draws.now plugins.now) }
+    {
+        let mut outputs = Outputs {
+            outputs: Items::new(alloc),
+            targets: Items::new(alloc),
+        };
+        for at in 0..plugins.len() {
+            let id = plugin_id(alloc, "output", at + 1, &plugins[at])?;
+            let places = places_of(alloc, draws, id.as_str(), &plugins[at])?;
+            outputs.add(id, places)?;
+        }
+        Ok(outputs)
+    }
+
+    // Adds an output with its places.
+    fn add(&mut self, id: Text, places: Items<Place>) -> Result<(), AllocError>
+        ensures { OnOk result (self.new ≡ spec.with_output id places self.old) }
+    {
+        let targets = numbers(self.outputs.allocator(), self.targets.len(), places.len())?;
+        for place in places.into_vec() {
+            let output = id.copy()?;
+            self.targets.push(Target { output, place })?;
+        }
+        self.outputs.push(Output { id, targets })
+    }
+}
+
+// So many numbers, from one on.
+#[tactic(auto, using(crate::proofs::Outputting::outputting))]
+fn numbers(alloc: Global, from: usize, count: usize) -> Result<Items<u64>, AllocError>
+    ensures { IfOk result (λ found. found ≡ spec.numbers from count) }
+{
+    let mut found = Items::with_capacity(alloc, count)?;
+    let mut next = from as u64;
+    for _ in 0..count {
+        found.push(next)?;
+        next = next.checked_add(1).ok_or(AllocError)?;
+    }
+    Ok(found)
+}

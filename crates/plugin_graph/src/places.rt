@@ -1,0 +1,159 @@
+ghost use Rattle.std.specs.Prelude.{◌≡◌, ◌∷◌, [], IfOk, bytes_eq, codes, map, option_and_then};
+ghost use Rattle.config_tree.specs.Readers.{value_at};
+ghost use Rattle.filter_settings.specs.Readers.{text_of, texts_of};
+ghost use Rattle.event_flow.specs.Ids as ids;
+ghost use Rattle.event_flow.specs.Places as spec;
+ghost use Rattle.foreign_parts.specs.declared.place.Place.TheVariants as place;
+ghost use Rattle.std.specs.List.{list_any};
+
+use config_tree::{FromFault, Plugin, Settings};
+use event_tree::Names;
+use filter_settings::{read_id, read_text, read_texts};
+use foreign_parts::Place;
+use plain_data::{Items, Text};
+use std::alloc::{AllocError, Global};
+
+/// The id of the k-th plugin of a section, counted from 1: the one that its settings give, and else
+/// the section's name and the number.
+pub(crate) fn plugin_id(
+    alloc: Global,
+    section: &str,
+    number: usize,
+    plugin: &Plugin,
+) -> Result<Text, AllocError>
+    ensures { IfOk result (λ id. id ≡ ids.plugin_id section.now number plugin.now) }
+{
+    match given_id(alloc, &plugin.settings)? {
+        Some(id) => Ok(id),
+        None => Ok(Text::from_string(format!(in alloc; "{section}_{number}")?)),
+    }
+}
+
+// The id that settings give.
+#[tactic(auto, using(crate::proofs::Reading::reading))]
+fn given_id(alloc: Global, settings: &Settings) -> Result<Option<Text>, AllocError>
+    ensures { IfOk result (λ id. id ≡ ids.given_id settings.now.list) }
+{
+    let Some(value) = settings.get("id") else {
+        return Ok(None);
+    };
+    match read_id(alloc, "id", value) {
+        Ok(id) => Ok(Some(id)),
+        Err(FromFault::Bad(_)) => Ok(None),
+        Err(FromFault::Memory) => Err(AllocError),
+    }
+}
+
+/// The places of an output by its name.
+pub(crate) fn places_of(
+    alloc: Global,
+    draws: &[(Text, u64)],
+    id: &str,
+    plugin: &Plugin,
+) -> Result<Items<Place>, AllocError>
+    ensures { IfOk result (λ places. places ≡ spec.places_of draws.now id.now plugin.now) }
+{
+    match plugin.name.as_str() {
+        "stdout" => one(alloc, Place::Stdout),
+        "file" => match given_path(alloc, &plugin.settings)? {
+            Some(path) => one(alloc, Place::File(path)),
+            None => Ok(Items::new(alloc)),
+        },
+        "pipeline" => match given_addresses(alloc, &plugin.settings)? {
+            Some(addresses) => addressed(alloc, addresses),
+            None => Ok(Items::new(alloc)),
+        },
+        "sink" => one(alloc, Place::Discard),
+        _ => match drawn_for(id, draws) {
+            Some(number) => one(alloc, Place::Foreign(number)),
+            None => Ok(Items::new(alloc)),
+        },
+    }
+}
+
+fn one(alloc: Global, place: Place) -> Result<Items<Place>, AllocError>
+    ensures { IfOk result (λ places. places ≡ place ∷ []) }
+{
+    let mut places = Items::new(alloc);
+    places.push(place)?;
+    Ok(places)
+}
+
+// The path that settings give.
+#[tactic(auto, using(crate::proofs::Reading::reading))]
+fn given_path(alloc: Global, settings: &Settings) -> Result<Option<Text>, AllocError>
+    ensures { IfOk result (λ path. path
+        ≡ option_and_then text_of (value_at (codes "path") settings.now.list)) }
+{
+    let Some(value) = settings.get("path") else {
+        return Ok(None);
+    };
+    match read_text(alloc, "path", value) {
+        Ok(path) => Ok(Some(path)),
+        Err(FromFault::Bad(_)) => Ok(None),
+        Err(FromFault::Memory) => Err(AllocError),
+    }
+}
+
+// The addresses that settings give.
+#[tactic(auto, using(crate::proofs::Reading::reading))]
+fn given_addresses(alloc: Global, settings: &Settings) -> Result<Option<Names>, AllocError>
+    ensures { IfOk result (λ addresses. addresses
+        ≡ option_and_then texts_of (value_at (codes "send_to") settings.now.list)) }
+{
+    let Some(value) = settings.get("send_to") else {
+        return Ok(None);
+    };
+    match read_texts(alloc, "send_to", value) {
+        Ok(addresses) => Ok(Some(addresses)),
+        Err(FromFault::Bad(_)) => Ok(None),
+        Err(FromFault::Memory) => Err(AllocError),
+    }
+}
+
+// Each address once, where it stands first.
+fn addressed(alloc: Global, addresses: Names) -> Result<Items<Place>, AllocError>
+    ensures { IfOk result (λ places. places ≡ map place.Address (spec.once addresses)) }
+{
+    let mut places = Items::new(alloc);
+    for address in once(alloc, addresses)?.into_vec() {
+        places.push(Place::Address(address))?;
+    }
+    Ok(places)
+}
+
+fn once(alloc: Global, texts: Names) -> Result<Names, AllocError>
+    ensures { IfOk result (λ found. found ≡ spec.once texts) }
+{
+    let mut found = Names::new(alloc);
+    for text in texts.into_vec() {
+        if !stands_in(found.as_slice(), text.as_str()) {
+            found.push(text)?;
+        }
+    }
+    Ok(found)
+}
+
+#[tactic(auto, using(event_text::proofs::Going::going))]
+fn stands_in(texts: &[Text], text: &str) -> bool
+    ensures { result ≡ list_any (λ one. bytes_eq one text.now) texts.now }
+{
+    for one in texts {
+        if one.as_str() == text {
+            return true;
+        }
+    }
+    false
+}
+
+// The number of the box that was drawn for an id.
+fn drawn_for(id: &str, draws: &[(Text, u64)]) -> Option<u64>
+    ensures { result ≡ spec.drawn_for id.now draws.now }
+{
+    for draw in draws {
+        if draw.0.as_str() == id {
+            return Some(draw.1);
+        }
+    }
+    None
+}
