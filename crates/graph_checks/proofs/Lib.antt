@@ -1,0 +1,10 @@
+pub mod Going
+pub mod Keeping
+pub mod Pointing
+pub mod Walking
+pub mod Counting
+pub mod Matching
+pub mod Telling
+pub mod Refusing
+pub mod Handing
+pub mod Wholes

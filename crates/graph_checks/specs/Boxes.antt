@@ -1,0 +1,79 @@
+-- The boxes that a configuration wants, and what they say to its settings.
+use Rattle.std.specs.Prelude.{◌≡◌, ℕ, zero, suc, ◌+◌, ◌-◌, ◌*◌, List, [], ◌∷◌, length, if◌then◌else◌, bytes_eq, codes, Bool, ◌||◌, Option, Some, None, option_and_then, slice_get, Result, Ok, Err}
+use Rattle.std.specs.Map.{lookup}
+use Rattle.event_tree.specs.Paths.{over}
+use Rattle.config_tree.specs.Joining.{Entries}
+use Rattle.config_tree.specs.declared.tree.SettingValue.{SettingValue}
+use Rattle.config_tree.specs.declared.fault.SettingFault.{SettingFault}
+use Rattle.event_text.specs.Options.{no_options}
+use Rattle.filter_settings.specs.Settings.{Made, next, with_made, all_set}
+use Rattle.filter_settings.specs.Options.{option_set}
+use Rattle.foreign_parts.specs.Stocks.{Stock, left_of, refusals_of}
+use Rattle.graph_checks.specs.declared.boxes.Kind.{Kind}
+use Rattle.graph_checks.specs.declared.boxes.Kind.TheVariants as kind
+use Rattle.graph_checks.specs.declared.asking.BoxSettings.{BoxSettings}
+
+-- what stands in a rack of one kind: how many boxes of each name, and what each of them refuses
+pub record Stand : Type 0 where
+  pub stocks : List Stock
+  pub refusals : List (List ℕ × List (Entries → Option SettingFault))
+
+-- what stands in a rack is left as it was
+pub record Keeps {S : Type 0} (stand : S → Kind → Stand) (links : S → List (List ℕ)) (old new : S) : Type 0 where
+  pub stands : (k : Kind) → stand new k ≡ stand old k
+  pub links_stand : links new ≡ links old
+
+-- names, each with how many plugins of it there are
+abbrev pub Counts : Type 0
+Counts = List (List ℕ × ℕ)
+
+-- how many there are of a name
+abbrev pub count_of : List ℕ → Counts → ℕ
+count_of k cs = over (λ n. n) 0 (lookup (bytes_eq k) cs)
+
+-- one more of a name
+abbrev pub one_more : List ℕ → Counts → Counts
+one_more k [] = (k, 1) ∷ []
+one_more k (c ∷ cs) = if bytes_eq k c.0 then (c.0, c.1 + 1) ∷ cs else c ∷ one_more k cs
+
+-- the settings that every plugin of a kind has
+abbrev pub is_shared : Kind → List ℕ → Bool
+is_shared kind.Filter k = bytes_eq k (codes "id") || bytes_eq k (codes "add_field") || bytes_eq k (codes "remove_field") || bytes_eq k (codes "add_tag") || bytes_eq k (codes "remove_tag")
+is_shared kind.Output k = bytes_eq k (codes "id")
+
+-- One setting of a box: those that every plugin has are tested here, and the others are its own.
+abbrev pub shared_set : List ℕ → SettingValue → BoxSettings → Made BoxSettings
+shared_set k x b = if is_shared b.kind k then with_made (λ o. record b { options = o }) (option_set k x b.options) else Ok b
+
+abbrev pub shared_of : Kind → Entries → Made BoxSettings
+shared_of which es = all_set shared_set es (record { kind = which; options = no_options })
+
+abbrev pub first_refusal : Option SettingFault → Option SettingFault → Option SettingFault
+first_refusal (Some fault) later = Some fault
+first_refusal None later = later
+
+-- what the box at a place refuses
+abbrev pub refused_at : List (Entries → Option SettingFault) → Entries → ℕ → Option SettingFault
+refused_at refusals es at = option_and_then (λ refusal. refusal es) (slice_get refusals at)
+
+-- What the boxes refuse that are drawn next where so many are left, the last of them first, if so many are wanted. Where no more are left none is asked.
+abbrev pub refused_below : List (Entries → Option SettingFault) → Entries → ℕ → ℕ → Option SettingFault
+refused_below refusals es zero wanted = None
+refused_below refusals es (suc at) zero = None
+refused_below refusals es (suc at) (suc wanted) = first_refusal (refused_at refusals es at) (refused_below refusals es at wanted)
+
+abbrev pub unless_refused : Option SettingFault → Made (Unit {0})
+unless_refused None = Ok tt
+unless_refused (Some fault) = Err fault
+
+-- how many boxes of a name are left, once so many were taken
+abbrev pub left_behind : List ℕ → ℕ → Stand → ℕ
+left_behind k taken stand = length (left_of k stand.stocks) - taken
+
+-- what the boxes refuse that a plugin is to have, where each plugin has so many and so many plugins of its name stand before it
+abbrev pub asked : Stand → ℕ → ℕ → List ℕ → Entries → Made (Unit {0})
+asked stand each before k es = unless_refused (refused_below (refusals_of k stand.refusals) es (left_behind k (before * each) stand) each)
+
+-- the settings of a plugin that is a box: first those that every plugin has, and then by the boxes
+abbrev pub box_read : Kind → Stand → ℕ → ℕ → List ℕ → Entries → Made (Unit {0})
+box_read which stand each before k es = next (λ b. asked stand each before k es) (shared_of which es)

@@ -1,0 +1,101 @@
+ghost use Rattle.std.specs.Prelude.{◌≡◌, ◌≤◌, length};
+ghost use Rattle.filter_settings.specs.Settings.{Gives};
+ghost use Rattle.foreign_parts.specs.Stocks.{left_of, refusals_of};
+ghost use Rattle.graph_checks.specs.Boxes as spec;
+ghost use Rattle.graph_checks.specs.Boxes.{Keeps};
+
+use crate::boxes::{Boxes, Kind};
+use config_tree::{FromFault, Plugin, SettingValue, Settings};
+use event_text::Options;
+use filter_settings::{SetByName, read_settings, set_option};
+use std::alloc::Global;
+
+/// What is read here of the settings of a plugin that is a box: those that every plugin of its kind has.
+#[derive(Drop)]
+pub(crate) struct BoxSettings {
+    kind: Kind,
+    options: Options,
+}
+
+impl SetByName for BoxSettings {
+    ghost use Rattle.graph_checks.specs.Boxes.{shared_set};
+
+    ghost setting = { shared_set };
+
+    fn set(&mut self, alloc: Global, name: &str, value: &SettingValue) -> Result<(), FromFault> {
+        if is_shared(self.kind, name) {
+            set_option(&mut self.options, alloc, name, value)
+        } else {
+            Ok(())
+        }
+    }
+}
+
+fn is_shared(kind: Kind, name: &str) -> bool
+    ensures { result ≡ spec.is_shared kind name.now }
+{
+    match kind {
+        Kind::Filter => {
+            name == "id"
+                || name == "add_field"
+                || name == "remove_field"
+                || name == "add_tag"
+                || name == "remove_tag"
+        }
+        Kind::Output => name == "id",
+    }
+}
+
+fn read_shared(kind: Kind, settings: &Settings) -> Result<BoxSettings, FromFault>
+    ensures { Gives result (spec.shared_of kind settings.now.list) }
+{
+    let options = Options::none(settings.list.allocator());
+    read_settings(settings, BoxSettings { kind, options })
+}
+
+/// Reads the settings of a plugin that is a box: first those that every plugin has, and then each box reads
+/// them that it is to have. `before` plugins of its name stand in front of it.
+pub(crate) fn read_box<B: Boxes>(
+    boxes: &mut B,
+    kind: Kind,
+    each: u64,
+    before: u64,
+    plugin: &Plugin,
+) -> Result<(), FromFault>
+    ensures read { Gives result (spec.box_read kind (B.stand boxes.old kind) each before
+        plugin.now.name plugin.now.settings.list) }
+    ensures keeps { Keeps B.stand B.links boxes.old boxes.new }
+{
+    read_shared(kind, &plugin.settings)?;
+    let left = boxes.left(kind, plugin.name.as_str()) as u64;
+    let taken = before.checked_mul(each).ok_or(FromFault::Memory)?;
+    let next = left.saturating_sub(taken);
+    ask_below(boxes, kind, next, each, plugin)
+}
+
+// Has the boxes of a name below a place read settings, the last first, if so many are wanted.
+fn ask_below<B: Boxes>(
+    boxes: &mut B,
+    kind: Kind,
+    next: u64,
+    wanted: u64,
+    plugin: &Plugin,
+) -> Result<(), FromFault>
+    requires { next ≤ length (left_of plugin.now.name (B.stand boxes.old kind).stocks) }
+    ensures read { Gives result (spec.unless_refused (spec.refused_below
+        (refusals_of plugin.now.name (B.stand boxes.old kind).refusals)
+        plugin.now.settings.list next wanted)) }
+    ensures keeps { Keeps B.stand B.links boxes.old boxes.new }
+{
+    let mut at = next;
+    let mut left = wanted;
+    while left > 0 {
+        if at == 0 {
+            return Ok(());
+        }
+        at -= 1;
+        left -= 1;
+        boxes.ask(kind, plugin.name.as_str(), at as usize, &plugin.settings)?;
+    }
+    Ok(())
+}

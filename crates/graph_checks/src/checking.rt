@@ -1,0 +1,53 @@
+ghost use Rattle.graph_checks.specs.Answers.{Gives};
+ghost use Rattle.graph_checks.specs.Boxes.{Keeps};
+ghost use Rattle.graph_checks.specs.Whole.{checked};
+
+use crate::boxes::{Boxes, Kind};
+use crate::fault::GraphFault;
+use crate::inputs::{InputsMet, check_inputs};
+use crate::walk::{Walk, check_section};
+use crate::whole::check_whole;
+use config_tree::Config;
+use std::alloc::Global;
+
+/// Sees whether a configuration may be run with these boxes by so many workers, each of which has boxed
+/// filters of its own. The answer is the first fault: that of the first statement in the order of the text
+/// (inputs, filters, outputs), and else that of the whole.
+///
+/// Of a statement its name is tested first, then its settings in the order of the text, its id, its path,
+/// its address, that it is the one `stdin`, and the length of its path. A plugin that is a box has
+/// the settings that every plugin has tested first, and then each of the boxes that it would be given reads
+/// them, the one that was handed in last first. Whether there are enough is seen at the end.
+///
+/// `Memory` comes where memory runs out, also in the place of another answer. No box is taken. It takes time
+/// in proportion to the text, and for each plugin that is a box a look at the names in the rack.
+#[tactic(auto, unfolding(crate::specs::Whole::checked))]
+pub fn check<B: Boxes>(
+    alloc: Global,
+    config: &Config,
+    boxes: &mut B,
+    workers: u32,
+) -> Result<(), GraphFault>
+    ensures fault { Gives result (checked
+        (record { stand = B.stand boxes.old; links = B.links boxes.old; workers = workers })
+        config.now) }
+    ensures keeps { Keeps B.stand B.links boxes.old boxes.new }
+{
+    let InputsMet {
+        inputs,
+        ids,
+        outside,
+        ..
+    } = check_inputs(alloc, config.inputs.as_slice())?;
+    let each = workers as u64;
+    let filters = config.filters.as_slice();
+    let filters = check_section(alloc, Kind::Filter, each, ids, filters, boxes)?;
+    let Walk {
+        boxes: filter_boxes,
+        ids,
+        ..
+    } = filters;
+    let outputs = config.outputs.as_slice();
+    let outputs = check_section(alloc, Kind::Output, 1, ids, outputs, boxes)?;
+    check_whole(boxes, each, inputs, &outside, &filter_boxes, &outputs)
+}

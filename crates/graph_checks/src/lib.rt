@@ -1,0 +1,24 @@
+//! The checks of a configuration before it is run: its first fault, or none.
+//!
+//! The statements are tested in the order of the text: the inputs, then the filters, then the outputs, with
+//! the conditions in front of their blocks. Then the whole is tested. Boxes are asked where they stand, and
+//! none is taken.
+#![tactic(auto)]
+
+mod asking;
+mod boxes;
+mod built_in;
+mod checking;
+mod conditions;
+mod counts;
+mod fault;
+mod ids;
+mod inputs;
+mod plugins;
+mod texts;
+mod walk;
+mod whole;
+
+pub use boxes::{Boxes, Kind};
+pub use checking::check;
+pub use fault::GraphFault;
