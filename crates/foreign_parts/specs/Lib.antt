@@ -3,3 +3,4 @@ pub mod Delivering
 pub mod Stocks
 pub mod Shelves
 pub mod Racks
+pub mod Boxes

@@ -2,6 +2,7 @@
 //! configuration takes them, and the places to which events are delivered.
 #![tactic(auto)]
 
+mod boxes;
 mod filter;
 mod output;
 mod place;
@@ -10,6 +11,7 @@ mod rack;
 mod shelf;
 mod shelves;
 
+pub use boxes::{Boxes, Kind};
 pub use config_tree::{FromFault, SettingFault, Settings};
 pub use filter::{ForeignFilter, Verdict};
 pub use output::{DeliverFault, Delivery, Fate, Fates, ForeignOutput};

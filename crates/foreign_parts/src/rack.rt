@@ -141,6 +141,9 @@ impl Rack {
         ensures refusals { filter_refusals
             (λ p. (ForeignFilter-box p.filter).refusal p.filter.value) self.new
             ≡ filter_refusals (λ p. (ForeignFilter-box p.filter).refusal p.filter.value) self.old }
+        ensures others { output_refusals
+            (λ p. (ForeignOutput-box p.output).refusal p.output.value) self.new
+            ≡ output_refusals (λ p. (ForeignOutput-box p.output).refusal p.output.value) self.old }
         ensures filters { filters_of self.new ≡ filters_of self.old }
         ensures outputs { outputs_of self.new ≡ outputs_of self.old }
         ensures given { given_of self.new ≡ given_of self.old }
@@ -162,6 +165,9 @@ impl Rack {
         ensures refusals { output_refusals
             (λ p. (ForeignOutput-box p.output).refusal p.output.value) self.new
             ≡ output_refusals (λ p. (ForeignOutput-box p.output).refusal p.output.value) self.old }
+        ensures others { filter_refusals
+            (λ p. (ForeignFilter-box p.filter).refusal p.filter.value) self.new
+            ≡ filter_refusals (λ p. (ForeignFilter-box p.filter).refusal p.filter.value) self.old }
         ensures outputs { outputs_of self.new ≡ outputs_of self.old }
         ensures filters { filters_of self.new ≡ filters_of self.old }
         ensures given { given_of self.new ≡ given_of self.old }

@@ -1,0 +1,94 @@
+use crate::rack::Rack;
+use config_tree::{FromFault, Settings};
+
+/// What is handed in as boxes.
+#[derive(Clone, Copy, Debug, PartialEq, Eq)]
+pub enum Kind {
+    Filter,
+    Output,
+}
+
+/// What checks ask of the boxes that stand in a rack. None is taken.
+pub trait Boxes {
+    ghost use Rattle.std.specs.Prelude.{◌≡◌, ◌<◌, ℕ, List, bytes_eq, length};
+    ghost use Rattle.std.specs.List.{list_any};
+    ghost use Rattle.foreign_parts.specs.Stocks.{AnswersAt, is_known, left_of, refusals_of};
+    ghost use Rattle.foreign_parts.specs.Boxes.{Keeps, Stand};
+    ghost use Rattle.foreign_parts.specs.declared.boxes.Kind.{Kind};
+
+    /// What stands there of a kind.
+    ghost stand: { Self → Kind → Stand };
+
+    /// The addresses from outside whose links were handed in.
+    ghost links: { Self → List (List ℕ) };
+
+    /// Whether a box of the name was ever handed in.
+    fn knows(&self, kind: Kind, name: &str) -> bool
+        ensures { result ≡ is_known name.now (stand self.now kind).stocks };
+
+    /// How many boxes of the name are left.
+    fn left(&self, kind: Kind, name: &str) -> usize
+        ensures { result ≡ length (left_of name.now (stand self.now kind).stocks) };
+
+    /// Has a box of the name that is left read settings.
+    fn ask(
+        &mut self,
+        kind: Kind,
+        name: &str,
+        at: usize,
+        settings: &Settings,
+    ) -> Result<(), FromFault>
+        requires { at < length (left_of name.now (stand self.old kind).stocks) }
+        ensures answers { AnswersAt (refusals_of name.now (stand self.old kind).refusals)
+            at settings.now.list result }
+        ensures keeps { Keeps stand links self.old self.new };
+
+    /// Whether a link of the address was ever handed in.
+    fn knows_link(&self, address: &str) -> bool
+        ensures { result ≡ list_any (bytes_eq address.now) (links self.now) };
+}
+
+impl Boxes for Rack {
+    ghost use Rattle.std.specs.Prelude.{[]};
+    ghost use Rattle.foreign_parts.specs.Racks.{filters_of, outputs_of, filter_refusals, output_refusals};
+    ghost use Rattle.foreign_parts.specs.Boxes.{stand_of};
+
+    ghost stand = { λ rack. stand_of
+        (filters_of rack)
+        (filter_refusals (λ p. (ForeignFilter-box p.filter).refusal p.filter.value) rack)
+        (outputs_of rack)
+        (output_refusals (λ p. (ForeignOutput-box p.output).refusal p.output.value) rack) };
+
+    ghost links = { λ rack. [] };
+
+    fn knows(&self, kind: Kind, name: &str) -> bool {
+        match kind {
+            Kind::Filter => self.knows_filter(name),
+            Kind::Output => self.knows_output(name),
+        }
+    }
+
+    fn left(&self, kind: Kind, name: &str) -> usize {
+        match kind {
+            Kind::Filter => self.filters_left(name),
+            Kind::Output => self.outputs_left(name),
+        }
+    }
+
+    fn ask(
+        &mut self,
+        kind: Kind,
+        name: &str,
+        at: usize,
+        settings: &Settings,
+    ) -> Result<(), FromFault> {
+        match kind {
+            Kind::Filter => self.configure_filter(name, at, settings),
+            Kind::Output => self.configure_output(name, at, settings),
+        }
+    }
+
+    fn knows_link(&self, _address: &str) -> bool {
+        false
+    }
+}
