@@ -1,7 +1,7 @@
 -- What stands in a rack is left as it was by calls one after another.
 use Rattle.std.proofs.Common.{◌≡◌, ℕ, List, refl, ◌∙◌}
 use Rattle.graph_checks.specs.Boxes.{Stand, Keeps}
-use Rattle.graph_checks.specs.declared.boxes.Kind.{Kind}
+use Rattle.foreign_parts.specs.declared.boxes.Kind.{Kind}
 
 module _ {S : Type 0} (stand : S → Kind → Stand) (links : S → List (List ℕ)) where
   pub keeps_same : (s : S) → Keeps stand links s s

@@ -11,7 +11,7 @@ use Rattle.graph_checks.specs.Answers.{Checked, next, all_checked}
 use Rattle.graph_checks.specs.Boxes.{Stand}
 use Rattle.graph_checks.specs.Plugins.{plugin_checked, arm_checked, point_checked, points_checked}
 use Rattle.graph_checks.specs.Points.{Point, Plugs, joined, condition_points, statement_step, arm_step, points_in, points_in_arm, points_of, points_of_arms}
-use Rattle.graph_checks.specs.declared.boxes.Kind.{Kind}
+use Rattle.foreign_parts.specs.declared.boxes.Kind.{Kind}
 use Rattle.graph_checks.specs.declared.walk.Walk.{Walk}
 use Rattle.graph_checks.proofs.Going.{next_ok, checked_join}
 

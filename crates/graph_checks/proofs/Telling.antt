@@ -13,7 +13,7 @@ use Rattle.graph_checks.specs.Boxes.{Stand, count_of, one_more, box_read}
 use Rattle.graph_checks.specs.BuiltIn.{built_in}
 use Rattle.graph_checks.specs.Inputs.{input_id_next, input_read, input_checked}
 use Rattle.graph_checks.specs.Plugins.{IsSettingFault, id_next, condition_id_next, patterns_read, condition_checked, arm_checked, box_checked, plugin_met, plugin_read, plugin_checked}
-use Rattle.graph_checks.specs.declared.boxes.Kind.{Kind}
+use Rattle.foreign_parts.specs.declared.boxes.Kind.{Kind}
 use Rattle.graph_checks.specs.declared.built_in.BuiltIn.{BuiltIn}
 use Rattle.graph_checks.specs.declared.inputs.InputsMet.{InputsMet}
 use Rattle.graph_checks.specs.declared.walk.Walk.{Walk}

@@ -4,7 +4,7 @@ use Rattle.graph_checks.specs.Answers.{Checked, Refuses, next, all_checked}
 use Rattle.graph_checks.specs.Boxes.{Stand, Keeps}
 use Rattle.graph_checks.specs.Plugins.{arm_checked, points_checked}
 use Rattle.graph_checks.specs.Points.{Point, joined, points_of, points_in_arm}
-use Rattle.graph_checks.specs.declared.boxes.Kind.{Kind}
+use Rattle.foreign_parts.specs.declared.boxes.Kind.{Kind}
 use Rattle.graph_checks.specs.declared.fault.GraphFault.{GraphFault}
 use Rattle.graph_checks.specs.declared.walk.Walk.{Walk}
 use Rattle.config_tree.specs.declared.tree.Arm.{Arm}

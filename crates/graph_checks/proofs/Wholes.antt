@@ -6,7 +6,7 @@ use Rattle.graph_checks.specs.Boxes.{Stand, Counts}
 use Rattle.graph_checks.specs.Inputs.{inputs_checked}
 use Rattle.graph_checks.specs.Plugins.{section_checked}
 use Rattle.graph_checks.specs.Whole.{Given, whole_of, whole_checked, outputs_checked, filters_checked, checked}
-use Rattle.graph_checks.specs.declared.boxes.Kind.TheVariants as kind
+use Rattle.foreign_parts.specs.declared.boxes.Kind.TheVariants as kind
 use Rattle.graph_checks.specs.declared.fault.GraphFault.{GraphFault}
 use Rattle.graph_checks.specs.declared.inputs.InputsMet.{InputsMet}
 use Rattle.graph_checks.specs.declared.walk.Walk.{Walk}

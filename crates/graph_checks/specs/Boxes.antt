@@ -1,5 +1,5 @@
 -- The boxes that a configuration wants, and what they say to its settings.
-use Rattle.std.specs.Prelude.{◌≡◌, ℕ, zero, suc, ◌+◌, ◌-◌, ◌*◌, List, [], ◌∷◌, length, if◌then◌else◌, bytes_eq, codes, Bool, ◌||◌, Option, Some, None, option_and_then, slice_get, Result, Ok, Err}
+use Rattle.std.specs.Prelude.{ℕ, zero, suc, ◌+◌, ◌-◌, ◌*◌, List, [], ◌∷◌, length, if◌then◌else◌, bytes_eq, codes, Bool, ◌||◌, Option, Some, None, option_and_then, slice_get, Result, Ok, Err}
 use Rattle.std.specs.Map.{lookup}
 use Rattle.event_tree.specs.Paths.{over}
 use Rattle.config_tree.specs.Joining.{Entries}
@@ -8,20 +8,11 @@ use Rattle.config_tree.specs.declared.fault.SettingFault.{SettingFault}
 use Rattle.event_text.specs.Options.{no_options}
 use Rattle.filter_settings.specs.Settings.{Made, next, with_made, all_set}
 use Rattle.filter_settings.specs.Options.{option_set}
-use Rattle.foreign_parts.specs.Stocks.{Stock, left_of, refusals_of}
-use Rattle.graph_checks.specs.declared.boxes.Kind.{Kind}
-use Rattle.graph_checks.specs.declared.boxes.Kind.TheVariants as kind
+use Rattle.foreign_parts.specs.Stocks.{left_of, refusals_of}
+pub use Rattle.foreign_parts.specs.Boxes.{Stand, Keeps}
+use Rattle.foreign_parts.specs.declared.boxes.Kind.{Kind}
+use Rattle.foreign_parts.specs.declared.boxes.Kind.TheVariants as kind
 use Rattle.graph_checks.specs.declared.asking.BoxSettings.{BoxSettings}
-
--- what stands in a rack of one kind: how many boxes of each name, and what each of them refuses
-pub record Stand : Type 0 where
-  pub stocks : List Stock
-  pub refusals : List (List ℕ × List (Entries → Option SettingFault))
-
--- what stands in a rack is left as it was
-pub record Keeps {S : Type 0} (stand : S → Kind → Stand) (links : S → List (List ℕ)) (old new : S) : Type 0 where
-  pub stands : (k : Kind) → stand new k ≡ stand old k
-  pub links_stand : links new ≡ links old
 
 -- names, each with how many plugins of it there are
 abbrev pub Counts : Type 0

@@ -14,8 +14,8 @@ use Rattle.filters_text.specs.Kv.{kv_of}
 use Rattle.plugin_settings.specs.Read.{output_of}
 use Rattle.plugin_settings.specs.declared.read.Output.{Output}
 use Rattle.plugin_settings.specs.declared.read.Output.TheVariants as o
-use Rattle.graph_checks.specs.declared.boxes.Kind.{Kind}
-use Rattle.graph_checks.specs.declared.boxes.Kind.TheVariants as kind
+use Rattle.foreign_parts.specs.declared.boxes.Kind.{Kind}
+use Rattle.foreign_parts.specs.declared.boxes.Kind.TheVariants as kind
 use Rattle.graph_checks.specs.declared.built_in.BuiltIn.{BuiltIn}
 
 -- what is kept of a filter

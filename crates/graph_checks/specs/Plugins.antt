@@ -19,8 +19,8 @@ use Rattle.graph_checks.specs.Answers.{Checked, next, of_plugin, all_checked}
 use Rattle.graph_checks.specs.Boxes.{Stand, Counts, count_of, one_more, box_read}
 use Rattle.graph_checks.specs.BuiltIn.{built_in}
 use Rattle.graph_checks.specs.Points.{Point, Plugs, Tests, points_of}
-use Rattle.graph_checks.specs.declared.boxes.Kind.{Kind}
-use Rattle.graph_checks.specs.declared.boxes.Kind.TheVariants as kind
+use Rattle.foreign_parts.specs.declared.boxes.Kind.{Kind}
+use Rattle.foreign_parts.specs.declared.boxes.Kind.TheVariants as kind
 use Rattle.graph_checks.specs.declared.built_in.BuiltIn.{BuiltIn}
 use Rattle.graph_checks.specs.declared.walk.Walk.{Walk}
 use Rattle.graph_checks.specs.declared.fault.GraphFault.{GraphFault}

@@ -6,8 +6,8 @@ use Rattle.graph_checks.specs.Answers.{Checked, next}
 use Rattle.graph_checks.specs.Boxes.{Stand, Counts}
 use Rattle.graph_checks.specs.Inputs.{inputs_checked}
 use Rattle.graph_checks.specs.Plugins.{section_checked, stands}
-use Rattle.graph_checks.specs.declared.boxes.Kind.{Kind}
-use Rattle.graph_checks.specs.declared.boxes.Kind.TheVariants as kind
+use Rattle.foreign_parts.specs.declared.boxes.Kind.{Kind}
+use Rattle.foreign_parts.specs.declared.boxes.Kind.TheVariants as kind
 use Rattle.graph_checks.specs.declared.inputs.InputsMet.{InputsMet}
 use Rattle.graph_checks.specs.declared.walk.Walk.{Walk}
 use Rattle.graph_checks.specs.declared.fault.GraphFault.{GraphFault}

@@ -4,10 +4,10 @@ ghost use Rattle.foreign_parts.specs.Stocks.{left_of, refusals_of};
 ghost use Rattle.graph_checks.specs.Boxes as spec;
 ghost use Rattle.graph_checks.specs.Boxes.{Keeps};
 
-use crate::boxes::{Boxes, Kind};
 use config_tree::{FromFault, Plugin, SettingValue, Settings};
 use event_text::Options;
 use filter_settings::{SetByName, read_settings, set_option};
+use foreign_parts::{Boxes, Kind};
 use std::alloc::Global;
 
 /// What is read here of the settings of a plugin that is a box: those that every plugin of its kind has.

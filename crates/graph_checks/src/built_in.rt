@@ -2,13 +2,13 @@ ghost use Rattle.std.specs.Prelude.{◌≡◌, IfOk};
 ghost use Rattle.filter_settings.specs.Settings.{Gives};
 ghost use Rattle.graph_checks.specs.BuiltIn as spec;
 
-use crate::boxes::Kind;
 use config_tree::{FromFault, Settings};
 use filters_date::DateFilter;
 use filters_grok::Grok;
 use filters_mutate::Mutate;
 use filters_shape::{CloneFilter, DropFilter, SplitFilter};
 use filters_text::{Csv, Json, Kv};
+use foreign_parts::Kind;
 use plain_data::Text;
 use plugin_settings::{Output, read_output};
 use std::alloc::AllocError;

@@ -2,12 +2,12 @@ ghost use Rattle.graph_checks.specs.Answers.{Gives};
 ghost use Rattle.graph_checks.specs.Boxes.{Keeps};
 ghost use Rattle.graph_checks.specs.Whole.{checked};
 
-use crate::boxes::{Boxes, Kind};
 use crate::fault::GraphFault;
 use crate::inputs::{InputsMet, check_inputs};
 use crate::walk::{Walk, check_section};
 use crate::whole::check_whole;
 use config_tree::Config;
+use foreign_parts::{Boxes, Kind};
 use std::alloc::Global;
 
 /// Sees whether a configuration may be run with these boxes by so many workers, each of which has boxed

@@ -3,8 +3,8 @@ ghost use Rattle.graph_checks.specs.Answers.{Gives};
 ghost use Rattle.graph_checks.specs.Boxes as spec;
 ghost use Rattle.graph_checks.specs.Whole.{spare_checked, spares_checked};
 
-use crate::boxes::{Boxes, Kind};
 use crate::fault::GraphFault;
+use foreign_parts::{Boxes, Kind};
 use indexmap::IndexMap;
 use plain_data::Text;
 use std::alloc::{AllocError, Global};

@@ -6,7 +6,6 @@
 #![tactic(auto)]
 
 mod asking;
-mod boxes;
 mod built_in;
 mod checking;
 mod conditions;
@@ -19,6 +18,6 @@ mod texts;
 mod walk;
 mod whole;
 
-pub use boxes::{Boxes, Kind};
 pub use checking::check;
 pub use fault::GraphFault;
+pub use foreign_parts::{Boxes, Kind};

@@ -4,13 +4,13 @@ ghost use Rattle.graph_checks.specs.Boxes.{Keeps};
 ghost use Rattle.graph_checks.specs.Plugins as spec;
 
 use crate::asking::read_box;
-use crate::boxes::{Boxes, Kind};
 use crate::built_in::read_built_in;
 use crate::fault::GraphFault;
 use crate::ids::plugin_id;
 use crate::texts::MetTexts;
 use crate::walk::Walk;
 use config_tree::{FromFault, Plugin};
+use foreign_parts::{Boxes, Kind};
 use plain_data::Text;
 use position_file::{PositionOf, position_name};
 use std::alloc::{AllocError, Global};

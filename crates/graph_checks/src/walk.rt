@@ -3,7 +3,6 @@ ghost use Rattle.graph_checks.specs.Boxes.{Keeps};
 ghost use Rattle.graph_checks.specs.Plugins as spec;
 ghost use Rattle.graph_checks.specs.Points.{points_of, points_in, points_of_arms};
 
-use crate::boxes::{Boxes, Kind};
 use crate::conditions::test_patterns;
 use crate::counts::Counts;
 use crate::fault::GraphFault;
@@ -11,6 +10,7 @@ use crate::ids::condition_id;
 use crate::plugins::{section_name, setting_fault};
 use crate::texts::MetTexts;
 use config_tree::{Arm, Condition, Statement};
+use foreign_parts::{Boxes, Kind};
 use std::alloc::{AllocError, Global};
 
 /// What was met so far of a section.

@@ -1,12 +1,12 @@
 ghost use Rattle.graph_checks.specs.Answers.{Gives};
 ghost use Rattle.graph_checks.specs.Whole as spec;
-ghost use Rattle.graph_checks.specs.declared.boxes.Kind.TheVariants as kind;
+ghost use Rattle.foreign_parts.specs.declared.boxes.Kind.TheVariants as kind;
 
-use crate::boxes::{Boxes, Kind};
 use crate::counts::Counts;
 use crate::fault::GraphFault;
 use crate::walk::Walk;
 use event_tree::Names;
+use foreign_parts::{Boxes, Kind};
 use plain_data::Text;
 
 /// Tests the whole of a configuration, behind its statements: whether there are inputs and outputs, and

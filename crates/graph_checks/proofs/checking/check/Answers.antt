@@ -3,7 +3,7 @@ use Rattle.graph_checks.specs.Answers.{Gives, Refuses}
 use Rattle.graph_checks.specs.Inputs.{inputs_checked}
 use Rattle.graph_checks.specs.Plugins.{section_checked}
 use Rattle.graph_checks.specs.Whole.{Given, whole_of}
-use Rattle.graph_checks.specs.declared.boxes.Kind.TheVariants as kind
+use Rattle.foreign_parts.specs.declared.boxes.Kind.TheVariants as kind
 use Rattle.graph_checks.proofs.Handing.{gives_handed}
 use Rattle.graph_checks.proofs.Wholes.{outputs_fail, whole_gives, whole_before}
 use Rattle.graph_checks.proofs.checking.check.Goals as goal
