@@ -1,5 +1,5 @@
 -- Statements that are taken apart one by one.
-use Rattle.std.proofs.Common.{◌≡◌, List, [], ◌∷◌, ◌++◌, map, refl, sym, ap, ◌∙◌, append_assoc, append-nil, Option, Some, None, Result, Ok, Err, OnOk}
+use Rattle.std.proofs.Common.{◌≡◌, List, [], ◌∷◌, ◌++◌, map, sym, ap, ◌∙◌, append_assoc, append-nil, Option, Some, None, Result, Ok, Err, OnOk}
 use Rattle.config_tree.specs.declared.tree.Arm.{Arm}
 use Rattle.config_tree.specs.declared.tree.Condition.{Condition}
 use Rattle.config_tree.specs.declared.tree.Plugin.{Plugin}

@@ -1,8 +1,7 @@
 -- What each of a list is made into, one after another, up to the first that is refused.
-use Rattle.std.proofs.Common.{◌≡◌, ℕ, suc, ◌+◌, ◌<◌, ◌≤◌, List, [], ◌∷◌, ◌++◌, length, drop, get_or, refl, sym, ap, subst, ◌∙◌, append_assoc, append-nil, Result, Ok, Err}
+use Rattle.std.proofs.Common.{◌≡◌, ℕ, suc, ◌+◌, ◌<◌, ◌≤◌, List, [], ◌∷◌, ◌++◌, length, drop, get_or, refl, sym, ap, subst, ◌∙◌, append_assoc, append-nil, Ok, Err}
 use Rattle.config_tree.specs.declared.fault.FromFault.{FromFault}
 use Rattle.config_tree.specs.declared.fault.FromFault.TheVariants as from
-use Rattle.config_tree.specs.declared.fault.SettingFault.{SettingFault}
 use Rattle.event_text.proofs.Going.{front, behind_end}
 use Rattle.filter_settings.specs.Settings.{Made, Refuses, next, with_made}
 use Rattle.plugin_graph.specs.Each.{each_made}

@@ -7,7 +7,6 @@ use Rattle.event_flow.specs.Places.{Draws}
 use Rattle.plugin_graph.specs.Numbering.{numbers, outputs_behind, outputs_from, outputs_of, output_id, output_places, targets_from, targets_of, with_output}
 use Rattle.plugin_graph.specs.declared.output.Output.{Output}
 use Rattle.plugin_graph.specs.declared.output.Outputs.{Outputs}
-use Rattle.plugin_graph.specs.declared.output.Target.{Target}
 
 as_long : (id : List ℕ) (places : List Place) → length (targets_of id places) ≡ length places
 as_long id [] = refl

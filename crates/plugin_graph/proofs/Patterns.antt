@@ -1,12 +1,11 @@
 -- Which conditions have patterns.
-use Rattle.std.proofs.Common.{◌≡◌, ℕ, suc, length, List, [], ◌∷◌, ◌++◌, refl, sym, ap, ap₂, ◌∙◌, Bool, true, false, ◌&&◌, if◌then◌else◌, Result, Ok, Err, codes}
+use Rattle.std.proofs.Common.{◌≡◌, ℕ, suc, length, List, [], ◌∷◌, ◌++◌, refl, ap, ap₂, ◌∙◌, Bool, true, false, ◌&&◌, if◌then◌else◌, Ok, Err, codes}
 use Rattle.std.specs.List.{list_all}
 use Rattle.condition_eval.specs.Made.{AreReadFrom, FirstIsRefused, texts}
 use Rattle.config_tree.specs.declared.fault.SettingFault.TheVariants as fault
 use Rattle.pattern_box.proofs.Written.{of_pattern}
-use Rattle.pattern_box.specs.Patterns.{Expression, IsReadFrom, is_pattern}
+use Rattle.pattern_box.specs.Patterns.{Expression, is_pattern}
 use Rattle.pattern_box.specs.declared.fault.PatternFault.TheVariants.{BadPattern}
-use Rattle.filter_settings.specs.Settings.{Made}
 use Rattle.plugin_graph.specs.Conditions.{compiled, has_patterns}
 use Rattle.plugin_graph.specs.declared.condition.NamedCondition.{NamedCondition}
 

@@ -1,5 +1,5 @@
 -- A setting that is read as one kind, or passed over.
-use Rattle.std.proofs.Common.{◌≡◌, ℕ, List, refl, sym, ap, subst, ◌∙◌, Option, Some, None, Result, Ok, Err}
+use Rattle.std.proofs.Common.{◌≡◌, ℕ, List, refl, sym, ap, subst, Option, Some, None, Ok, Err}
 use Rattle.config_tree.specs.declared.fault.SettingFault.{SettingFault}
 use Rattle.filter_settings.specs.Settings.{Made, wanted}
 use Rattle.plugin_graph.proofs.Making.{Fails, is_same}

@@ -1,5 +1,5 @@
 -- The plugins and the conditions of statements, each in the order of the text.
-use Rattle.std.specs.Prelude.{List, [], ◌∷◌, ◌++◌, Option, Some, None}
+use Rattle.std.specs.Prelude.{[], ◌∷◌, ◌++◌, Option, Some, None}
 use Rattle.config_tree.specs.declared.tree.Condition.{Condition}
 use Rattle.event_flow.specs.Parts.{Part}
 use Rattle.plugin_graph.specs.declared.flat.Flat.{Flat}
