@@ -13,12 +13,7 @@ pub fn add_answer(to: &mut String, row: &str) -> Result<(), AllocError> {
     let (boxes, workers) = given.split_once(" and ").unwrap_or((given, "2"));
     let mut rack = rack_of(alloc, boxes)?;
     match parse(alloc, text) {
-        Ok(config) => add_checked(
-            to,
-            &config,
-            &mut rack,
-            workers.parse::<u32>().unwrap_or(2),
-        )?,
+        Ok(config) => add_checked(to, &config, &mut rack, workers.parse::<u32>().unwrap_or(2))?,
         Err(_) => to.push_str("no configuration")?,
     }
     Ok(())
