@@ -4,6 +4,7 @@ ghost use Rattle.clap.specs.Simple.{app_of};
 ghost use Rattle.clap.specs.Walk.{rule_of};
 ghost use Rattle.std.specs.Prelude.{◌≡◌, IfOk, false};
 ghost use Rattle.logstash_settings.specs.Command as spec;
+ghost use Rattle.logstash_settings.specs.Options.{long_rule, rule, with_options};
 
 use clap::{Arg, ArgAction, Command};
 use std::alloc::{AllocError, Global};
@@ -35,24 +36,87 @@ pub(crate) const QUEUE_CHECK: &str = "pqcheck";
 
 pub(crate) const QUEUE_REPAIR: &str = "pqrepair";
 
+/// An option: its id, which is its long word, its letter, if it has one, and what it does with the word behind
+/// it.
+struct CommandOption {
+    id: &'static str,
+    letter: Option<char>,
+    takes_text: bool,
+}
+
+const OPTIONS: [CommandOption; 13] = [
+    CommandOption {
+        id: CONFIG_STRING,
+        letter: Some('e'),
+        takes_text: true,
+    },
+    CommandOption {
+        id: PATH_CONFIG,
+        letter: Some('f'),
+        takes_text: true,
+    },
+    CommandOption {
+        id: TEST,
+        letter: Some('t'),
+        takes_text: false,
+    },
+    CommandOption {
+        id: RELOAD,
+        letter: Some('r'),
+        takes_text: false,
+    },
+    CommandOption {
+        id: WORKERS,
+        letter: Some('w'),
+        takes_text: true,
+    },
+    CommandOption {
+        id: BATCH_SIZE,
+        letter: Some('b'),
+        takes_text: true,
+    },
+    CommandOption {
+        id: PATH_DATA,
+        letter: None,
+        takes_text: true,
+    },
+    CommandOption {
+        id: PATH_SETTINGS,
+        letter: None,
+        takes_text: true,
+    },
+    CommandOption {
+        id: PIPELINE_ID,
+        letter: None,
+        takes_text: true,
+    },
+    CommandOption {
+        id: SAMPLE,
+        letter: None,
+        takes_text: true,
+    },
+    CommandOption {
+        id: APART,
+        letter: None,
+        takes_text: false,
+    },
+    CommandOption {
+        id: QUEUE_CHECK,
+        letter: None,
+        takes_text: true,
+    },
+    CommandOption {
+        id: QUEUE_REPAIR,
+        letter: None,
+        takes_text: true,
+    },
+];
+
 /// The command: each option has its id as its long word, and takes a text, or none.
 pub(crate) fn command<'a>(alloc: Global) -> Result<Command<'a>, AllocError>
     ensures { IfOk result (λ command. app_of command ≡ spec.app) }
 {
-    bare(alloc)
-        .arg(short_option(alloc, CONFIG_STRING, 'e'))?
-        .arg(short_option(alloc, PATH_CONFIG, 'f'))?
-        .arg(short_flag(alloc, TEST, 't'))?
-        .arg(short_flag(alloc, RELOAD, 'r'))?
-        .arg(short_option(alloc, WORKERS, 'w'))?
-        .arg(short_option(alloc, BATCH_SIZE, 'b'))?
-        .arg(option(alloc, PATH_DATA))?
-        .arg(option(alloc, PATH_SETTINGS))?
-        .arg(option(alloc, PIPELINE_ID))?
-        .arg(option(alloc, SAMPLE))?
-        .arg(flag(alloc, APART))?
-        .arg(option(alloc, QUEUE_CHECK))?
-        .arg(option(alloc, QUEUE_REPAIR))
+    with_options(alloc, &OPTIONS, bare(alloc))
 }
 
 /// The command without options: all words are its own, and it has none for help or its version.
@@ -65,32 +129,40 @@ fn bare<'a>(alloc: Global) -> Command<'a>
         .disable_version_flag(true)
 }
 
-/// An option that takes a text.
-fn option<'a>(alloc: Global, id: &'a str) -> Arg<'a>
-    ensures rule { rule_of result ≡ spec.option id.entry.now }
-    ensures local { result.global ≡ false }
+/// The command with these options too.
+fn with_options<'a>(
+    alloc: Global,
+    options: &[CommandOption],
+    start: Command<'a>,
+) -> Result<Command<'a>, AllocError>
+    ensures { IfOk result (λ command. app_of command ≡ with_options (app_of start.entry) options.now) }
 {
-    Arg::new(alloc, id).long(id).action(ArgAction::Set)
+    let mut command = start;
+    for option in options {
+        command = command.arg(arg_of(alloc, option))?;
+    }
+    Ok(command)
 }
 
-fn short_option<'a>(alloc: Global, id: &'a str, short: char) -> Arg<'a>
-    ensures rule { rule_of result ≡ spec.short_option id.entry.now short }
+fn arg_of<'a>(alloc: Global, option: &CommandOption) -> Arg<'a>
+    ensures rule { rule_of result ≡ rule option.now }
     ensures local { result.global ≡ false }
 {
-    option(alloc, id).short(short)
+    let arg = long_arg(alloc, option.id, option.takes_text);
+    match option.letter {
+        Some(letter) => arg.short(letter),
+        None => arg,
+    }
 }
 
-/// An option that takes nothing.
-fn flag<'a>(alloc: Global, id: &'a str) -> Arg<'a>
-    ensures rule { rule_of result ≡ spec.flag id.entry.now }
+fn long_arg<'a>(alloc: Global, id: &'a str, takes_text: bool) -> Arg<'a>
+    ensures rule { rule_of result ≡ long_rule id.entry.now takes_text }
     ensures local { result.global ≡ false }
 {
-    Arg::new(alloc, id).long(id).action(ArgAction::SetTrue)
-}
-
-fn short_flag<'a>(alloc: Global, id: &'a str, short: char) -> Arg<'a>
-    ensures rule { rule_of result ≡ spec.short_flag id.entry.now short }
-    ensures local { result.global ≡ false }
-{
-    flag(alloc, id).short(short)
+    let action = if takes_text {
+        ArgAction::Set
+    } else {
+        ArgAction::SetTrue
+    };
+    Arg::new(alloc, id).long(id).action(action)
 }
