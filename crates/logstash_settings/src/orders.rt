@@ -1,6 +1,6 @@
 //! What the options order.
 
-ghost use Rattle.std.specs.Prelude.{◌≡◌, IfOk, nat_lt, count_by};
+ghost use Rattle.std.specs.Prelude.{◌≡◌, IfOk, codes, nat_lt, count_by};
 ghost use Rattle.logstash_settings.specs.Words as spec;
 ghost use Rattle.logstash_settings.specs.Words.{rows, text_in};
 ghost use Rattle.settings_lines.specs.Numbers.{number_in};
@@ -105,42 +105,35 @@ pub(crate) fn orders(alloc: Global, matches: &ArgMatches<'_>) -> Result<Orders, 
     ensures { IfOk result (λ orders. orders ≡ spec.orders_of (rows matches.now)) }
 {
     Ok(Orders {
-        source: source(
-            alloc,
-            value(matches, CONFIG_STRING),
-            value(matches, PATH_CONFIG),
-            value(matches, SAMPLE),
-        )?,
-        tool: tool(
-            alloc,
-            value(matches, QUEUE_CHECK),
-            value(matches, QUEUE_REPAIR),
-        )?,
+        source: source(alloc, matches)?,
+        tool: tool(alloc, matches)?,
         test: is_set(matches, TEST),
         reload: is_set(matches, RELOAD),
         apart: is_set(matches, APART),
-        workers: number_or(value(matches, WORKERS), 1, 64, 2),
-        batch: number_or(value(matches, BATCH_SIZE), 1, 10_000, 125),
-        path_data: text_or(alloc, value(matches, PATH_DATA), "data")?,
-        path_settings: text_or(alloc, value(matches, PATH_SETTINGS), "config")?,
-        pipeline_id: text_or(alloc, value(matches, PIPELINE_ID), "main")?,
+        workers: number_or(matches, WORKERS, 64, 2),
+        batch: number_or(matches, BATCH_SIZE, 10_000, 125),
+        path_data: text_or(alloc, matches, PATH_DATA, "data")?,
+        path_settings: text_or(alloc, matches, PATH_SETTINGS, "config")?,
+        pipeline_id: text_or(alloc, matches, PIPELINE_ID, "main")?,
     })
 }
 
-fn source(
-    alloc: Global,
-    text: Option<&str>,
-    path: Option<&str>,
-    sample: Option<&str>,
-) -> Result<ConfigSource, AllocError>
-    ensures { IfOk result (λ source. source
-        ≡ spec.source_of (text_in text.entry) (text_in path.entry) (text_in sample.entry)) }
+/// What is to run.
+fn source(alloc: Global, matches: &ArgMatches<'_>) -> Result<ConfigSource, AllocError>
+    ensures { IfOk result (λ source. source ≡ spec.source_of
+        (spec.value (codes "config.string") (rows matches.now))
+        (spec.value (codes "path.config") (rows matches.now))
+        (spec.value (codes "sample") (rows matches.now))) }
 {
-    match (text, path, sample) {
-        (Some(text), _, _) => Ok(ConfigSource::Text(Text::of(alloc, text)?)),
-        (None, Some(path), _) => Ok(ConfigSource::Path(Text::of(alloc, path)?)),
-        (None, None, Some(events)) => Ok(sample_of(events)),
-        (None, None, None) => Ok(ConfigSource::Pipelines),
+    if let Some(text) = value(matches, CONFIG_STRING) {
+        return Ok(ConfigSource::Text(Text::of(alloc, text)?));
+    }
+    if let Some(path) = value(matches, PATH_CONFIG) {
+        return Ok(ConfigSource::Path(Text::of(alloc, path)?));
+    }
+    match value(matches, SAMPLE) {
+        Some(events) => Ok(sample_of(events)),
+        None => Ok(ConfigSource::Pipelines),
     }
 }
 
@@ -153,32 +146,39 @@ fn sample_of(events: &str) -> ConfigSource
     }
 }
 
-fn tool(
-    alloc: Global,
-    check: Option<&str>,
-    repair: Option<&str>,
-) -> Result<Option<QueueTool>, AllocError>
-    ensures { IfOk result (λ tool. tool
-        ≡ spec.tool_of (text_in check.entry) (text_in repair.entry)) }
+/// What is to be done with a queue.
+fn tool(alloc: Global, matches: &ArgMatches<'_>) -> Result<Option<QueueTool>, AllocError>
+    ensures { IfOk result (λ tool. tool ≡ spec.tool_of
+        (spec.value (codes "pqcheck") (rows matches.now))
+        (spec.value (codes "pqrepair") (rows matches.now))) }
 {
-    match (check, repair) {
-        (Some(id), _) => Ok(Some(QueueTool::Check(Text::of(alloc, id)?))),
-        (None, Some(id)) => Ok(Some(QueueTool::Repair(Text::of(alloc, id)?))),
-        (None, None) => Ok(None),
+    if let Some(id) = value(matches, QUEUE_CHECK) {
+        return Ok(Some(QueueTool::Check(Text::of(alloc, id)?)));
+    }
+    match value(matches, QUEUE_REPAIR) {
+        Some(id) => Ok(Some(QueueTool::Repair(Text::of(alloc, id)?))),
+        None => Ok(None),
     }
 }
 
-fn number_or(value: Option<&str>, low: u32, high: u32, default: u32) -> u32
-    ensures { result ≡ spec.number_or default low high (text_in value.entry) }
+/// The number of an option from 1 on.
+fn number_or(matches: &ArgMatches<'_>, id: &str, high: u32, default: u32) -> u32
+    ensures { result ≡ spec.number_or default 1 high (spec.value id.now (rows matches.now)) }
 {
-    match value {
-        Some(text) => small_number_in(text, low, high).unwrap_or(default),
+    match value(matches, id) {
+        Some(text) => small_number_in(text, 1, high).unwrap_or(default),
         None => default,
     }
 }
 
-fn text_or(alloc: Global, value: Option<&str>, default: &str) -> Result<Text, AllocError>
-    ensures { IfOk result (λ text. text ≡ spec.text_or default.now (text_in value.entry)) }
+fn text_or(
+    alloc: Global,
+    matches: &ArgMatches<'_>,
+    id: &str,
+    default: &str,
+) -> Result<Text, AllocError>
+    ensures { IfOk result (λ text. text ≡ spec.text_or default.now
+        (spec.value id.now (rows matches.now))) }
 {
-    Text::of(alloc, value.unwrap_or(default))
+    Text::of(alloc, value(matches, id).unwrap_or(default))
 }
