@@ -2,8 +2,9 @@
 //! levels, of which a configuration that was read has at most 64.
 
 ghost use Rattle.std.specs.Prelude.{◌≡◌, IfOk};
+ghost use Rattle.config_tree.specs.declared.tree.Condition.TheVariants as condition;
 
-use crate::operators::{Conjunction, Disjunction};
+use crate::operators::{Conjunction, Disjunction, Matching};
 use crate::tree::{
     Arm, Condition, Config, Literal, MatchPattern, Operand, Plugin, SettingValue, Settings,
     Statement,
@@ -178,13 +179,18 @@ fn copy_condition(alloc: Global, condition: &Condition) -> Result<Condition, All
             copy_disjoined(alloc, row.as_slice())?,
         )),
         Condition::Compared(by, x, y) => {
-            Ok(Condition::Compared(*by, copy_operand(x)?, copy_operand(y)?))
+            let (x, y) = copy_operands(x, y)?;
+            Ok(Condition::Compared(*by, x, y))
         }
-        Condition::Matched(by, x, y) => {
-            Ok(Condition::Matched(*by, copy_operand(x)?, copy_pattern(y)?))
+        Condition::Matched(by, x, y) => copy_match(*by, x, y),
+        Condition::In(x, y) => {
+            let (x, y) = copy_operands(x, y)?;
+            Ok(Condition::In(x, y))
         }
-        Condition::In(x, y) => Ok(Condition::In(copy_operand(x)?, copy_operand(y)?)),
-        Condition::NotIn(x, y) => Ok(Condition::NotIn(copy_operand(x)?, copy_operand(y)?)),
+        Condition::NotIn(x, y) => {
+            let (x, y) = copy_operands(x, y)?;
+            Ok(Condition::NotIn(x, y))
+        }
     }
 }
 
@@ -237,6 +243,24 @@ fn copy_operand(operand: &Operand) -> Result<Operand, AllocError>
             literals.as_slice(),
         )?)),
     }
+}
+
+fn copy_operands(left: &Operand, right: &Operand) -> Result<(Operand, Operand), AllocError>
+    ensures { IfOk result (λ copies. copies ≡ (left.now, right.now)) }
+{
+    let left = copy_operand(left)?;
+    Ok((left, copy_operand(right)?))
+}
+
+fn copy_match(
+    by: Matching,
+    operand: &Operand,
+    pattern: &MatchPattern,
+) -> Result<Condition, AllocError>
+    ensures { IfOk result (λ copy. copy ≡ condition.Matched by operand.now pattern.now) }
+{
+    let operand = copy_operand(operand)?;
+    Ok(Condition::Matched(by, operand, copy_pattern(pattern)?))
 }
 
 fn copy_literals(alloc: Global, literals: &[Literal]) -> Result<Items<Literal>, AllocError>

@@ -1,7 +1,8 @@
 //! The operators of conditions.
 
-ghost use Rattle.std.specs.Prelude.{◌≡◌, IfOk};
+ghost use Rattle.std.specs.Prelude.{◌≡◌, ◌∷◌, ◌++◌, [], IfOk};
 ghost use Rattle.config_tree.specs.Joints as joints;
+ghost use Rattle.config_tree.specs.declared.tree.Condition.TheVariants as condition;
 
 use crate::tree::Condition;
 use plain_data::{Boxed, Items};
@@ -51,15 +52,13 @@ impl Condition {
         ensures { IfOk result (λ joined. joined ≡ joints.conjoined joint left right) }
     {
         match left {
-            Condition::Conjoined(first, mut rest) => {
-                rest.push((joint, right))?;
-                Ok(Condition::Conjoined(first, rest))
-            }
-            other => {
-                let mut rest = Items::with_capacity(alloc, 1)?;
-                rest.push((joint, right))?;
-                Ok(Condition::Conjoined(Boxed::new(alloc, other)?, rest))
-            }
+            Condition::Conjoined(first, rest) => conjoin(first, rest, joint, right),
+            other => conjoin(
+                Boxed::new(alloc, other)?,
+                Items::with_capacity(alloc, 1)?,
+                joint,
+                right,
+            ),
         }
     }
 
@@ -74,15 +73,40 @@ impl Condition {
         ensures { IfOk result (λ joined. joined ≡ joints.disjoined joint left right) }
     {
         match left {
-            Condition::Disjoined(first, mut rest) => {
-                rest.push((joint, right))?;
-                Ok(Condition::Disjoined(first, rest))
-            }
-            other => {
-                let mut rest = Items::with_capacity(alloc, 1)?;
-                rest.push((joint, right))?;
-                Ok(Condition::Disjoined(Boxed::new(alloc, other)?, rest))
-            }
+            Condition::Disjoined(first, rest) => disjoin(first, rest, joint, right),
+            other => disjoin(
+                Boxed::new(alloc, other)?,
+                Items::with_capacity(alloc, 1)?,
+                joint,
+                right,
+            ),
         }
     }
+}
+
+// These conditions, with one more behind its joint.
+fn conjoin(
+    first: Boxed<Condition>,
+    rest: Items<(Conjunction, Condition)>,
+    joint: Conjunction,
+    right: Condition,
+) -> Result<Condition, AllocError>
+    ensures { IfOk result (λ joined. joined ≡ condition.Conjoined first (rest ++ (joint, right) ∷ [])) }
+{
+    let mut rest = rest;
+    rest.push((joint, right))?;
+    Ok(Condition::Conjoined(first, rest))
+}
+
+fn disjoin(
+    first: Boxed<Condition>,
+    rest: Items<(Disjunction, Condition)>,
+    joint: Disjunction,
+    right: Condition,
+) -> Result<Condition, AllocError>
+    ensures { IfOk result (λ joined. joined ≡ condition.Disjoined first (rest ++ (joint, right) ∷ [])) }
+{
+    let mut rest = rest;
+    rest.push((joint, right))?;
+    Ok(Condition::Disjoined(first, rest))
 }
