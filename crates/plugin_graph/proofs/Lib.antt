@@ -1,3 +1,4 @@
+pub mod Encounters
 pub mod Flattening
 pub mod Making
 pub mod Onces

@@ -3,3 +3,4 @@ pub mod Flats
 pub mod Conditions
 pub mod Each
 pub mod Numbering
+pub mod Meetings

@@ -1,0 +1,131 @@
+ghost use Rattle.std.specs.Prelude.{◌≡◌, ℕ, ◌++◌, [], map, IfOk, OnOk};
+ghost use Rattle.event_text.specs.Options as spec;
+ghost use Rattle.event_flow.specs.Marks.{Adds, At, Used, at_once, dids, marks, sent_to};
+ghost use Rattle.event_flow.specs.Steps.{Table};
+ghost use Rattle.event_flow.specs.declared.cell.Cell.TheVariants as cell;
+ghost use Rattle.plugin_graph.specs.Meetings.{Answered, Meeting, MayAnswer, filter_act};
+ghost use Rattle.plugin_graph.specs.Makes.{applied, optioned};
+
+use crate::asked::Asked;
+use crate::boxed::BoxedFilter;
+use crate::built::BuiltFilter;
+use crate::filter::Filter;
+use event_flow::{Cell, Outcome, Targets};
+use event_text::Options;
+use event_tree::{Event, Events, Items};
+use filter_settings::Applied;
+use foreign_parts::Verdict;
+use std::alloc::AllocError;
+
+/// A filter of a kit, with its box, if it is a boxed one and the box was put in.
+#[derive(Drop)]
+pub struct KitFilter<X> {
+    pub filter: Filter,
+    pub plugged: Option<X>,
+}
+
+impl<X: Asked> KitFilter<X> {
+    /// Has an event meet the filter, which was sent to these targets so far. A boxed filter without
+    /// its box answers as where memory ran out.
+    pub fn meet(
+        &mut self,
+        event: Event,
+        targets: Targets,
+        to: &mut Items<Cell>,
+    ) -> Result<(), AllocError>
+        ensures ok { OnOk result ((table : Table) (k : ℕ) → Adds
+            (Meeting (λ _ e v. MayAnswer
+            X.may self.old.plugged e v)
+            (filter_act k self.old.filter event) table event targets)
+            (marks table to.old) (marks table to.new)) }
+        ensures same { self.new ≡ self.old }
+    {
+        match &mut self.filter {
+            Filter::Built(filter) => meet(filter, event, targets, to),
+            Filter::Boxed(filter) => match &self.plugged {
+                Some(plugged) => ask(filter, plugged, event, targets, to),
+                None => Err(AllocError),
+            },
+        }
+    }
+}
+
+// Has an event meet a built-in filter.
+fn meet(
+    filter: &mut BuiltFilter,
+    event: Event,
+    targets: Targets,
+    to: &mut Items<Cell>,
+) -> Result<(), AllocError>
+    ensures ok { OnOk result ((table : Table) → marks table to.new
+        ≡ marks table to.old ++ dids (sent_to table targets event)
+        ++ at_once (applied filter.old event).events) }
+    ensures same { filter.new ≡ filter.old }
+{
+    leave(&event, targets, to)?;
+    let Applied { events, .. } = filter.apply(event)?;
+    go_on(events, to)
+}
+
+// Asks a box about an event.
+fn ask<X: Asked>(
+    filter: &BoxedFilter,
+    plugged: &X,
+    event: Event,
+    targets: Targets,
+    to: &mut Items<Cell>,
+) -> Result<(), AllocError>
+    ensures { OnOk result (Answered
+        (X.may plugged.now event)
+        filter.now event targets to.old to.new) }
+{
+    leave(&event, targets, to)?;
+    let verdict = plugged.ask(&event)?;
+    let events = events_of(filter, &verdict)?;
+    to.push(Cell::Came(Outcome::Used(verdict)))?;
+    go_on(events, to)
+}
+
+// The events of a verdict.
+fn events_of(filter: &BoxedFilter, verdict: &Verdict) -> Result<Events, AllocError>
+    ensures { IfOk result (λ events. events ≡ optioned filter.now verdict.now) }
+{
+    let Verdict { events, matched } = verdict.copy()?;
+    if matched {
+        with_options(&filter.options, events)
+    } else {
+        Ok(events)
+    }
+}
+
+fn with_options(options: &Options, events: Events) -> Result<Events, AllocError>
+    ensures { IfOk result (λ changed. changed ≡ map (spec.with_options options.now) events) }
+{
+    let mut changed = Events::with_capacity(events.allocator(), events.len())?;
+    for event in events.into_vec() {
+        changed.push(options.apply(event)?)?;
+    }
+    Ok(changed)
+}
+
+// What is left of an event that was sent to targets, and is no more.
+fn leave(event: &Event, targets: Targets, to: &mut Items<Cell>) -> Result<(), AllocError>
+    ensures { OnOk result ((table : Table) → marks table to.new
+        ≡ marks table to.old ++ dids (sent_to table targets event.now)) }
+{
+    if targets.is_empty() {
+        return Ok(());
+    }
+    to.push(Cell::Came(Outcome::Gone(event.copy()?, targets)))
+}
+
+// Events that were sent nowhere so far go on with the next step.
+fn go_on(events: Events, to: &mut Items<Cell>) -> Result<(), AllocError>
+    ensures { OnOk result (to.new ≡ to.old ++ map (λ e. cell.At 0 e []) events) }
+{
+    for event in events.into_vec() {
+        let targets = Targets::new(to.allocator());
+        to.push(Cell::At(0, event, targets))?;
+    }
+    Ok(())
+}
