@@ -1,3 +1,4 @@
+pub mod Acting
 pub mod Encounters
 pub mod Flattening
 pub mod Making

@@ -4,3 +4,6 @@ pub mod Conditions
 pub mod Each
 pub mod Numbering
 pub mod Meetings
+pub mod Loads
+pub mod Kits
+pub mod KitParts

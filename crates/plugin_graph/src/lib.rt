@@ -11,6 +11,7 @@ mod flat;
 mod kit_filter;
 mod lists;
 mod output;
+mod parts;
 mod places;
 
 pub use asked::Asked;

@@ -1,0 +1,79 @@
+ghost use Rattle.std.specs.Prelude.{◌≡◌, OnOk};
+ghost use Rattle.event_flow.specs.Marks.{Adds, marks};
+ghost use Rattle.event_flow.specs.Steps.{Table};
+ghost use Rattle.plugin_graph.specs.Kits.{HaveOwnTargets, MayAt, boxes_of, filter_acts};
+ghost use Rattle.plugin_graph.specs.Meetings.{Meeting};
+
+use crate::asked::Asked;
+use crate::condition::CompiledCondition;
+use crate::kit_filter::KitFilter;
+use crate::output::{Output, Target};
+use condition_eval::Truth;
+use event_flow::{Cell, Kit, Outcome, Targets};
+use event_tree::{Event, Items};
+use std::alloc::AllocError;
+
+/// The plugins and conditions of a kit, by their numbers: those of the filters first.
+#[derive(Drop)]
+pub struct Parts<X> {
+    pub filters: Items<KitFilter<X>>,
+    pub outputs: Items<Output>,
+    pub targets: Items<Target>,
+    pub conditions: Items<CompiledCondition>,
+    ghost own: { HaveOwnTargets targets outputs },
+}
+
+impl<X: Asked> Kit for Parts<X> {
+    ghost use Rattle.plugin_graph.specs.KitParts.{contents_in};
+    ghost use Rattle.plugin_graph.specs.Kits.{table_of, MayAt, boxes_of};
+
+    ghost table = { λ parts. table_of (contents_in parts) };
+
+    ghost may = { λ parts. MayAt X.may (boxes_of parts.filters) };
+
+    ghost stands = { λ parts. Unit {0} };
+
+    fn act(
+        &mut self,
+        number: u64,
+        event: Event,
+        targets: Targets,
+        to: &mut Items<Cell>,
+    ) -> Result<(), AllocError> {
+        let at = number as usize;
+        match at.checked_sub(self.filters.len()) {
+            None => meet(&mut self.filters, at, event, targets, to),
+            Some(place) => match self.outputs.get(place) {
+                Some(output) => output.send(event, targets, to),
+                None => to.push(Cell::Came(Outcome::Gone(event, targets))),
+            },
+        }
+    }
+
+    fn test(&mut self, number: u64, event: &Event) -> Result<Truth, AllocError> {
+        match self.conditions.get_mut(number as usize) {
+            Some(condition) => condition.test(event),
+            None => Ok(Truth::No),
+        }
+    }
+}
+
+// Has an event meet the filter of a number.
+fn meet<X: Asked>(
+    filters: &mut Items<KitFilter<X>>,
+    at: usize,
+    event: Event,
+    targets: Targets,
+    to: &mut Items<Cell>,
+) -> Result<(), AllocError>
+    ensures ok { OnOk result ((table : Table) → Adds (Meeting
+        (MayAt X.may (boxes_of filters.old))
+        (filter_acts filters.old at event) table event targets)
+        (marks table to.old) (marks table to.new)) }
+    ensures same { filters.new ≡ filters.old }
+{
+    match filters.get_mut(at) {
+        Some(filter) => filter.meet(event, targets, to),
+        None => Err(AllocError),
+    }
+}
