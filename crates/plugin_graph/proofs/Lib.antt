@@ -1,4 +1,5 @@
 pub mod Acting
+pub mod Coming
 pub mod Encounters
 pub mod Flattening
 pub mod Making

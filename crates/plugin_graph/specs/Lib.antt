@@ -7,3 +7,4 @@ pub mod Meetings
 pub mod Loads
 pub mod Kits
 pub mod KitParts
+pub mod Passages

@@ -12,6 +12,7 @@ mod kit_filter;
 mod lists;
 mod output;
 mod parts;
+mod passage;
 mod places;
 
 pub use asked::Asked;
@@ -23,3 +24,4 @@ pub use flat::Flat;
 pub use kit_filter::KitFilter;
 pub use lists::{add_named, compile_conditions, read_filters};
 pub use output::{Output, Outputs, Target};
+pub use passage::{Passage, Sent};
