@@ -7,3 +7,5 @@ pub mod Onces
 pub mod Outputting
 pub mod Patterns
 pub mod Reading
+pub mod Sums
+pub mod Tables

@@ -5,6 +5,8 @@ pub mod Each
 pub mod Numbering
 pub mod Meetings
 pub mod Loads
+pub mod Counts
 pub mod Kits
 pub mod KitParts
 pub mod Passages
+pub mod Graphs

@@ -1,15 +1,22 @@
-//! Configurations made ready to be run: filters with their settings read, conditions with their
-//! patterns, and statements taken apart into both.
+//! Configurations made ready to be run, and batches that run through them.
+//!
+//! A [`Kit`] is all that one worker has: filters with their settings read, conditions with their
+//! patterns, and outputs with their places. A [`Graph`] is the statements, laid out flat. [`run`] takes a
+//! batch through both, and does what the configuration means.
 #![tactic(auto)]
 
 mod asked;
 mod boxed;
 mod built;
 mod condition;
+mod counting;
 mod filter;
 mod flat;
+mod graph;
+mod kit;
 mod kit_filter;
 mod lists;
+mod loading;
 mod output;
 mod parts;
 mod passage;
@@ -21,6 +28,8 @@ pub use built::BuiltFilter;
 pub use condition::{CompiledCondition, NamedCondition};
 pub use filter::Filter;
 pub use flat::Flat;
+pub use graph::{Graph, run};
+pub use kit::Kit;
 pub use kit_filter::KitFilter;
 pub use lists::{add_named, compile_conditions, read_filters};
 pub use output::{Output, Outputs, Target};

@@ -1,0 +1,48 @@
+ghost use Rattle.std.specs.Prelude.{◌≡◌, IfOk, IfErr, Ok};
+ghost use Rattle.event_flow.specs.Laying.{IsTableOf};
+ghost use Rattle.filter_settings.specs.Settings.{Refuses};
+ghost use Rattle.plugin_graph.specs.Counts.{patterns_in};
+ghost use Rattle.plugin_graph.specs.Graphs.{contents_of, built_in};
+ghost use Rattle.plugin_graph.specs.Kits.{table_of};
+ghost use Rattle.plugin_graph.specs.Loads.{loaded};
+ghost use Rattle.plugin_graph.specs.Makes.{makes};
+
+use crate::counting::count_patterns;
+use crate::loading::load;
+use crate::parts::Parts;
+use config_tree::{Config, FromFault};
+use plain_data::Text;
+use std::alloc::Global;
+
+/// All that one worker has to run a configuration: filters with their settings read, conditions with
+/// their patterns, outputs with their places, and boxes.
+#[derive(Drop)]
+pub struct Kit<X> {
+    pub(crate) parts: Parts<X>,
+    pub(crate) built: u64,
+}
+
+impl<X: Drop> Kit<X> {
+    /// A kit of a configuration, with the numbers that were drawn for the ids of its boxed outputs.
+    /// The fault is that of the first setting of a filter that is refused, and else `BadPattern` of
+    /// `condition` where the text of a condition is no pattern.
+    pub fn new(alloc: Global, config: &Config, draws: &[(Text, u64)]) -> Result<Kit<X>, FromFault>
+        ensures loaded { IfOk result
+            (λ kit. loaded draws.now config.now ≡ Ok (contents_of kit)) }
+        ensures refused { IfErr result (λ fault. Refuses fault (loaded draws.now config.now)) }
+        ensures table { IfOk result
+            (λ kit. IsTableOf makes config.now draws.now (table_of (contents_of kit))) }
+        ensures built { IfOk result (λ kit. built_in kit ≡ patterns_in (contents_of kit)) }
+    {
+        let parts = load(alloc, config, draws)?;
+        let built = count_patterns(&parts)?;
+        Ok(Kit { parts, built })
+    }
+
+    /// How many filters and patterns were read from text through this kit.
+    pub fn built(&self) -> u64
+        ensures { result ≡ built_in self.now }
+    {
+        self.built
+    }
+}
