@@ -1,3 +1,4 @@
 pub mod Altering
 pub mod NewestSlots
 pub mod Saying
+pub mod EachFile
