@@ -5,3 +5,8 @@ pub mod SegmentSlots
 pub mod QueueNames
 pub mod NamesApart
 pub mod LetterPlaces
+pub mod Growing
+pub mod Kept
+pub mod Joining
+pub mod AppendRun
+pub mod Turns

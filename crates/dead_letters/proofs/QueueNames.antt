@@ -8,7 +8,7 @@ use Rattle.dead_letters.specs.Queues.{begins_next, grown, pieces, cut, joined, b
 
 -- ---- records make segments
 
-nothing_behind : (ps : List (List ℕ)) → behind [] ps ≡ ps
+pub nothing_behind : (ps : List (List ℕ)) → behind [] ps ≡ ps
 nothing_behind [] = refl
 nothing_behind (p ∷ ps) = refl
 

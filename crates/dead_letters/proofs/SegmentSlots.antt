@@ -6,9 +6,9 @@ use Rattle.std.proofs.lemmas.Bool.Decides.{nat_tests}
 use Rattle.std.proofs.lemmas.Nat.{mod_below}
 use Rattle.byteorder.specs.Numbers.{big_number-reads_back}
 use Rattle.crc_frame.specs.Crc.{is_checked}
-use Rattle.crc_frame.specs.Slots.{place_of, turn_of, is_slot, IsSlotOf}
+use Rattle.crc_frame.specs.Slots.{place_of, turn_of, is_slot, next_turn, IsSlotOf}
 use Rattle.crc_frame.proofs.CrcLemmas.{is_checked-append}
-use Rattle.store_changes.specs.Slots.{newest_bytes, broken_slot}
+use Rattle.store_changes.specs.Slots.{newest_bytes, ComesNext, next, broken_slot}
 use Rattle.store_changes.proofs.Saying.{by_slot, by_none, by_broken, broken_differs, slot_is_long}
 use Rattle.dead_letters.specs.Segments.{segments, slot_body, slot_spelling, AreSegments, first_of, last_of, length_of, said_by, slot_says, damaged_at_first, counted_in, HasRoom, DamagesDiffer, CountedHaveRoom}
 use Rattle.dead_letters.specs.declared.counting.Segments.{Segments}
@@ -104,6 +104,25 @@ damaged_by file found expected None is said = elim (cases_Bool (nat_lt 32 (lengt
 pub damages_differ : DamagesDiffer
 damages_differ file found expected said = damaged_by file found expected (newest_bytes 32 file) refl said
 
+no_count : (pair : ℕ × ℕ) (turn : ℕ) (s : Segments) → Damaged pair.0 pair.1 ≡ Count turn s → ⊥
+no_count pair turn s e = cc
+
+none_counts : (turn : ℕ) (s : Segments) → Nothing ≡ Count turn s → ⊥
+none_counts turn s e = cc
+
+-- a file without an intact slot counts no segments
+no_slot : (file : List ℕ) (turn : ℕ) (s : Segments) → newest_bytes 32 file ≡ None → counted_in file ≡ Count turn s → ⊥
+no_slot file turn s is said = elim (cases_Bool (nat_lt 32 (length file))) [
+  | inl long ↦
+      let longer : 32 < length file = grind (arith, nat_tests, long) in
+      let other : damaged_at_first (broken_slot (take 32 file)) ≡ Count turn s = sym (by_broken slot_says damaged_at_first Nothing 32 file is longer) ∙ said in
+      no_count (broken_slot (take 32 file)) turn s other
+  | inr not_long ↦
+      let shorter : length file ≤ 32 = grind (arith, nat_tests, not_long) in
+      let other : Nothing ≡ Count turn s = sym (by_none slot_says damaged_at_first Nothing 32 file is shorter) ∙ said in
+      none_counts turn s other
+]
+
 counted_by : (file : List ℕ) (turn : ℕ) (s : Segments) (slot : Option (List ℕ)) → newest_bytes 32 file ≡ slot → counted_in file ≡ Count turn s → HasRoom file s
 counted_by file turn s (Some slot) is said =
     let long = slot_is_long 32 file slot (omega arith) is in
@@ -111,22 +130,27 @@ counted_by file turn s (Some slot) is said =
       order = said_order (turn_of slot) turn (segments (first_of slot) (last_of slot) (length_of slot)) s (sym (by_slot slot_says damaged_at_first Nothing 32 file slot is) ∙ said);
       room = λ next. (let half = mod_below next 2 (omega arith) in omega (arith, long, half));
     }
-counted_by file turn s None is said = elim (cases_Bool (nat_lt 32 (length file))) [
-  | inl long ↦
-      let longer : 32 < length file = grind (arith, nat_tests, long) in
-      let other : damaged_at_first (broken_slot (take 32 file)) ≡ Count turn s = sym (by_broken slot_says damaged_at_first Nothing 32 file is longer) ∙ said in
-      absurd (no_count (broken_slot (take 32 file)) turn s other)
-  | inr not_long ↦
-      let shorter : length file ≤ 32 = grind (arith, nat_tests, not_long) in
-      let other : Nothing ≡ Count turn s = sym (by_none slot_says damaged_at_first Nothing 32 file is shorter) ∙ said in
-      absurd (none_counts turn s other)
-]
-  where
-    no_count : (pair : ℕ × ℕ) (turn : ℕ) (s : Segments) → Damaged pair.0 pair.1 ≡ Count turn s → ⊥
-    no_count pair turn s e = cc
-
-    none_counts : (turn : ℕ) (s : Segments) → Nothing ≡ Count turn s → ⊥
-    none_counts turn s e = cc
+counted_by file turn s None is said = absurd (no_slot file turn s is said)
 
 pub counted_have_room : CountedHaveRoom
 counted_have_room file turn s said = counted_by file turn s (newest_bytes 32 file) refl said
+
+-- ---- the turn that comes next
+
+said_turn : (turn of : ℕ) (s t : Segments) → said_by turn s ≡ Count of t → turn ≡ of
+said_turn turn of s t is = elim (cases_Bool (nat_lt s.last s.first)) [
+  | inl above ↦ let other : Damaged s.first s.last ≡ Count of t = sym (cond-true _ _ _ above) ∙ is in absurd (no_count (s.first, s.last) of t other)
+  | inr not_above ↦
+      let these : Count turn s ≡ Count of t = sym (cond-false _ _ _ not_above) ∙ is in
+      let same : turn ≡ of = cc in
+      same
+]
+
+next_by : (file : List ℕ) (turn : ℕ) (s : Segments) (slot : Option (List ℕ)) → newest_bytes 32 file ≡ slot → turn < 2 ^ 64 → counted_in file ≡ Count turn s → ComesNext 32 file (next_turn turn)
+next_by file turn s (Some slot) is fits said =
+    let same : turn_of slot ≡ turn = said_turn (turn_of slot) turn (segments (first_of slot) (last_of slot) (length_of slot)) s (sym (by_slot slot_says damaged_at_first Nothing 32 file slot is) ∙ said) in
+    next slot is (omega (arith, same, fits)) (ap next_turn (sym same))
+next_by file turn s None is fits said = absurd (no_slot file turn s is said)
+
+pub comes_next : (file : List ℕ) (turn : ℕ) (s : Segments) → turn < 2 ^ 64 → counted_in file ≡ Count turn s → ComesNext 32 file (next_turn turn)
+comes_next file turn s fits said = next_by file turn s (newest_bytes 32 file) refl fits said

@@ -4,3 +4,8 @@ pub mod Shedding
 pub mod Segments
 pub mod Queues
 pub mod Places
+pub mod Found
+pub mod Appends
+pub mod Views
+pub mod Ready
+pub mod Plans

@@ -1,4 +1,5 @@
 use std::alloc::AllocError;
+use store_disk::Failed;
 
 /// A record of a segment that doesn't read.
 #[derive(Clone, Copy, Debug, PartialEq, Eq)]
@@ -30,5 +31,39 @@ impl From<AllocError> for ReadFault {
 
     fn from(_error: AllocError) -> ReadFault {
         ReadFault::Memory
+    }
+}
+
+/// Why letters were not appended to a queue.
+#[derive(Debug, PartialEq, Eq, Drop)]
+pub enum DeadFault {
+    /// The queue holds its letters, and has no room: how many bytes it has, how many would be added, and how
+    /// many it may have.
+    Full(u128, u128, u64),
+    /// Memory ran out. Nothing was written.
+    Memory,
+    /// A call of the store failed, and its count of faults rose.
+    Fault,
+}
+
+impl From<AllocError> for DeadFault {
+    ghost use Rattle.std.specs.Prelude.{◌≡◌};
+    ghost use Rattle.dead_letters.specs.declared.faults.DeadFault.TheVariants.{Memory};
+
+    ghost from_gives = { λ _ fault. fault ≡ Memory };
+
+    fn from(_error: AllocError) -> DeadFault {
+        DeadFault::Memory
+    }
+}
+
+impl From<Failed> for DeadFault {
+    ghost use Rattle.std.specs.Prelude.{◌≡◌};
+    ghost use Rattle.dead_letters.specs.declared.faults.DeadFault.TheVariants.{Fault};
+
+    ghost from_gives = { λ _ fault. fault ≡ Fault };
+
+    fn from(_failed: Failed) -> DeadFault {
+        DeadFault::Fault
     }
 }

@@ -1,7 +1,7 @@
 // The segments of a queue: their names, and which of them new records join.
 ghost use Rattle.std.specs.Prelude.{◌≡◌, ◌<◌, ◌^◌, ◌+◌, ◌-◌, ◌++◌, IsTrue, IfOk};
 ghost use Rattle.std.specs.List.{sum};
-ghost use Rattle.dead_letters.specs.Queues.{begins_next, name_in, pieces, segment};
+ghost use Rattle.dead_letters.specs.Queues.{begins_next, name_in, names, pieces, segment};
 
 use event_tree::{Items, Text};
 use itoa::Buffer;
@@ -17,6 +17,13 @@ pub fn segment_name(alloc: Global, folder: &str, number: u32) -> Result<Text, Al
         return joined(alloc, folder, "dead.log", "", "");
     }
     joined(alloc, folder, "dead.", Buffer::new().format(number), ".log")
+}
+
+/// The name of the file in a folder that names the segments which count.
+pub(crate) fn slot_name(alloc: Global, folder: &str) -> Result<Text, AllocError>
+    ensures { IfOk result (λ name. name ≡ name_in folder.now names) }
+{
+    joined(alloc, folder, "dead.seg", "", "")
 }
 
 fn joined(

@@ -47,7 +47,7 @@ pub fn shed(
     })
 }
 
-fn total(sizes: &[u64]) -> u128
+pub(crate) fn total(sizes: &[u64]) -> u128
     ensures sum { result ≡ sum sizes.now }
     ensures low { result < 2 ^ 127 }
 {

@@ -1,0 +1,74 @@
+-- One turn of each loop: over letters, over names, and over segments.
+use Rattle.std.proofs.Common.{◌≡◌, ℕ, suc, ◌+◌, ◌≤◌, List, [], ◌∷◌, ◌++◌, length, map, take, drop, get_or, Result, Ok, Err, refl, sym, ap, ◌∙◌, arith}
+use Rattle.std.specs.List.{sum}
+use Rattle.std.proofs.Math.Path.{ap₂}
+use Rattle.std.proofs.lemmas.List.{append_assoc, append-nil, drop_all, take_all}
+use Rattle.io_traits.specs.Folders.{Content}
+use Rattle.store_disk.specs.declared.faults.Damage.{Damage}
+use Rattle.store_disk.specs.declared.faults.QueueFault.{QueueFault}
+use Rattle.store_disk.specs.declared.faults.QueueFault.TheVariants as f
+use Rattle.dead_letters.specs.Letters.{record_bytes}
+use Rattle.dead_letters.specs.Queues.{segment, name_in, joined}
+use Rattle.dead_letters.specs.Records.{records_in}
+use Rattle.dead_letters.specs.Found.{bytes_in, in_file, in_front, letters_then, letters_from, fronts_from, Answers}
+use Rattle.dead_letters.specs.Appends.{size_of}
+use Rattle.dead_letters.specs.Views.{names_from}
+use Rattle.dead_letters.specs.Ready.{files_from}
+use Rattle.dead_letters.specs.declared.letter.DeadLetter.{DeadLetter}
+use Rattle.dead_letters.proofs.Sheds.{sum_cons}
+
+-- ---- letters
+
+module _ (x : DeadLetter) (letters rest : List DeadLetter) (split : letters ≡ x ∷ rest) where
+  pub one_summed : sum (map size_of letters) ≡ size_of x + sum (map size_of rest)
+  one_summed = ap (λ l. sum (map size_of l)) split ∙ sum_cons (size_of x) (map size_of rest)
+
+  pub one_sized : (sizes items : List ℕ) (n : ℕ) (whole : List ℕ) → items ≡ sizes ++ n ∷ [] → n ≡ size_of x → sizes ++ map size_of letters ≡ whole → items ++ map size_of rest ≡ whole
+  one_sized sizes items n whole pushed is so_far =
+      ap (λ l. l ++ map size_of rest) pushed ∙ append_assoc sizes (n ∷ []) (map size_of rest) ∙ ap (λ m. sizes ++ m ∷ map size_of rest) is ∙ sym (ap (λ l. sizes ++ map size_of l) split) ∙ so_far
+
+  pub one_written : (bytes items whole : List ℕ) → items ≡ bytes ++ record_bytes x → bytes ++ joined (map record_bytes letters) ≡ whole → items ++ joined (map record_bytes rest) ≡ whole
+  one_written bytes items whole written so_far =
+      ap (λ l. l ++ joined (map record_bytes rest)) written ∙ append_assoc bytes (record_bytes x) (joined (map record_bytes rest)) ∙ sym (ap (λ l. bytes ++ joined (map record_bytes l)) split) ∙ so_far
+
+-- ---- names
+
+pub one_named : (folder : List ℕ) (n k m j : ℕ) (made items whole : List (List ℕ)) (name : List ℕ) → k ≡ suc j → m ≡ suc n → items ≡ made ++ name ∷ [] → name ≡ name_in folder (segment n) → made ++ names_from folder n k ≡ whole
+    → items ++ names_from folder m j ≡ whole
+one_named folder n k m j made items whole name some next pushed is so_far =
+    ap (λ l. l ++ names_from folder m j) pushed ∙ append_assoc made (name ∷ []) (names_from folder m j) ∙ ap₂ (λ x y. made ++ x ∷ names_from folder y j) is next ∙ sym (ap (λ i. made ++ names_from folder n i) some) ∙ so_far
+
+-- ---- segments
+
+in_front_both : (ls more : List DeadLetter) (r : Result (List DeadLetter) Damage) → in_front ls (in_front more r) ≡ in_front (ls ++ more) r
+in_front_both ls more (Ok rest) = ap Ok (sym (append_assoc ls more rest))
+in_front_both ls more (Err d) = refl
+
+module _ (folder : List ℕ) (c : Content) (n m s : ℕ) (sizes rest : List ℕ) (next : m ≡ suc n) (split : sizes ≡ s ∷ rest) (ls : List DeadLetter) (whole : Result (List DeadLetter) Damage)
+    (so_far : whole ≡ in_front ls (letters_from folder n (fronts_from folder c n sizes))) where
+  abbrev own : Result (List DeadLetter) Damage
+  own = in_file (name_in folder (segment n)) (records_in (take s (bytes_in folder c n)))
+
+  opened_up : whole ≡ in_front ls (letters_then own (letters_from folder m (fronts_from folder c m rest)))
+  opened_up = so_far ∙ ap (λ l. in_front ls (letters_from folder n (fronts_from folder c n l))) split ∙ ap (λ k. in_front ls (letters_then own (letters_from folder k (fronts_from folder c k rest)))) (sym next)
+
+  pub segment_read : (more items : List DeadLetter) → own ≡ Ok more → items ≡ ls ++ more → whole ≡ in_front items (letters_from folder m (fronts_from folder c m rest))
+  segment_read more items is pushed =
+      opened_up ∙ ap (λ r. in_front ls (letters_then r (letters_from folder m (fronts_from folder c m rest)))) is ∙ in_front_both ls more (letters_from folder m (fronts_from folder c m rest))
+      ∙ ap (λ l. in_front l (letters_from folder m (fronts_from folder c m rest))) (sym pushed)
+
+  pub segment_lost : (fault : QueueFault) → Answers (Err fault) own → Answers (Err fault) whole
+  segment_lost (f.Damaged d) is = opened_up ∙ ap (λ r. in_front ls (letters_then r (letters_from folder m (fronts_from folder c m rest)))) is
+  segment_lost f.Fault is = tt
+  segment_lost f.Memory is = tt
+
+pub segments_end : (folder : List ℕ) (c : Content) (n i : ℕ) (sizes : List ℕ) (ls : List DeadLetter) (whole : Result (List DeadLetter) Damage) → length sizes ≤ i
+    → whole ≡ in_front ls (letters_from folder n (fronts_from folder c n (drop i sizes))) → whole ≡ Ok ls
+segments_end folder c n i sizes ls whole past so_far = so_far ∙ ap (λ l. in_front ls (letters_from folder n (fronts_from folder c n l))) (drop_all i sizes past) ∙ ap Ok (append-nil ls)
+
+-- so many bytes of each are all that it has
+pub fronts_are : (folder : List ℕ) (c : Content) (n : ℕ) (sizes : List ℕ) → map length (files_from folder c n (length sizes)) ≡ sizes → fronts_from folder c n sizes ≡ files_from folder c n (length sizes)
+fronts_are folder c n [] same = refl
+fronts_are folder c n (s ∷ sizes) same =
+    let head : length (bytes_in folder c n) ≡ s = ap (λ l. get_or l 0 0) same in
+    ap₂ (λ b l. b ∷ l) (take_all s (bytes_in folder c n) (omega (arith, head))) (fronts_are folder c (suc n) sizes (ap (drop 1) same))

@@ -1,0 +1,102 @@
+// The letters of a queue, read segment by segment.
+ghost use Rattle.std.specs.Prelude.{◌≡◌, ◌≤◌, ◌+◌, ◌^◌, IsTrue, Err, length, take, IfOk, IfErr};
+ghost use Rattle.io_traits.specs.Counts.{HasCause};
+ghost use Rattle.io_traits.specs.Reads.{bytes_of};
+ghost use Rattle.store_trait.specs.Calls.{ChangesNothing};
+ghost use Rattle.store_disk.specs.declared.faults.QueueFault.TheVariants as f;
+ghost use Rattle.dead_letters.specs.Found.{Answers, IsNoDamage, bytes_in, fronts_from, in_file, letters_from};
+ghost use Rattle.dead_letters.specs.Queues.{name_in, segment};
+ghost use Rattle.dead_letters.specs.Records.{records_in};
+
+use crate::faults::{ReadFault, RecordFault};
+use crate::letter::Letters;
+use crate::queue::segment_name;
+use crate::records::read_records;
+use event_tree::{Items, Text};
+use std::alloc::Global;
+use store_disk::{Damage, QueueFault, Store};
+
+/// The letters in so many bytes of each of these segments, from a number on.
+pub(crate) fn read_letters<S: Store>(
+    alloc: Global,
+    store: &mut S,
+    folder: &str,
+    first: u32,
+    sizes: &[u64],
+) -> Result<Letters, QueueFault>
+    requires { first + length sizes.now ≤ 2 ^ 32 }
+    ensures letters { IsTrue S.tells → Answers result
+        (letters_from folder.now first (fronts_from folder.now (S.seen store.old) first sizes.now)) }
+    ensures same { ChangesNothing S.tells S.seen S.moment S.may_leave store.old store.new }
+    ensures cause { HasCause (S.faults store.old) (S.faults store.new) (result ≡ Err f.Fault) }
+{
+    let mut letters = Items::new(alloc);
+    for (place, size) in sizes.iter().enumerate() {
+        match read_segment(alloc, store, folder, first + place as u32, *size) {
+            Ok(more) => match letters.append(more) {
+                Ok(()) => {}
+                Err(_) => return Err(QueueFault::Memory),
+            },
+            Err(fault) => return Err(fault),
+        }
+    }
+    Ok(letters)
+}
+
+// The letters in so many bytes of a segment.
+fn read_segment<S: Store>(
+    alloc: Global,
+    store: &mut S,
+    folder: &str,
+    number: u32,
+    size: u64,
+) -> Result<Letters, QueueFault>
+    ensures letters { IsTrue S.tells → Answers result (in_file (name_in folder.now (segment number))
+        (records_in (take size (bytes_in folder.now (S.seen store.old) number)))) }
+    ensures same { ChangesNothing S.tells S.seen S.moment S.may_leave store.old store.new }
+    ensures cause { HasCause (S.faults store.old) (S.faults store.new) (result ≡ Err f.Fault) }
+{
+    let name = segment_name(alloc, folder, number)?;
+    let bytes = read_front(alloc, store, name.as_str(), size)?;
+    match read_records(alloc, &bytes) {
+        Ok(letters) => Ok(letters),
+        Err(ReadFault::At(fault)) => Err(damaged(name, fault)),
+        Err(ReadFault::Memory) => Err(QueueFault::Memory),
+    }
+}
+
+// The first bytes of a file.
+fn read_front<S: Store>(
+    alloc: Global,
+    store: &mut S,
+    name: &str,
+    size: u64,
+) -> Result<Vec<u8>, QueueFault>
+    ensures bytes { IfOk result (λ bytes. IsTrue S.tells
+        → bytes.items ≡ take size (bytes_of (S.seen store.old name.now))) }
+    ensures whole { IfErr result (λ fault. IsNoDamage fault) }
+    ensures same { ChangesNothing S.tells S.seen S.moment S.may_leave store.old store.new }
+    ensures cause { HasCause (S.faults store.old) (S.faults store.new) (result ≡ Err f.Fault) }
+{
+    let mut bytes = vec![in alloc; 0; size as usize]?;
+    let count = store.read(name, 0, &mut bytes)?;
+    bytes.truncate(count);
+    Ok(bytes)
+}
+
+// A record that doesn't read, in the file of this name.
+fn damaged(file: Text, fault: RecordFault) -> QueueFault
+    ensures { result ≡ f.Damaged (record {
+      file = file;
+      place = fault.place;
+      found = fault.found;
+      expected = fault.expected;
+    }) }
+{
+    QueueFault::Damaged(Damage {
+        file,
+        place: fault.place,
+        found: fault.found,
+        expected: fault.expected,
+    })
+}
