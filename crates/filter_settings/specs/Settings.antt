@@ -53,3 +53,13 @@ all_set set (e ∷ es) f = next (all_set set es) (set e.0 e.1 f)
 -- a setting that the filter can't do without
 abbrev pub needed : {F : Type 0} → List ℕ → Entries → F → Made F
 needed k es f = if has k es then Ok f else Err (fault.Missing k)
+
+-- what was read, with a change of it
+abbrev pub read_as : {A B : Type 0} → (A → B) → Result A FromFault → Result B FromFault
+read_as f (Ok x) = Ok (f x)
+read_as f (Err fault) = Err fault
+
+-- what was read stands in the place, or its fault is handed on
+abbrev pub Assigned : {A : Type 0} → Result (Unit {0}) FromFault → Result A FromFault → A → Type 0
+Assigned (Ok u) read new = read ≡ Ok new
+Assigned (Err fault) read new = read ≡ Err fault

@@ -3,6 +3,7 @@ ghost use Rattle.filter_settings.specs.Settings.{Leaves};
 
 use crate::faults::unknown;
 use crate::hashes::read_field_templates;
+use crate::keeping::{assign, not_kept};
 use crate::lists::{read_paths, read_templates};
 use crate::reading::SetByName;
 use crate::values::read_id;
@@ -21,16 +22,18 @@ pub fn set_option(
     ensures { Leaves result (spec.option_set name.now value.now options.old) options.new }
 {
     match name {
-        "id" => {
-            let _ = read_id(alloc, name, value)?;
+        "id" => not_kept(read_id(alloc, name, value)),
+        "add_field" => {
+            assign(
+                &mut options.add_field,
+                read_field_templates(alloc, name, value),
+            )
         }
-        "add_field" => options.add_field = read_field_templates(alloc, name, value)?,
-        "remove_field" => options.remove_field = read_paths(alloc, name, value)?,
-        "add_tag" => options.add_tag = read_templates(alloc, name, value)?,
-        "remove_tag" => options.remove_tag = read_templates(alloc, name, value)?,
-        _ => return Err(unknown(alloc, name)),
+        "remove_field" => assign(&mut options.remove_field, read_paths(alloc, name, value)),
+        "add_tag" => assign(&mut options.add_tag, read_templates(alloc, name, value)),
+        "remove_tag" => assign(&mut options.remove_tag, read_templates(alloc, name, value)),
+        _ => Err(unknown(alloc, name)),
     }
-    Ok(())
 }
 
 impl SetByName for Options {
