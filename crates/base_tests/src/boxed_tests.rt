@@ -1,12 +1,13 @@
 use plain_data::Boxed;
-use std::test::Fail;
+use std::alloc::{AllocError, Global};
 
-#[test]
-fn a_box_is_the_value_in_it(rt: HostRuntime) -> Result<(), Fail> {
-    let mut boxed = Boxed::new(rt.alloc(), 7)?;
+fn is_shown(alloc: Global, boxed: &Boxed<i32>) -> Result<bool, AllocError> {
+    Ok(format!(in alloc; "{boxed:?}")?.as_str() == "8")
+}
+
+pub(crate) fn is_boxed(alloc: Global) -> Result<bool, AllocError> {
+    let mut boxed = Boxed::new(alloc, 7)?;
     let first = *boxed.get();
     boxed.set(8);
-    let shown = format!(in rt.alloc(); "{boxed:?}")?;
-    assert!(rt; first == 7 && shown.as_str() == "8" && boxed.into_inner() == 8);
-    Ok(())
+    Ok(first == 7 && is_shown(alloc, &boxed)? && boxed.into_inner() == 8)
 }

@@ -1,7 +1,8 @@
+ghost use Rattle.std.specs.Prelude.{◌<◌};
+
 use crate::bitwise::crc32_bitwise;
 use crc_frame::{Slot, crc32, frame, newest, unframe};
 use std::alloc::{AllocError, Global};
-use std::test::Fail;
 
 // The frame of the element 5 with the body `k`.
 const SMALL: [u8; 17] = [
@@ -21,14 +22,13 @@ const KNOWN: [(&[u8], u32); 8] = [
     (&[0xFF; 17], 0x025D_4ABC),
 ];
 
-#[test]
-fn computes_known_crcs(rt: HostRuntime) {
+pub(crate) fn are_known() -> bool {
     for (bytes, crc) in &KNOWN {
-        assert!(rt;
-            crc32(bytes) == *crc && crc32_bitwise(bytes) == *crc,
-            "of {bytes:?}"
-        );
+        if crc32(bytes) != *crc || crc32_bitwise(bytes) != *crc {
+            return false;
+        }
     }
+    true
 }
 
 // Whether a frame stands at a place, with this number and body, and of so many bytes.
@@ -51,11 +51,8 @@ fn two_frames(alloc: Global) -> Result<Vec<u8>, AllocError> {
     Ok(bytes)
 }
 
-#[test]
-fn reads_frames_back(rt: HostRuntime) -> Result<(), Fail> {
-    let bytes = two_frames(rt.alloc())?;
-    assert!(rt; are_two_frames(&bytes) && unframe(b"and more").is_none());
-    Ok(())
+pub(crate) fn are_read_back(alloc: Global) -> Result<bool, AllocError> {
+    Ok(are_two_frames(&two_frames(alloc)?) && unframe(b"and more").is_none())
 }
 
 fn are_two_frames(bytes: &[u8]) -> bool {
@@ -64,21 +61,40 @@ fn are_two_frames(bytes: &[u8]) -> bool {
         && has_frame(bytes, 17, u64::MAX, b"", 16)
 }
 
-#[test]
-fn refuses_frames_cut_or_changed(rt: HostRuntime) {
+fn are_refused_cut() -> bool {
     for len in 0..SMALL.len() {
-        assert!(rt; unframe(&SMALL[..len]).is_none(), "of {len} bytes");
-    }
-    for place in 0..SMALL.len() {
-        for bit in 0..u8::BITS {
-            let mut changed = SMALL;
-            changed[place] ^= 1 << bit;
-            assert!(rt;
-                unframe(&changed).is_none(),
-                "with bit {bit} of byte {place} changed"
-            );
+        if unframe(&SMALL[..len]).is_some() {
+            return false;
         }
     }
+    true
+}
+
+// Whether the small frame is refused with each of the bits of this byte changed.
+fn is_refused_changed(place: usize) -> bool
+    requires { place < 17 }
+{
+    for bit in 0..u8::BITS {
+        let mut changed = SMALL;
+        changed[place] ^= 1 << bit;
+        if unframe(&changed).is_some() {
+            return false;
+        }
+    }
+    true
+}
+
+pub(crate) fn are_refused() -> bool {
+    are_refused_cut() && are_refused_changed()
+}
+
+fn are_refused_changed() -> bool {
+    for place in 0..SMALL.len() {
+        if !is_refused_changed(place) {
+            return false;
+        }
+    }
+    true
 }
 
 // Slots of 14 bytes with the version 1, which say nothing but their turn.
@@ -120,12 +136,20 @@ const NEWEST: [([u8; 14], [u8; 14], Option<Slot>); 8] = [
     ),
 ];
 
-#[test]
-fn finds_the_newest_slot(rt: HostRuntime) {
+fn are_newest() -> bool {
     for (first, second, slot) in &NEWEST {
-        let file = file_of(*first, *second);
-        assert_eq!(rt; newest(&file, 14), *slot, "of {first:?} and {second:?}");
+        if newest(&file_of(*first, *second), 14) != *slot {
+            return false;
+        }
     }
-    let alone = newest(&TURN_0, 14) == Some(Slot { turn: 0, place: 0 });
-    assert!(rt; alone && newest(&TURN_0[..13], 14).is_none());
+    true
+}
+
+pub(crate) fn are_found() -> bool {
+    are_newest() && is_alone()
+}
+
+// One slot alone is the newest, and a part of one is none.
+fn is_alone() -> bool {
+    newest(&TURN_0, 14) == Some(Slot { turn: 0, place: 0 }) && newest(&TURN_0[..13], 14).is_none()
 }

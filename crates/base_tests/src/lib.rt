@@ -30,6 +30,8 @@ mod pattern_tests;
 #[cfg(test)]
 mod plain_data_tests;
 #[cfg(test)]
+mod plain_tests;
+#[cfg(test)]
 mod shops_tests;
 #[cfg(test)]
 mod tables;

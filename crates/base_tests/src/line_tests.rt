@@ -3,72 +3,77 @@ ghost use Rattle.byte_lines.specs.Unread.{lines_left};
 
 use byte_lines::{LineReader, lines_of_bytes, text_of_bytes};
 use std::alloc::{AllocError, Global};
-use std::test::Fail;
 
-// The lines of an input that comes in pieces of `size` bytes, which leaves the reader at the start of another.
+// Adds the lines of an input that comes in pieces of `size` bytes, and leaves the reader at the start of another.
 fn lines_in_pieces(
-    alloc: Global,
+    to: &mut String,
     reader: &mut LineReader,
     input: &[u8],
     size: usize,
-) -> Result<Vec<String>, AllocError>
+) -> Result<(), AllocError>
     requires open { reader.old.ended ≡ false }
     requires size { 0 < size }
     ensures { OnOk result (reader.new.ended ≡ false) }
 {
-    let mut lines = Vec::new(alloc);
     for piece in input.chunks(size) {
         reader.feed(piece)?;
-        take_lines(reader, &mut lines)?;
+        take_lines(reader, to)?;
     }
     reader.end();
-    take_lines(reader, &mut lines)?;
+    take_lines(reader, to)?;
     reader.restart();
-    Ok(lines)
+    Ok(())
 }
 
-// Moves the lines that the reader has to `lines`.
-fn take_lines(reader: &mut LineReader, lines: &mut Vec<String>) -> Result<(), AllocError>
+// Adds the lines that the reader has.
+fn take_lines(reader: &mut LineReader, to: &mut String) -> Result<(), AllocError>
     ensures none_left { OnOk result (lines_left reader.new ≡ []) }
     ensures ended { reader.new.ended ≡ reader.old.ended }
 {
     while let Some(line) = reader.next_line()? {
-        lines.push(line)?;
+        add_line(to, line.as_str())?;
     }
     Ok(())
 }
 
-// The lines with a `|` behind each.
-fn shown(alloc: Global, lines: &[String]) -> Result<String, AllocError> {
-    let mut text = String::new(alloc);
-    for line in lines {
-        text.push_str(line)?;
-        text.push('|')?;
-    }
-    Ok(text)
+// Adds a line with a `|` behind it.
+fn add_line(to: &mut String, line: &str) -> Result<(), AllocError> {
+    to.push_str(line)?;
+    to.push('|')
 }
 
-// The lines that the slow definition finds.
-fn shown_slowly(alloc: Global, limit: usize, input: &[u8]) -> Result<String, AllocError>
+// Whether the slow definition finds these lines.
+fn is_found_slowly(
+    alloc: Global,
+    limit: usize,
+    input: &[u8],
+    want: &str,
+) -> Result<bool, AllocError>
     requires { 0 < limit }
 {
-    let lines = lines_of_bytes(alloc, limit, input, true)?;
-    shown(alloc, &lines)
+    let mut text = String::new(alloc);
+    for line in &lines_of_bytes(alloc, limit, input, true)? {
+        add_line(&mut text, line.as_str())?;
+    }
+    Ok(text.as_str() == want)
 }
 
-// The lines that a reader finds in pieces of `size` bytes.
-fn shown_in_pieces(
+// Whether a reader finds these lines in pieces of `size` bytes.
+fn is_found_in_pieces(
     alloc: Global,
     reader: &mut LineReader,
     input: &[u8],
     size: usize,
-) -> Result<String, AllocError>
-    requires open { reader.old.ended ≡ false }
-    requires size { 0 < size }
-    ensures { OnOk result (reader.new.ended ≡ false) }
+    want: &str,
+) -> Result<bool, AllocError>
+    requires { 0 < size }
 {
-    let lines = lines_in_pieces(alloc, reader, input, size)?;
-    shown(alloc, &lines)
+    if reader.is_ended() {
+        return Ok(false);
+    }
+    let mut text = String::new(alloc);
+    lines_in_pieces(&mut text, reader, input, size)?;
+    Ok(text.as_str() == want)
 }
 
 // A limit, an input and its lines.
@@ -97,21 +102,26 @@ const LINES: [(usize, &[u8], &str); 22] = [
     (9, b"\xed\xa0\x80\r\n", "\u{FFFD}\u{FFFD}\u{FFFD}|"),
 ];
 
-#[test]
-fn lines_are_the_same_however_the_input_is_cut(rt: HostRuntime) -> Result<(), Fail> {
-    let alloc = rt.alloc();
-    for (limit, input, want) in &LINES {
-        let limit = *limit;
-        assert!(rt; 0 < limit);
-        assert_eq!(rt; shown_slowly(alloc, limit, input)?.as_str(), *want);
-        let mut reader = LineReader::new(alloc, limit);
-        for size in [1, 2, 3, 100] {
-            assert!(rt; !reader.is_ended());
-            let lines = shown_in_pieces(alloc, &mut reader, input, size)?;
-            assert_eq!(rt; lines.as_str(), *want, "pieces of {size}");
+// Whether one reader finds these lines in pieces of each size.
+fn is_found(alloc: Global, limit: usize, input: &[u8], want: &str) -> Result<bool, AllocError>
+    requires { 0 < limit }
+{
+    let mut reader = LineReader::new(alloc, limit);
+    for size in [1, 2, 3, 100] {
+        if !is_found_in_pieces(alloc, &mut reader, input, size, want)? {
+            return Ok(false);
         }
     }
-    Ok(())
+    is_found_slowly(alloc, limit, input, want)
+}
+
+pub(crate) fn are_found(alloc: Global) -> Result<bool, AllocError> {
+    for (limit, input, want) in &LINES {
+        if *limit == 0 || !is_found(alloc, *limit, input, want)? {
+            return Ok(false);
+        }
+    }
+    Ok(true)
 }
 
 // Bytes, and the text of them.
@@ -123,10 +133,11 @@ const TEXTS: [(&[u8], &str); 5] = [
     (b"\xe2\x82\xe2\x82\xac", "\u{FFFD}\u{FFFD}\u{20AC}"),
 ];
 
-#[test]
-fn text_replaces_each_byte_that_begins_no_character(rt: HostRuntime) -> Result<(), Fail> {
+pub(crate) fn are_replaced(alloc: Global) -> Result<bool, AllocError> {
     for (bytes, want) in &TEXTS {
-        assert_eq!(rt; text_of_bytes(rt.alloc(), bytes)?.as_str(), *want);
+        if text_of_bytes(alloc, bytes)?.as_str() != *want {
+            return Ok(false);
+        }
     }
-    Ok(())
+    Ok(true)
 }

@@ -38,6 +38,14 @@ fn is_full_one(parcel: &Option<Parcel>) -> bool {
     matches!(parcel, Some(it) if it.number == 1 && it.events.len() == 1)
 }
 
+fn is_assured(heard: Option<Answer>) -> bool {
+    heard
+        == Some(Answer {
+            number: 1,
+            answer: Heard::Assured,
+        })
+}
+
 // Takes a parcel away; whether it is the first one, with its event.
 fn takes_full(taker: &mut LinkTaker) -> bool {
     is_full_one(&taker.take())
@@ -52,26 +60,16 @@ fn takes_any(taker: &mut LinkTaker) -> bool {
 #[tactic(auto, unfolding(pipeline_bus::specs::Parcels::with_events))]
 fn a_parcel_and_its_answer(rt: HostRuntime) -> Result<(), Fail> {
     let (mut sender, mut taker) = Link::pair(rt.alloc())?;
-    let pushed = sender.push(full(rt.alloc(), 1)?);
-    let taken = taker.take();
-    let none = taker.take();
+    let pushed = sender.push(full(rt.alloc(), 1)?).is_none();
+    let taken = is_full_one(&taker.take());
+    let none = taker.take().is_none();
     let told = taker.tell(Answer {
         number: 1,
         answer: Heard::Assured,
     });
-    let heard = sender.answer();
-    let right = pushed.is_none()
-        && is_full_one(&taken)
-        && none.is_none()
-        && told.is_none()
-        && heard
-            == Some(Answer {
-                number: 1,
-                answer: Heard::Assured,
-            })
-        && taker.take_misses() == 1
-        && sender.push_misses() == 0;
-    assert!(rt; right);
+    let heard = is_assured(sender.answer());
+    let missed = taker.take_misses() == 1 && sender.push_misses() == 0;
+    assert!(rt; pushed && taken && none && told.is_none() && heard && missed);
     Ok(())
 }
 

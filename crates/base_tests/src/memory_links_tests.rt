@@ -1,5 +1,4 @@
 use std::alloc::{AllocError, Global};
-use std::test::Fail;
 use store_disk::{Come, ConnState, Failed, Gave, MemoryLinks, Script, Sent, Step};
 
 // What a piece of the list is: some bytes, or with None an end.
@@ -86,21 +85,21 @@ const CALLS: [Call; 16] = [
     Call::Read(1, Ok(Step::End), b"---"),
 ];
 
-#[test]
-fn memory_links_give_their_pieces_in_turn(rt: HostRuntime) -> Result<(), Fail> {
-    let pieces = [
-        (0, Some("abcde")),
-        (1, Some("")),
-        (1, Some("fg")),
-        (0, None),
-        (0, Some("x")),
-        (1, Some("h")),
-        (1, Some("i")),
-    ];
-    let script = Script::new(rt.alloc(), &[2, 9], &[1, 4])?;
-    let mut links = links_of(rt.alloc(), 2, &pieces, script)?;
-    assert!(rt; first_wrong(&mut links, &CALLS).is_none() && are_closed(&links));
-    Ok(())
+// What comes on the connections.
+const PIECES: [Piece; 7] = [
+    (0, Some("abcde")),
+    (1, Some("")),
+    (1, Some("fg")),
+    (0, None),
+    (0, Some("x")),
+    (1, Some("h")),
+    (1, Some("i")),
+];
+
+pub(crate) fn give_in_turn(alloc: Global) -> Result<bool, AllocError> {
+    let script = Script::new(alloc, &[2, 9], &[1, 4])?;
+    let mut links = links_of(alloc, 2, &PIECES, script)?;
+    Ok(first_wrong(&mut links, &CALLS).is_none() && are_closed(&links))
 }
 
 // What is counted behind all calls.

@@ -26,25 +26,31 @@ fn counts(source: &MemorySource) -> (u64, u64, u64, usize, usize) {
     )
 }
 
-#[test]
-fn a_memory_source_answers_by_its_script(rt: HostRuntime) -> Result<(), AllocError> {
-    let alloc = rt.alloc();
+// What the reads answer, and what stands in the room then.
+const READS: [(Result<Step, Failed>, &[u8; 3]); 7] = [
+    (Ok(Step::Bytes(2)), b"ab-"),
+    (Ok(Step::NotYet), b"ab-"),
+    (Err(Failed), b"ab-"),
+    (Ok(Step::Bytes(2)), b"cd-"),
+    (Ok(Step::Bytes(1)), b"ed-"),
+    (Ok(Step::End), b"ed-"),
+    (Ok(Step::End), b"ed-"),
+];
+
+fn source_answers(source: &mut MemorySource) -> bool {
+    let mut room = [b'-'; 3];
+    for (answer, stands) in &READS {
+        if !source_reads(source, &mut room, *answer, stands) {
+            return false;
+        }
+    }
+    true
+}
+
+pub(crate) fn source_is_scripted(alloc: Global) -> Result<bool, AllocError> {
     let script = Script::new(alloc, &[2], &[1, 2])?;
     let mut source = MemorySource::new(alloc, b"abcde", 2, script)?;
-    let mut room = [b'-'; 3];
-    for (answer, stands) in [
-        (Ok(Step::Bytes(2)), b"ab-"),
-        (Ok(Step::NotYet), b"ab-"),
-        (Err(Failed), b"ab-"),
-        (Ok(Step::Bytes(2)), b"cd-"),
-        (Ok(Step::Bytes(1)), b"ed-"),
-        (Ok(Step::End), b"ed-"),
-        (Ok(Step::End), b"ed-"),
-    ] {
-        assert!(rt; source_reads(&mut source, &mut room, answer, stands));
-    }
-    assert!(rt; counts(&source) == (7, 1, 1, 5, 0));
-    Ok(())
+    Ok(source_answers(&mut source) && counts(&source) == (7, 1, 1, 5, 0))
 }
 
 // Each call of a sink stands in a helper, of which a test sees the answer alone.
@@ -73,12 +79,9 @@ fn takes_two_by_two(sink: &mut MemorySink) -> bool {
         && writes_all(sink, b"fghijkl", Err(Failed))
 }
 
-#[test]
-fn a_memory_sink_keeps_what_it_takes(rt: HostRuntime) -> Result<(), AllocError> {
-    let alloc = rt.alloc();
+pub(crate) fn sink_keeps_all(alloc: Global) -> Result<bool, AllocError> {
     let mut sink = MemorySink::new(alloc, 2, Script::new(alloc, &[1, 7], &[])?);
-    assert!(rt; takes_two_by_two(&mut sink) && holds(&sink, b"abcdefghi"));
-    Ok(())
+    Ok(takes_two_by_two(&mut sink) && holds(&sink, b"abcdefghi"))
 }
 
 fn instant(nanos: i128) -> Instant {
@@ -94,15 +97,19 @@ fn gave(clock: &ListClock, want: &[Instant]) -> bool {
     clock.given() == Some(want)
 }
 
-#[test]
-fn a_list_clock_gives_its_last_moment_again(rt: HostRuntime) -> Result<(), AllocError> {
+pub(crate) fn clock_repeats_its_last(alloc: Global) -> Result<bool, AllocError> {
     let (two, one) = (instant(2), instant(1));
-    let mut clock = ListClock::new(rt.alloc(), &[two, one])?;
-    let ticked = ticks(&mut clock, 2) && ticks(&mut clock, 1) && ticks(&mut clock, 1);
-    assert!(rt; ticked && gave(&clock, &[two, one, one]));
-    let mut empty = ListClock::new(rt.alloc(), &[])?;
-    assert!(rt; ticks(&mut empty, 0));
-    Ok(())
+    let mut clock = ListClock::new(alloc, &[two, one])?;
+    Ok(ticks_down(&mut clock) && gave(&clock, &[two, one, one]))
+}
+
+pub(crate) fn empty_clock_ticks(alloc: Global) -> Result<bool, AllocError> {
+    let mut clock = ListClock::new(alloc, &[])?;
+    Ok(ticks(&mut clock, 0))
+}
+
+fn ticks_down(clock: &mut ListClock) -> bool {
+    ticks(clock, 2) && ticks(clock, 1) && ticks(clock, 1)
 }
 
 const FILE: &str = "c/main.conf";
@@ -126,12 +133,10 @@ fn sees_each_change(files: &mut MemoryFiles) -> bool {
         && is_long(files, Ok(Some(5)))
 }
 
-#[test]
-fn memory_files_change_between_calls(rt: HostRuntime) -> Result<(), AllocError> {
-    let alloc = rt.alloc();
-    let mut files = MemoryFiles::new(alloc, contents(alloc)?, Script::new(alloc, &[2], &[])?);
-    assert!(rt; sees_each_change(&mut files) && lists_one(&mut files, alloc));
-    Ok(())
+pub(crate) fn files_change(alloc: Global) -> Result<bool, AllocError> {
+    let script = Script::new(alloc, &[2], &[])?;
+    let mut files = MemoryFiles::new(alloc, contents(alloc)?, script);
+    Ok(sees_each_change(&mut files) && lists_one(&mut files, alloc))
 }
 
 fn contents(alloc: Global) -> Result<Vec<Showing>, AllocError> {
@@ -166,11 +171,12 @@ fn said(control: &ListControl, count: usize) -> bool {
     }
 }
 
-#[test]
-fn a_list_control_goes_on_past_its_list(rt: HostRuntime) -> Result<(), AllocError> {
-    let mut control = ListControl::new(rt.alloc(), &[Said::Look, Said::Stop])?;
-    let listed = says(&mut control, Said::Look) && says(&mut control, Said::Stop);
-    let gone_on = says(&mut control, Said::Go) && says(&mut control, Said::Go);
-    assert!(rt; listed && gone_on && said(&control, 4));
-    Ok(())
+pub(crate) fn control_goes_on(alloc: Global) -> Result<bool, AllocError> {
+    let mut control = ListControl::new(alloc, &[Said::Look, Said::Stop])?;
+    Ok(goes_on(&mut control) && said(&control, 4))
+}
+
+fn goes_on(control: &mut ListControl) -> bool {
+    let listed = says(control, Said::Look) && says(control, Said::Stop);
+    listed && says(control, Said::Go) && says(control, Said::Go)
 }

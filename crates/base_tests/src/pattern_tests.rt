@@ -1,6 +1,5 @@
 use pattern_box::{Pattern, PatternFault, Patterns};
 use std::alloc::{AllocError, Global};
-use std::test::Fail;
 
 type Span = Option<(usize, usize)>;
 
@@ -78,14 +77,26 @@ fn finds(patterns: &mut Patterns, text: &str, wanted: Option<&[Span]>) -> Result
     }
 }
 
-#[test]
-fn spans_are_those_of_the_first_match(rt: HostRuntime) -> Result<(), Fail> {
-    for (pattern, text, wanted) in &SPANS {
-        let mut patterns = one_pattern(rt.alloc(), pattern)?;
-        let found = finds(&mut patterns, text, *wanted)?;
-        assert!(rt; found, "{text}");
+// No pattern, where one was wanted, is as a match that was not found.
+fn or_not(found: Result<bool, PatternFault>) -> Result<bool, AllocError> {
+    match found {
+        Ok(found) => Ok(found),
+        Err(PatternFault::BadPattern) => Ok(false),
+        Err(PatternFault::Memory) => Err(AllocError),
     }
-    Ok(())
+}
+
+pub(crate) fn spans_are_first(alloc: Global) -> Result<bool, AllocError> {
+    or_not(are_found(alloc))
+}
+
+fn are_found(alloc: Global) -> Result<bool, PatternFault> {
+    for (pattern, text, wanted) in &SPANS {
+        if !finds(&mut one_pattern(alloc, pattern)?, text, *wanted)? {
+            return Ok(false);
+        }
+    }
+    Ok(true)
 }
 
 // Whether a pattern's matches in a text are replaced so.
@@ -99,13 +110,17 @@ fn is_replaced(
     Ok(pattern.replace_all(text, with)?.as_str() == wanted)
 }
 
-#[test]
-fn each_match_is_replaced(rt: HostRuntime) -> Result<(), Fail> {
+pub(crate) fn each_is_replaced(alloc: Global) -> Result<bool, AllocError> {
+    or_not(are_replaced(alloc))
+}
+
+fn are_replaced(alloc: Global) -> Result<bool, PatternFault> {
     for (pattern, text, with, wanted) in &REPLACED {
-        let is_replaced = is_replaced(rt.alloc(), pattern, text, (*with, *wanted))?;
-        assert!(rt; is_replaced, "{text}");
+        if !is_replaced(alloc, pattern, text, (*with, *wanted))? {
+            return Ok(false);
+        }
     }
-    Ok(())
+    Ok(true)
 }
 
 // How the compiler of patterns ends with a text.
@@ -113,30 +128,32 @@ fn outcome(alloc: Global, text: &str) -> Option<PatternFault> {
     Pattern::new(alloc, text).err()
 }
 
-// Spaces are passed over by the flag `x`, so these patterns have five bytes and so many more, and so many levels.
-#[test]
-fn long_and_deep_texts_are_refused(rt: HostRuntime) -> Result<(), Fail> {
-    for (front, around_it, count, is_refused) in &[
-        ("(", ("", "", ""), 0, true),
-        ("(?x)a", ("", "", " "), 65_531, false),
-        ("(?x)a", ("", "", " "), 65_532, true),
-        ("", ("(", "a", ")"), 250, false),
-        ("", ("(", "a", ")"), 251, true),
-    ] {
-        let text = around(rt.alloc(), front, *around_it, *count)?;
-        let wanted = if *is_refused {
-            Some(PatternFault::BadPattern)
-        } else {
-            None
-        };
-        assert!(rt; outcome(rt.alloc(), &text) == wanted, "{count}");
+// What stands in front, the parts around the middle one, how often, and whether that is refused. Spaces are passed over by
+// the flag `x`, so these patterns have five bytes and so many more, and so many levels.
+const LONG: [(&str, (&str, &str, &str), usize, bool); 5] = [
+    ("(", ("", "", ""), 0, true),
+    ("(?x)a", ("", "", " "), 65_531, false),
+    ("(?x)a", ("", "", " "), 65_532, true),
+    ("", ("(", "a", ")"), 250, false),
+    ("", ("(", "a", ")"), 251, true),
+];
+
+fn is_refused(alloc: Global, text: &str) -> bool {
+    outcome(alloc, text) == Some(PatternFault::BadPattern)
+}
+
+pub(crate) fn are_refused(alloc: Global) -> Result<bool, AllocError> {
+    for (front, parts, count, refused) in &LONG {
+        let text = around(alloc, front, *parts, *count)?;
+        if is_refused(alloc, &text) != *refused {
+            return Ok(false);
+        }
     }
-    Ok(())
+    Ok(true)
 }
 
 // A count is written out in the compiled form: ten thousand states here, and then a million.
-#[test]
-fn a_compiled_form_past_the_limit_is_want_of_memory(rt: HostRuntime) {
-    assert!(rt; outcome(rt.alloc(), "(a{100}){100}").is_none());
-    assert!(rt; outcome(rt.alloc(), "(a{1000}){1000}") == Some(PatternFault::Memory));
+pub(crate) fn is_limited(alloc: Global) -> bool {
+    outcome(alloc, "(a{100}){100}").is_none()
+        && outcome(alloc, "(a{1000}){1000}") == Some(PatternFault::Memory)
 }

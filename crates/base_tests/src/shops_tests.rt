@@ -42,6 +42,24 @@ impl Task for Meets {
     }
 }
 
+fn sum(numbers: &[u64]) -> u64 {
+    let mut sum = 0u64;
+    for number in numbers {
+        sum = sum.wrapping_add(*number);
+    }
+    sum
+}
+
+// Whether the shop takes 64 jobs.
+fn takes_64(shop: &mut ThreadShop<Next>) -> bool {
+    for number in 0..64u64 {
+        if shop.give(Next(number)).is_some() {
+            return false;
+        }
+    }
+    true
+}
+
 #[test]
 fn a_shop_does_its_jobs_itself(rt: HostRuntime) -> Result<(), Fail> {
     let mut shop = InlineShop::new(rt.alloc(), 2)?;
@@ -63,11 +81,7 @@ fn workers_do_the_jobs(rt: HostRuntime) -> Result<(), Fail> {
         let _ = thread::spawn(&rt, move || worker.serve(&rt))?;
     }
     let given = shop.give(Next(1)).is_none() && shop.give(Next(2)).is_none();
-    let mut sum = 0u64;
-    for done in shop.close(&rt).as_slice() {
-        sum = sum.wrapping_add(*done);
-    }
-    assert!(rt; given && sum == 5);
+    assert!(rt; given && sum(shop.close(&rt).as_slice()) == 5);
     Ok(())
 }
 
@@ -81,13 +95,7 @@ fn two_workers_work_at_once(rt: HostRuntime) -> Result<(), Fail> {
     }
     let first = shop.give(Meets(Arc::try_clone(&begun)?)).is_none();
     let second = shop.give(Meets(begun)).is_none();
-    let mut met = 0u32;
-    for done in shop.close(&rt).as_slice() {
-        if *done {
-            met = met.saturating_add(1);
-        }
-    }
-    assert!(rt; first && second && met == 2);
+    assert!(rt; first && second && shop.close(&rt).as_slice() == [true, true].as_slice());
     Ok(())
 }
 
@@ -111,17 +119,8 @@ fn sixty_four_workers_do_a_job_each(rt: HostRuntime) -> Result<(), Fail> {
         let worker = shop.hire()?;
         let _ = thread::spawn(&rt, move || worker.serve(&rt))?;
     }
-    let mut given = 0u32;
-    for number in 0..64u64 {
-        if shop.give(Next(number)).is_none() {
-            given = given.saturating_add(1);
-        }
-    }
-    let mut sum = 0u64;
-    for done in shop.close(&rt).as_slice() {
-        sum = sum.wrapping_add(*done);
-    }
-    assert!(rt; given == 64 && sum == 65 * 32);
+    let given = takes_64(&mut shop);
+    assert!(rt; given && sum(shop.close(&rt).as_slice()) == 65 * 32);
     Ok(())
 }
 
