@@ -1,9 +1,10 @@
 -- What a kit does to an event, by its table.
-use Rattle.std.proofs.lemmas.List.{map-append}
+use Rattle.std.proofs.lemmas.List.{length-map, map-append, map-set}
 use Rattle.std.proofs.lemmas.Option.{none-some, slice_get-map, slice_get_past}
-use Rattle.std.proofs.Common.{◌≡◌, ℕ, zero, suc, ◌+◌, ◌-◌, ◌<◌, ◌≤◌, List, [], ◌∷◌, ◌++◌, length, map, refl, sym, ap, ap₂, subst, ◌∙◌, arith, append-nil, append_assoc, Some, None, option_map, slice_get, Result, Ok, Err, OnOk}
+use Rattle.std.proofs.Common.{◌≡◌, ℕ, zero, suc, ◌+◌, ◌-◌, ◌<◌, ◌≤◌, List, [], ◌∷◌, ◌++◌, length, map, refl, sym, ap, ap₂, subst, ◌∙◌, arith, append-nil, append_assoc, Option, Some, None, option_map, slice_get, slice_set, Result, Ok, Err, OnOk}
 use Rattle.event_tree.specs.Events.{Ev}
 use Rattle.event_tree.specs.Paths.{over}
+use Rattle.event_tree.proofs.Puts.{slice_set-same}
 use Rattle.foreign_parts.specs.declared.filter.Verdict.{Verdict}
 use Rattle.event_flow.specs.Flows.{To, Filtered, Gives, Asks}
 use Rattle.event_flow.specs.Marks.{Mark, At, Did, Acts, Adds, Meets, dids, marks, sent_to}
@@ -46,17 +47,13 @@ acts_inside [] g d n below = absurd (omega (arith, below))
 acts_inside (x ∷ fs) g d zero below = refl
 acts_inside (x ∷ fs) g d (suc n) below = acts_inside fs g d n (omega (arith, below))
 
-count_same : {X : Type 0} (fs : List (KitFilter X)) → length (map (λ x. x.filter) fs) ≡ length fs
-count_same [] = refl
-count_same (x ∷ fs) = ap suc (count_same fs)
-
 module _ {X : Type 0} (fs : List (KitFilter X)) (c : Contents) (is : c.filters ≡ map (λ x. x.filter) fs) (n : ℕ) (e : Ev) where
   pub inside : n < length fs → filter_acts fs n e ≡ acts_at c n e
   inside below = acts_inside fs (λ x. filter_act (n + 1) x e) (output_acts c.targets c.outputs (n - length c.filters)) n below ∙ ap (λ xs. over (λ x. filter_act (n + 1) x e) (output_acts c.targets c.outputs (n - length c.filters)) (slice_get xs n)) (sym is)
 
   pub outside : (place : ℕ) → length fs ≤ n → place ≡ n - length fs → output_acts c.targets c.outputs place ≡ acts_at c n e
   outside place past at =
-      let many = ap length is ∙ count_same fs in
+      let many = ap length is ∙ length-map fs (λ x. x.filter) in
       ap (output_acts c.targets c.outputs) (omega (arith, at, many))
       ∙ ap (over (λ x. filter_act (n + 1) x e) (output_acts c.targets c.outputs (n - length c.filters))) (sym (slice_get_past c.filters n (omega (arith, past, many))))
 
@@ -143,3 +140,15 @@ by_table (Err fault) may c' n e targets old new x is met = tt
 pub same_table : {X : Type 0} (fs : List (KitFilter X)) (os : List Output) (ts : List Target) (old new : List NamedCondition) → new ≡ old
     → table_of (record { filters = map (λ f. f.filter) fs; outputs = os; targets = ts; conditions = new }) ≡ table_of (record { filters = map (λ f. f.filter) fs; outputs = os; targets = ts; conditions = old })
 same_table fs os ts old new same = ap (λ cs. table_of (record { filters = map (λ f. f.filter) fs; outputs = os; targets = ts; conditions = cs })) same
+
+-- a box in the place of another, or of none
+module _ {X : Type 0} (fs : List (KitFilter X)) (at : ℕ) (x : KitFilter X) (plugged : Option X) (is : slice_get fs at ≡ Some x) where
+  pub same_filters : map (λ f. f.filter) (slice_set fs at (record { filter = x.filter; plugged = plugged })) ≡ map (λ f. f.filter) fs
+  same_filters =
+      map-set (λ f. f.filter) fs at (record { filter = x.filter; plugged = plugged })
+      ∙ slice_set-same (map (λ f. f.filter) fs) at x.filter (slice_get-map (λ f. f.filter) fs at ∙ ap (option_map (λ f. f.filter)) is)
+
+pub there_is_none : {X : Type 0} (fs : List (KitFilter X)) (n : ℕ) → n < length (boxes_of fs) → None ≡ slice_get fs n → ⊥
+there_is_none [] n below is = absurd (omega (arith, below))
+there_is_none (f ∷ fs) zero below is = none-some f is
+there_is_none (f ∷ fs) (suc n) below is = there_is_none fs n (omega (arith, below)) is

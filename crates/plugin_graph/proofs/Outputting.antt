@@ -8,7 +8,7 @@ use Rattle.plugin_graph.specs.Numbering.{numbers, outputs_behind, outputs_from, 
 use Rattle.plugin_graph.specs.declared.output.Output.{Output}
 use Rattle.plugin_graph.specs.declared.output.Outputs.{Outputs}
 
-as_long : (id : List ℕ) (places : List Place) → length (targets_of id places) ≡ length places
+pub as_long : (id : List ℕ) (places : List Place) → length (targets_of id places) ≡ length places
 as_long id [] = refl
 as_long id (p ∷ places) = ap suc (as_long id places)
 

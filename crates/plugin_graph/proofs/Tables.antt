@@ -2,7 +2,7 @@
 use Rattle.std.proofs.lemmas.Option.{slice_get_past}
 use Rattle.std.proofs.lemmas.Result.{err_from_is_err_and}
 use Rattle.std.specs.Result.{IsErrAnd}
-use Rattle.std.proofs.Common.{◌≡◌, ℕ, zero, suc, ◌+◌, ◌-◌, ◌<◌, ◌≤◌, List, [], ◌∷◌, ◌++◌, length, map, refl, sym, ap, ap₂, subst, ◌∙◌, arith, append-nil, append_assoc, length-append, Option, Some, None, slice_get, Result, Ok, Err, IfErr, codes, Bool, true, false, if◌then◌else◌}
+use Rattle.std.proofs.Common.{◌≡◌, ℕ, suc, ◌+◌, ◌-◌, List, [], ◌∷◌, ◌++◌, length, map, refl, sym, ap, ap₂, subst, ◌∙◌, arith, append-nil, append_assoc, length-append, Some, slice_get, Result, Ok, Err, IfErr, codes, Bool, true, false, if◌then◌else◌}
 use Rattle.event_tree.specs.Events.{Ev}
 use Rattle.event_tree.specs.Paths.{over}
 use Rattle.config_tree.specs.declared.tree.Condition.{Condition}
@@ -12,7 +12,7 @@ use Rattle.condition_eval.specs.Truths.{truth}
 use Rattle.condition_eval.specs.declared.truth.Truth.TheVariants as said
 use Rattle.foreign_parts.specs.declared.place.Place.{Place}
 use Rattle.foreign_parts.specs.declared.place.Place.TheVariants as place
-use Rattle.filter_settings.specs.Settings.{Made, Refuses, next, with_made}
+use Rattle.filter_settings.specs.Settings.{Refuses, next, with_made}
 use Rattle.config_tree.specs.declared.fault.FromFault.{FromFault}
 use Rattle.config_tree.specs.declared.fault.FromFault.TheVariants as from
 use Rattle.config_tree.specs.declared.fault.SettingFault.TheVariants as fault
@@ -21,7 +21,7 @@ use Rattle.event_flow.specs.Ids.{condition_id}
 use Rattle.event_flow.specs.Laying.{HasPlugins, HasConditions, IsTableOf}
 use Rattle.event_flow.specs.Meaning.{filter_section, output_section}
 use Rattle.event_flow.specs.Parts.{Section, parts_of}
-use Rattle.event_flow.specs.Places.{Draws, places_of}
+use Rattle.event_flow.specs.Places.{Draws}
 use Rattle.event_flow.specs.Steps.{Act, acted}
 use Rattle.event_flow.specs.Steps as act
 use Rattle.plugin_graph.specs.Conditions.{compiled, has_patterns}
@@ -35,7 +35,8 @@ use Rattle.plugin_graph.specs.declared.condition.NamedCondition.{NamedCondition}
 use Rattle.plugin_graph.specs.declared.filter.Filter.{Filter}
 use Rattle.plugin_graph.specs.declared.output.Output.{Output}
 use Rattle.plugin_graph.specs.declared.output.Target.{Target}
-use Rattle.plugin_graph.proofs.Making.{Fails, MadeInFront, is_same, in_front, as_many}
+use Rattle.plugin_graph.proofs.Outputting.{as_long}
+use Rattle.plugin_graph.proofs.Making.{Fails, is_same, in_front, as_many}
 
 -- what stands behind others
 middle : {A : Type 0} (xs : List A) (y : A) (ys : List A) → slice_get (xs ++ y ∷ ys) (length xs) ≡ Some y
@@ -102,10 +103,6 @@ module _ (ts : List Target) (id : List ℕ) where
       let rest = targets_of id places ++ after in
       ap₂ (λ x xs. x ∷ xs) (ap (λ x. (over {B = List ℕ × Place} (λ t. (t.output, t.place)) ([], place.Discard) x).0) (stands ts before rest one n whole at))
       (owners_stand (before ++ one ∷ []) after places (n + 1) (behind_it ts before rest one n whole at) (next_place ts before rest one n whole at))
-
-as_long : (id : List ℕ) (places : List Place) → length (targets_of id places) ≡ length places
-as_long id [] = refl
-as_long id (p ∷ places) = ap suc (as_long id places)
 
 module _ (draws : Draws) (ts before : List Target) (p : Plugin) (ps : List Plugin) (k t : ℕ) (targets : ts ≡ before ++ targets_from draws k (p ∷ ps)) (count : t ≡ length before) where
   more_targets : ts ≡ (before ++ targets_of (output_id k p) (output_places draws k p)) ++ targets_from draws (k + 1) ps

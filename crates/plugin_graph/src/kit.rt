@@ -1,8 +1,8 @@
-ghost use Rattle.std.specs.Prelude.{◌≡◌, IfOk, IfErr, Ok};
+ghost use Rattle.std.specs.Prelude.{◌≡◌, ◌<◌, length, slice_get, slice_set, IfOk, IfErr, Ok, Some};
 ghost use Rattle.event_flow.specs.Laying.{IsTableOf};
 ghost use Rattle.filter_settings.specs.Settings.{Refuses};
 ghost use Rattle.plugin_graph.specs.Counts.{patterns_in};
-ghost use Rattle.plugin_graph.specs.Graphs.{contents_of, built_in};
+ghost use Rattle.plugin_graph.specs.Graphs.{contents_of, boxes_in, built_in};
 ghost use Rattle.plugin_graph.specs.Kits.{table_of};
 ghost use Rattle.plugin_graph.specs.Loads.{loaded};
 ghost use Rattle.plugin_graph.specs.Makes.{makes};
@@ -13,6 +13,7 @@ use crate::parts::Parts;
 use config_tree::{Config, FromFault};
 use plain_data::Text;
 use std::alloc::Global;
+use std::mem;
 
 /// All that one worker has to run a configuration: filters with their settings read, conditions with
 /// their patterns, outputs with their places, and boxes.
@@ -37,6 +38,22 @@ impl<X: Drop> Kit<X> {
         let parts = load(alloc, config, draws)?;
         let built = count_patterns(&parts)?;
         Ok(Kit { parts, built })
+    }
+
+    /// Puts this in the place of the box of a filter, by the filter's number from 0 on, and hands out
+    /// what stood there. A kit has no box at first, and a boxed filter without one answers as where
+    /// memory ran out.
+    pub fn replace_box(&mut self, at: usize, plugged: Option<X>) -> Option<X>
+        requires { at < length (boxes_in self.old) }
+        ensures out { slice_get (boxes_in self.old) at ≡ Some result }
+        ensures boxes { boxes_in self.new ≡ slice_set (boxes_in self.old) at plugged }
+        ensures contents { contents_of self.new ≡ contents_of self.old }
+        ensures built { built_in self.new ≡ built_in self.old }
+    {
+        match self.parts.filters.get_mut(at) {
+            Some(filter) => mem::replace(&mut filter.plugged, plugged),
+            None => plugged,
+        }
     }
 
     /// How many filters and patterns were read from text through this kit.

@@ -1,4 +1,4 @@
-use Rattle.std.proofs.Common.{◌≤◌, ◌<◌, ◌≡◌, ◌-◌, length, refl, sym, rules}
+use Rattle.std.proofs.Common.{◌≤◌, ◌<◌, ◌≡◌, ◌-◌, length, refl, rules}
 use Rattle.plugin_graph.specs.KitParts.{contents_in}
 use Rattle.plugin_graph.specs.Kits.{MayAt, boxes_of, filter_acts}
 use Rattle.plugin_graph.proofs.Acting.{by_table, inside, outside, output_meets, nothing_meets}
