@@ -148,7 +148,7 @@ module _ {X : Type 0} (fs : List (KitFilter X)) (at : ℕ) (x : KitFilter X) (pl
       map-set (λ f. f.filter) fs at (record { filter = x.filter; plugged = plugged })
       ∙ slice_set-same (map (λ f. f.filter) fs) at x.filter (slice_get-map (λ f. f.filter) fs at ∙ ap (option_map (λ f. f.filter)) is)
 
-pub there_is_none : {X : Type 0} (fs : List (KitFilter X)) (n : ℕ) → n < length (boxes_of fs) → None ≡ slice_get fs n → ⊥
+pub there_is_none : {X : Type 0} (fs : List (KitFilter X)) (n : ℕ) → n < length (map (λ f. f.filter) fs) → None ≡ slice_get fs n → ⊥
 there_is_none [] n below is = absurd (omega (arith, below))
 there_is_none (f ∷ fs) zero below is = none-some f is
 there_is_none (f ∷ fs) (suc n) below is = there_is_none fs n (omega (arith, below)) is

@@ -1,5 +1,5 @@
 -- What a kit does to events, and says of them, by the numbers of its plugins and conditions.
-use Rattle.std.specs.Prelude.{◌≡◌, ℕ, ◌+◌, ◌-◌, List, [], map, length, Option, Some, slice_get}
+use Rattle.std.specs.Prelude.{◌≡◌, ℕ, ◌+◌, ◌-◌, List, [], map, length, Option, Some, None, slice_get}
 use Rattle.event_tree.specs.Events.{Ev}
 use Rattle.event_tree.specs.Paths.{over}
 use Rattle.condition_eval.specs.Truths.{truth}
@@ -13,6 +13,7 @@ use Rattle.event_flow.specs.Steps as act
 use Rattle.plugin_graph.specs.Loads.{Contents}
 use Rattle.plugin_graph.specs.Meetings.{MayAnswer, filter_act}
 use Rattle.plugin_graph.specs.declared.condition.NamedCondition.{NamedCondition}
+use Rattle.plugin_graph.specs.declared.filter.Filter.{Filter}
 use Rattle.plugin_graph.specs.declared.kit_filter.KitFilter.{KitFilter}
 use Rattle.plugin_graph.specs.declared.output.Output.{Output}
 use Rattle.plugin_graph.specs.declared.output.Target.{Target}
@@ -56,6 +57,10 @@ HaveOwnTargets ts os = map (λ o. map (λ n. (target_at ts n).0) o.targets) os �
 -- the boxes of filters, where these are boxed ones and their boxes were put in
 abbrev pub boxes_of : {X : Type 0} → List (KitFilter X) → List (Option X)
 boxes_of fs = map (λ f. f.plugged) fs
+
+-- a filter has no box at first
+abbrev pub no_boxes : {X : Type 0} → List Filter → List (Option X)
+no_boxes fs = map (λ f. None) fs
 
 -- whether the box of the k-th filter, counted from 1, may answer so
 abbrev pub MayAt : {X : Type 0} → (X → Ev → Verdict → Type 0) → List (Option X) → ℕ → Ev → Verdict → Type 0

@@ -3,7 +3,7 @@ ghost use Rattle.event_flow.specs.Laying.{IsTableOf};
 ghost use Rattle.filter_settings.specs.Settings.{Refuses};
 ghost use Rattle.plugin_graph.specs.Counts.{patterns_in};
 ghost use Rattle.plugin_graph.specs.Graphs.{contents_of, boxes_in, built_in};
-ghost use Rattle.plugin_graph.specs.Kits.{table_of};
+ghost use Rattle.plugin_graph.specs.Kits.{table_of, no_boxes};
 ghost use Rattle.plugin_graph.specs.Loads.{loaded};
 ghost use Rattle.plugin_graph.specs.Makes.{makes};
 
@@ -33,6 +33,8 @@ impl<X: Drop> Kit<X> {
         ensures refused { IfErr result (λ fault. Refuses fault (loaded draws.now config.now)) }
         ensures table { IfOk result
             (λ kit. IsTableOf makes config.now draws.now (table_of (contents_of kit))) }
+        ensures boxes { IfOk result
+            (λ kit. boxes_in kit ≡ no_boxes (contents_of kit).filters) }
         ensures built { IfOk result (λ kit. built_in kit ≡ patterns_in (contents_of kit)) }
     {
         let parts = load(alloc, config, draws)?;
@@ -44,7 +46,7 @@ impl<X: Drop> Kit<X> {
     /// what stood there. A kit has no box at first, and a boxed filter without one answers as where
     /// memory ran out.
     pub fn replace_box(&mut self, at: usize, plugged: Option<X>) -> Option<X>
-        requires { at < length (boxes_in self.old) }
+        requires { at < length (contents_of self.old).filters }
         ensures out { slice_get (boxes_in self.old) at ≡ Some result }
         ensures boxes { boxes_in self.new ≡ slice_set (boxes_in self.old) at plugged }
         ensures contents { contents_of self.new ≡ contents_of self.old }

@@ -4,6 +4,7 @@ ghost use Rattle.filter_settings.specs.Settings.{Refuses};
 ghost use Rattle.plugin_graph.specs.Each.{named};
 ghost use Rattle.plugin_graph.specs.Flats.{flat_of};
 ghost use Rattle.plugin_graph.specs.KitParts.{contents_in};
+ghost use Rattle.plugin_graph.specs.Kits.{boxes_of, no_boxes};
 ghost use Rattle.plugin_graph.specs.Loads as spec;
 
 use crate::condition::NamedCondition;
@@ -32,6 +33,8 @@ pub(crate) fn load<X: Drop>(
     draws: &[(Text, u64)],
 ) -> Result<Parts<X>, FromFault>
     ensures ok { IfOk result (λ parts. spec.IsLoaded draws.now config.now (contents_in parts)) }
+    ensures boxes { IfOk result
+        (λ parts. boxes_of parts.filters ≡ no_boxes (contents_in parts).filters) }
     ensures refused { IfErr result (λ fault. Refuses fault (spec.loaded draws.now config.now)) }
 {
     let Sections { filters, outputs } = Sections::of_config(alloc, config)?;
@@ -72,7 +75,8 @@ fn kit_filters<X: Drop>(
     alloc: Global,
     filters: Items<Filter>,
 ) -> Result<Items<KitFilter<X>>, AllocError>
-    ensures { IfOk result (λ found. map (λ f. f.filter) found ≡ filters) }
+    ensures filters { IfOk result (λ found. map (λ f. f.filter) found ≡ filters) }
+    ensures boxes { IfOk result (λ found. boxes_of found ≡ no_boxes filters) }
 {
     let mut found = Items::with_capacity(alloc, filters.len())?;
     for filter in filters.into_vec() {
