@@ -10,3 +10,4 @@ pub mod Kept
 pub mod Joining
 pub mod AppendRun
 pub mod Turns
+pub mod AppendedReads

@@ -1,10 +1,11 @@
 -- What an append makes of a queue: which segments leave, which records join, and where.
-use Rattle.std.specs.Prelude.{ℕ, suc, ◌+◌, ◌==◌, List, [], ◌∷◌, length, map, drop, All, if◌then◌else◌}
+use Rattle.std.specs.Prelude.{◌≡◌, ℕ, suc, ◌+◌, ◌==◌, List, [], ◌∷◌, ◌++◌, length, map, drop, All, Ok, if◌then◌else◌, ⊤}
 use Rattle.settings_lines.specs.declared.settings.Policy.{Policy}
-use Rattle.dead_letters.specs.Letters.{FitsRecord, record_bytes}
+use Rattle.crc_frame.proofs.Numbers.{IsBytes}
+use Rattle.dead_letters.specs.Letters.{FitsRecord, AreLetters, record_bytes}
 use Rattle.dead_letters.specs.Queues.{grown}
 use Rattle.dead_letters.specs.Shedding.{shed}
-use Rattle.dead_letters.specs.Found.{Held}
+use Rattle.dead_letters.specs.Found.{Held, letters_from, letters_of}
 use Rattle.dead_letters.specs.declared.letter.DeadLetter.{DeadLetter}
 use Rattle.dead_letters.specs.declared.shedding.Shedding.{Shedding}
 
@@ -38,3 +39,15 @@ append_to limit h s letters = record {
   first = h.first + s.older;
   segments = with_records limit (h.first + s.older) (drop s.older h.segments) (map record_bytes (kept_from s.newer 0 letters));
 }
+
+-- ---- laws
+
+abbrev pub AreBytes : List (List ℕ) → Type 0
+AreBytes [] = ⊤
+AreBytes (b ∷ rest) = IsBytes b × AreBytes rest
+
+-- Behind an append the letters of a queue are those of the segments that stay, and then those that join it.
+abbrev pub AppendedAreRead : Type 0
+AppendedAreRead =
+    (folder : List ℕ) (limit : ℕ) (h : Held) (s : Shedding) (letters old : List DeadLetter) → AreLetters letters → AreBytes (drop s.older h.segments)
+    → letters_from folder (h.first + s.older) (drop s.older h.segments) ≡ Ok old → letters_of folder (append_to limit h s letters) ≡ Ok (old ++ kept_from s.newer 0 letters)

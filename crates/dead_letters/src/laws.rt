@@ -1,5 +1,6 @@
 //! What holds of letters, of records and of what is shed. Each function here does nothing: its clauses are
 //! theorems.
+ghost use Rattle.dead_letters.specs.Appends.{AppendedAreRead};
 ghost use Rattle.dead_letters.specs.Places.{PlacesAreExact};
 ghost use Rattle.dead_letters.specs.Queues.{NamesDiffer, PiecesMakeSegments};
 ghost use Rattle.dead_letters.specs.Records.{RecordsAreReadBack, RecordsAreSpelled};
@@ -43,4 +44,10 @@ pub fn names_differ()
 /// The pieces into which new records are cut make the segments that the rule says.
 pub fn pieces_make_segments()
     ensures { PiecesMakeSegments }
+{}
+
+/// Behind an append the letters of a queue are those of the segments that stay, and then those of the new ones
+/// that are not shed.
+pub fn appended_letters_are_read()
+    ensures { AppendedAreRead }
 {}
