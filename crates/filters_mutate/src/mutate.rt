@@ -14,7 +14,7 @@ use crate::operation::{ORDER, Operation};
 use event_text::Template;
 use event_tree::{Event, Items, Path, Text};
 use filter_settings::{
-    Applied, Conversion, FromFault, Options, SetByName, SettingValue, Settings, finish,
+    Applied, Conversion, FromFault, Options, SetByName, SettingValue, Settings, assign, finish,
     read_field_conversions, read_field_paths, read_field_templates, read_field_texts, read_paths,
     read_settings, read_text, set_option,
 };
@@ -88,17 +88,19 @@ impl SetByName for Mutate {
 
     fn set(&mut self, alloc: Global, name: &str, value: &SettingValue) -> Result<(), FromFault> {
         match name {
-            "coerce" => self.coerce = read_field_templates(alloc, name, value)?,
-            "rename" => self.rename = read_field_paths(alloc, name, value)?,
-            "update" => self.update = read_field_templates(alloc, name, value)?,
-            "replace" => self.replace = read_field_templates(alloc, name, value)?,
-            "convert" => self.convert = read_field_conversions(alloc, name, value)?,
-            "gsub" => self.gsub = read_gsub(alloc, name, value)?,
-            "merge" => self.merge = read_field_paths(alloc, name, value)?,
-            "copy" => self.copy = read_field_paths(alloc, name, value)?,
-            _ => self.set_further(alloc, name, value)?,
+            "coerce" => assign(&mut self.coerce, read_field_templates(alloc, name, value)),
+            "rename" => assign(&mut self.rename, read_field_paths(alloc, name, value)),
+            "update" => assign(&mut self.update, read_field_templates(alloc, name, value)),
+            "replace" => assign(&mut self.replace, read_field_templates(alloc, name, value)),
+            "convert" => assign(
+                &mut self.convert,
+                read_field_conversions(alloc, name, value),
+            ),
+            "gsub" => assign(&mut self.gsub, read_gsub(alloc, name, value)),
+            "merge" => assign(&mut self.merge, read_field_paths(alloc, name, value)),
+            "copy" => assign(&mut self.copy, read_field_paths(alloc, name, value)),
+            _ => self.set_further(alloc, name, value),
         }
-        Ok(())
     }
 }
 
@@ -115,6 +117,7 @@ impl Mutate {
     fn new(alloc: Global) -> Result<Mutate, AllocError>
         ensures { IfOk result (λ filter. filter ≡ mutate_start) }
     {
+        let tag_on_failure = Text::of(alloc, "_mutate_error")?;
         Ok(Mutate {
             coerce: Items::new(alloc),
             rename: Items::new(alloc),
@@ -130,7 +133,7 @@ impl Mutate {
             join: Items::new(alloc),
             merge: Items::new(alloc),
             copy: Items::new(alloc),
-            tag_on_failure: Text::of(alloc, "_mutate_error")?,
+            tag_on_failure,
             options: Options::none(alloc),
         })
     }
@@ -145,16 +148,15 @@ impl Mutate {
         ensures { Leaves result (further_set name.now value.now self.old) self.new }
     {
         match name {
-            "uppercase" => self.uppercase = read_paths(alloc, name, value)?,
-            "capitalize" => self.capitalize = read_paths(alloc, name, value)?,
-            "lowercase" => self.lowercase = read_paths(alloc, name, value)?,
-            "strip" => self.strip = read_paths(alloc, name, value)?,
-            "split" => self.split = read_field_texts(alloc, name, value)?,
-            "join" => self.join = read_field_texts(alloc, name, value)?,
-            "tag_on_failure" => self.tag_on_failure = read_text(alloc, name, value)?,
-            _ => set_option(&mut self.options, alloc, name, value)?,
+            "uppercase" => assign(&mut self.uppercase, read_paths(alloc, name, value)),
+            "capitalize" => assign(&mut self.capitalize, read_paths(alloc, name, value)),
+            "lowercase" => assign(&mut self.lowercase, read_paths(alloc, name, value)),
+            "strip" => assign(&mut self.strip, read_paths(alloc, name, value)),
+            "split" => assign(&mut self.split, read_field_texts(alloc, name, value)),
+            "join" => assign(&mut self.join, read_field_texts(alloc, name, value)),
+            "tag_on_failure" => assign(&mut self.tag_on_failure, read_text(alloc, name, value)),
+            _ => set_option(&mut self.options, alloc, name, value),
         }
-        Ok(())
     }
 
     /// The event with the operations done in their order, and then with the options. An operation that
