@@ -1,5 +1,5 @@
 -- What stands in a rack is left as it was by calls one after another.
-use Rattle.std.proofs.Common.{◌≡◌, ℕ, List, refl, ◌∙◌}
+use Rattle.std.proofs.Common.{ℕ, List, refl, ◌∙◌}
 use Rattle.graph_checks.specs.Boxes.{Stand, Keeps}
 use Rattle.foreign_parts.specs.declared.boxes.Kind.{Kind}
 

@@ -1,7 +1,11 @@
 pub mod Going
 pub mod Keeping
 pub mod Pointing
+pub mod Flattened
 pub mod Walking
+pub mod Sparing
+pub mod Passing
+pub mod Configured
 pub mod Counting
 pub mod Matching
 pub mod Telling

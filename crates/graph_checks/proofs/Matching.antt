@@ -1,5 +1,5 @@
 -- Whether each pattern of a condition is one, by what was made of them.
-use Rattle.std.proofs.Common.{◌≡◌, ℕ, List, [], ◌∷◌, ◌++◌, Bool, true, false, ◌&&◌, refl, ap, ap₂, sym, ◌∙◌, Ok}
+use Rattle.std.proofs.Common.{◌≡◌, ℕ, List, [], ◌∷◌, ◌++◌, Bool, true, false, ◌&&◌, refl, ap, ap₂, ◌∙◌, Ok}
 use Rattle.std.specs.List.{list_all}
 use Rattle.config_tree.specs.declared.tree.Condition.{Condition}
 use Rattle.condition_eval.specs.Made.{AreMadeOf, AreReadFrom, FirstIsRefused, texts}

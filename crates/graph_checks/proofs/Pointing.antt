@@ -1,6 +1,5 @@
 -- What stands in statements and arms, and how it is checked part by part.
 use Rattle.std.proofs.Common.{◌≡◌, List, [], ◌∷◌, ◌++◌, map, refl, sym, ap, ◌∙◌, Option, Some, None, Ok, Err}
-use Rattle.config_tree.specs.declared.tree.Statement.{Statement}
 use Rattle.config_tree.specs.declared.tree.Statement.TheOpen.{Statement-F}
 use Rattle.config_tree.specs.declared.tree.Statement.TheFolds.{fold-Statement, fold-roll-Statement, fold_out-Arm}
 use Rattle.config_tree.specs.declared.tree.Statement.TheVariants as s

@@ -1,5 +1,5 @@
 -- What boxes refuse that read settings one after another, the last first.
-use Rattle.std.proofs.Common.{◌≡◌, ◌<◌, ◌≤◌, ℕ, zero, suc, ◌-◌, List, refl, sym, ap, subst, ◌∙◌, arith, Option, Some, None, option_and_then, slice_get, Result, Ok, Err}
+use Rattle.std.proofs.Common.{◌≡◌, ◌<◌, ℕ, zero, suc, ◌-◌, List, refl, sym, ap, ◌∙◌, arith, Option, Some, None, option_and_then, slice_get, Ok, Err}
 use Rattle.config_tree.specs.Joining.{Entries}
 use Rattle.config_tree.specs.declared.fault.FromFault.{FromFault}
 use Rattle.config_tree.specs.declared.fault.FromFault.TheVariants as from

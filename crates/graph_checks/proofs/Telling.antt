@@ -1,5 +1,5 @@
 -- A fault of settings, told with the id of their plugin.
-use Rattle.std.proofs.Common.{◌≡◌, ℕ, ◌+◌, List, Bool, true, refl, sym, ap, subst, ◌∙◌, Option, Some, None, Ok, Err, codes, if◌then◌else◌}
+use Rattle.std.proofs.Common.{◌≡◌, ℕ, ◌+◌, List, true, refl, sym, ap, subst, ◌∙◌, Option, Some, None, Ok}
 use Rattle.config_tree.specs.declared.tree.Condition.{Condition}
 use Rattle.config_tree.specs.declared.tree.Plugin.{Plugin}
 use Rattle.config_tree.specs.declared.fault.FromFault.{FromFault}
@@ -9,16 +9,16 @@ use Rattle.filter_settings.specs.Settings as settings
 use Rattle.foreign_parts.specs.Stocks.{is_known}
 use Rattle.plugin_settings.specs.Read.{input_of}
 use Rattle.graph_checks.specs.Answers.{Checked, Refuses, next, of_plugin}
-use Rattle.graph_checks.specs.Boxes.{Stand, count_of, one_more, box_read}
+use Rattle.graph_checks.specs.Boxes.{Stand, count_of, box_read}
 use Rattle.graph_checks.specs.BuiltIn.{built_in}
 use Rattle.graph_checks.specs.Inputs.{input_id_next, input_read, input_checked}
-use Rattle.graph_checks.specs.Plugins.{IsSettingFault, id_next, condition_id_next, patterns_read, condition_checked, arm_checked, box_checked, plugin_met, plugin_read, plugin_checked}
+use Rattle.graph_checks.specs.Plugins.{IsSettingFault, id_next, condition_id_next, patterns_read, arm_checked, box_checked, plugin_met, with_want, plugin_read, plugin_checked}
 use Rattle.foreign_parts.specs.declared.boxes.Kind.{Kind}
 use Rattle.graph_checks.specs.declared.built_in.BuiltIn.{BuiltIn}
 use Rattle.graph_checks.specs.declared.inputs.InputsMet.{InputsMet}
 use Rattle.graph_checks.specs.declared.walk.Walk.{Walk}
 use Rattle.graph_checks.specs.declared.fault.GraphFault.{GraphFault}
-use Rattle.graph_checks.proofs.Going.{refuses_next, refuses_then}
+use Rattle.graph_checks.proofs.Going.{refuses_next}
 
 told_of : {A : Type 0} (id : List ℕ) (f : FromFault) (told : GraphFault) (said : Made A) → settings.Refuses f said → IsSettingFault id f told → Refuses told (of_plugin id said)
 told_of id (from.Bad b) told said refused tells = subst (λ t. Refuses t (of_plugin id said)) (sym tells) (ap (of_plugin id) refused)
@@ -56,12 +56,12 @@ plugin_boxed which stand p w id name is named read =
     ap (λ m. next (plugin_read which stand (id_next which w p) p w) (of_plugin (id_next which w p) m)) (ap (λ k. built_in which k p.settings.list) (sym named) ∙ read) ∙ ap (λ i. next (plugin_met i None) (box_checked which stand i p w)) (sym is)
 
 pub box_known : (which : Kind) (stand : Stand) (id : List ℕ) (p : Plugin) (w : Walk) → is_known p.name stand.stocks ≡ true → box_checked which stand id p w
-    ≡ next (λ u. Ok (record w { boxes = one_more p.name w.boxes })) (of_plugin id (box_read which stand w.each (count_of p.name w.boxes) p.name p.settings.list))
+    ≡ next (λ u. Ok (with_want id p.name w)) (of_plugin id (box_read which stand w.each (count_of p.name w.boxes) p.name p.settings.list))
 box_known which stand id p w known = rw known refl
 
 pub box_refused : (which : Kind) (stand : Stand) (id own : List ℕ) (p : Plugin) (w : Walk) (name : List ℕ) (before : ℕ) (f : FromFault) (told : GraphFault) → name ≡ p.name → is_known name stand.stocks ≡ true → own ≡ id → before ≡ count_of p.name w.boxes
     → settings.Refuses f (box_read which stand w.each before p.name p.settings.list) → IsSettingFault own f told → Refuses told (box_checked which stand id p w)
 box_refused which stand id own p w name before f told named known is count refused tells =
     subst (λ m. Refuses told m) (sym (box_known which stand id p w (ap (λ k. is_known k stand.stocks) (sym named) ∙ known)))
-    (setting_fails (λ u. Ok (record w { boxes = one_more p.name w.boxes })) (box_read which stand w.each (count_of p.name w.boxes) p.name p.settings.list) own id f told is
+    (setting_fails (λ u. Ok (with_want id p.name w)) (box_read which stand w.each (count_of p.name w.boxes) p.name p.settings.list) own id f told is
     (subst (λ n. settings.Refuses f (box_read which stand w.each n p.name p.settings.list)) count refused) tells)

@@ -1,6 +1,6 @@
 -- Statements of a section one after another, and the arms of a branch.
 use Rattle.std.proofs.Common.{◌≡◌, ℕ, ◌+◌, ◌<◌, ◌≤◌, List, map, length, drop, get_or, refl, sym, ap, subst, ◌∙◌, Ok}
-use Rattle.graph_checks.specs.Answers.{Checked, Refuses, next, all_checked}
+use Rattle.graph_checks.specs.Answers.{Checked, Refuses, all_checked}
 use Rattle.graph_checks.specs.Boxes.{Stand, Keeps}
 use Rattle.graph_checks.specs.Plugins.{arm_checked, points_checked}
 use Rattle.graph_checks.specs.Points.{Point, joined, points_of, points_in_arm}

@@ -1,7 +1,7 @@
 -- The checks of a configuration one after another.
-use Rattle.std.proofs.Common.{◌≡◌, ℕ, List, sym, ap, subst, ◌∙◌, Result, Ok, Err}
+use Rattle.std.proofs.Common.{◌≡◌, ℕ, List, sym, ap, subst, ◌∙◌, Result, Ok}
 use Rattle.config_tree.specs.declared.tree.Config.{Config}
-use Rattle.graph_checks.specs.Answers.{Checked, Refuses, Gives, next}
+use Rattle.graph_checks.specs.Answers.{Refuses, Gives, next}
 use Rattle.graph_checks.specs.Boxes.{Stand, Counts}
 use Rattle.graph_checks.specs.Inputs.{inputs_checked}
 use Rattle.graph_checks.specs.Plugins.{section_checked}

@@ -27,6 +27,11 @@ abbrev pub Gives : {A : Type 0} → Result A GraphFault → Checked A → Type 0
 Gives (Ok x) said = said ≡ Ok x
 Gives (Err f) said = Refuses f said
 
+-- no fault was found, or the refusal is that of the first
+abbrev pub Passes : {A : Type 0} → Result A GraphFault → Checked (Unit {0}) → Type 0
+Passes (Ok x) said = said ≡ Ok tt
+Passes (Err f) said = Refuses f said
+
 -- the same of a change in place
 abbrev pub Leaves : {A : Type 0} → Result (Unit {0}) GraphFault → Checked A → A → Type 0
 Leaves (Ok u) said new = said ≡ Ok new

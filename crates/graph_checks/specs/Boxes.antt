@@ -1,18 +1,19 @@
 -- The boxes that a configuration wants, and what they say to its settings.
-use Rattle.std.specs.Prelude.{ℕ, zero, suc, ◌+◌, ◌-◌, ◌*◌, List, [], ◌∷◌, length, if◌then◌else◌, bytes_eq, codes, Bool, ◌||◌, Option, Some, None, option_and_then, slice_get, Result, Ok, Err}
+use Rattle.std.specs.Prelude.{ℕ, zero, suc, ◌+◌, ◌-◌, ◌*◌, List, [], ◌∷◌, length, if◌then◌else◌, bytes_eq, codes, Option, Some, None, option_and_then, slice_get, Ok, Err}
 use Rattle.std.specs.Map.{lookup}
 use Rattle.event_tree.specs.Paths.{over}
 use Rattle.config_tree.specs.Joining.{Entries}
 use Rattle.config_tree.specs.declared.tree.SettingValue.{SettingValue}
 use Rattle.config_tree.specs.declared.fault.SettingFault.{SettingFault}
-use Rattle.event_text.specs.Options.{no_options}
-use Rattle.filter_settings.specs.Settings.{Made, next, with_made, all_set}
-use Rattle.filter_settings.specs.Options.{option_set}
+use Rattle.filter_settings.specs.Readers.{id_of}
+use Rattle.filter_settings.specs.Settings.{Made, next, wanted, with_made, all_set}
 use Rattle.foreign_parts.specs.Stocks.{left_of, refusals_of}
 pub use Rattle.foreign_parts.specs.Boxes.{Stand, Keeps}
 use Rattle.foreign_parts.specs.declared.boxes.Kind.{Kind}
 use Rattle.foreign_parts.specs.declared.boxes.Kind.TheVariants as kind
-use Rattle.graph_checks.specs.declared.asking.BoxSettings.{BoxSettings}
+use Rattle.plugin_graph.specs.Makes.{boxed_of}
+use Rattle.plugin_graph.specs.declared.boxed.BoxedFilter.{BoxedFilter}
+use Rattle.graph_checks.specs.declared.asking.BoxedOutput.{BoxedOutput}
 
 -- names, each with how many plugins of it there are
 abbrev pub Counts : Type 0
@@ -27,17 +28,17 @@ abbrev pub one_more : List ℕ → Counts → Counts
 one_more k [] = (k, 1) ∷ []
 one_more k (c ∷ cs) = if bytes_eq k c.0 then (c.0, c.1 + 1) ∷ cs else c ∷ one_more k cs
 
--- the settings that every plugin of a kind has
-abbrev pub is_shared : Kind → List ℕ → Bool
-is_shared kind.Filter k = bytes_eq k (codes "id") || bytes_eq k (codes "add_field") || bytes_eq k (codes "remove_field") || bytes_eq k (codes "add_tag") || bytes_eq k (codes "remove_tag")
-is_shared kind.Output k = bytes_eq k (codes "id")
+-- one setting of an output that is a box: its id is tested here, and the others are its own
+abbrev pub boxed_output_set : List ℕ → SettingValue → BoxedOutput → Made BoxedOutput
+boxed_output_set k x b = if bytes_eq k (codes "id") then with_made (λ id. b) (wanted k (id_of x)) else Ok b
 
--- One setting of a box: those that every plugin has are tested here, and the others are its own.
-abbrev pub shared_set : List ℕ → SettingValue → BoxSettings → Made BoxSettings
-shared_set k x b = if is_shared b.kind k then with_made (λ o. record b { options = o }) (option_set k x b.options) else Ok b
+abbrev boxed_output_of : Entries → Made BoxedOutput
+boxed_output_of es = all_set boxed_output_set es (record {})
 
-abbrev pub shared_of : Kind → Entries → Made BoxSettings
-shared_of which es = all_set shared_set es (record { kind = which; options = no_options })
+-- of the settings of a plugin that is a box those are read here that every plugin of its kind has
+abbrev pub shared_of : Kind → Entries → Made (Unit {0})
+shared_of kind.Filter es = with_made (λ (b : BoxedFilter). tt) (boxed_of es)
+shared_of kind.Output es = with_made (λ (b : BoxedOutput). tt) (boxed_output_of es)
 
 abbrev pub first_refusal : Option SettingFault → Option SettingFault → Option SettingFault
 first_refusal (Some fault) later = Some fault
@@ -67,4 +68,4 @@ asked stand each before k es = unless_refused (refused_below (refusals_of k stan
 
 -- the settings of a plugin that is a box: first those that every plugin has, and then by the boxes
 abbrev pub box_read : Kind → Stand → ℕ → ℕ → List ℕ → Entries → Made (Unit {0})
-box_read which stand each before k es = next (λ b. asked stand each before k es) (shared_of which es)
+box_read which stand each before k es = next (λ u. asked stand each before k es) (shared_of which es)

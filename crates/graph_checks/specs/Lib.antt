@@ -5,3 +5,5 @@ pub mod BuiltIn
 pub mod Plugins
 pub mod Inputs
 pub mod Whole
+pub mod Wants
+pub mod Readings

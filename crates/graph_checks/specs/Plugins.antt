@@ -16,7 +16,7 @@ use Rattle.filter_settings.specs.Settings.{Made}
 use Rattle.foreign_parts.specs.Stocks.{is_known}
 use Rattle.event_flow.specs.Ids as ids
 use Rattle.graph_checks.specs.Answers.{Checked, next, of_plugin, all_checked}
-use Rattle.graph_checks.specs.Boxes.{Stand, Counts, count_of, one_more, box_read}
+use Rattle.graph_checks.specs.Boxes.{Stand, count_of, one_more, box_read}
 use Rattle.graph_checks.specs.BuiltIn.{built_in}
 use Rattle.graph_checks.specs.Points.{Point, Plugs, Tests, points_of}
 use Rattle.foreign_parts.specs.declared.boxes.Kind.{Kind}
@@ -60,11 +60,15 @@ id_next which w p = ids.plugin_id (section_name which) (w.plugins + 1) p
 abbrev pub condition_id_next : Kind → Walk → List ℕ
 condition_id_next which w = ids.condition_id (section_name which) (w.conditions + 1)
 
+-- a plugin that is a box is wanted
+abbrev pub with_want : List ℕ → List ℕ → Walk → Walk
+with_want id name w = record w { boxes = one_more name w.boxes; wants = w.wants ++ (record { id = id; name = name }) ∷ [] }
+
 -- a plugin that is no built-in one has to be a box
 abbrev pub box_checked : Kind → Stand → List ℕ → Plugin → Walk → Checked Walk
 box_checked which stand id p w =
     if is_known p.name stand.stocks
-    then next (λ u. Ok (record w { boxes = one_more p.name w.boxes })) (of_plugin id (box_read which stand w.each (count_of p.name w.boxes) p.name p.settings.list))
+    then next (λ u. Ok (with_want id p.name w)) (of_plugin id (box_read which stand w.each (count_of p.name w.boxes) p.name p.settings.list))
     else Err (fault.UnknownPlugin p.name)
 
 -- the fault of settings, told with the id of their plugin; memory may run out in its place
@@ -73,10 +77,10 @@ IsSettingFault id (from.Bad f) told = told ≡ fault.Setting id f
 IsSettingFault id from.Memory told = told ≡ fault.Memory
 
 -- a plugin with its id, and with the path that it writes
-abbrev id_met : List ℕ → Walk → Checked Walk
+abbrev pub id_met : List ℕ → Walk → Checked Walk
 id_met id w = next (λ met. Ok (record w { ids = met; plugins = w.plugins + 1 })) (id_behind id w.ids)
 
-abbrev output_met : Option (List ℕ) → Walk → Checked Walk
+abbrev pub output_met : Option (List ℕ) → Walk → Checked Walk
 output_met None w = Ok w
 output_met (Some path) w = next (λ met. Ok (record w { paths = met })) (path_met position.Output path w.paths)
 
@@ -113,7 +117,7 @@ points_checked which stand ps w = all_checked (point_checked which stand) ps w
 
 -- before the first plugin of a section, each of which wants so many boxes, where these ids were met
 abbrev pub section_start : ℕ → List (List ℕ) → Walk
-section_start each ids = record { each = each; plugins = 0; conditions = 0; boxes = []; ids = ids; paths = [] }
+section_start each ids = record { each = each; plugins = 0; conditions = 0; boxes = []; wants = []; ids = ids; paths = [] }
 
 unfoldable pub section_checked : Kind → Stand → ℕ → List Statement → List (List ℕ) → Checked Walk
 section_checked which stand each ss ids = points_checked which stand (points_of ss) (section_start each ids)

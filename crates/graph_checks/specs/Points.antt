@@ -1,5 +1,5 @@
 -- What stands in a section, in the order of the text: its plugins, and the conditions in front of their blocks.
-use Rattle.std.specs.Prelude.{List, [], ◌∷◌, ◌++◌, map, flat_map, Option, Some, None}
+use Rattle.std.specs.Prelude.{List, [], ◌∷◌, ◌++◌, map, Option, Some, None}
 use Rattle.config_tree.specs.declared.tree.Statement.{Statement}
 use Rattle.config_tree.specs.declared.tree.Statement.TheOpen.{Statement-F, Arm-F}
 use Rattle.config_tree.specs.declared.tree.Statement.TheFolds.{fold-Statement, fold-Arm}

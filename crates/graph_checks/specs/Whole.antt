@@ -1,5 +1,5 @@
 -- The checks of a whole configuration: those of its statements in the order of the text, and behind them those of the whole.
-use Rattle.std.specs.Prelude.{ℕ, ◌*◌, ◌==◌, List, [], ◌∷◌, length, nat_lt, Bool, true, false, if◌then◌else◌, Ok, Err}
+use Rattle.std.specs.Prelude.{ℕ, ◌*◌, ◌==◌, List, [], ◌∷◌, length, nat_lt, if◌then◌else◌, Ok, Err}
 use Rattle.config_tree.specs.declared.tree.Config.{Config}
 use Rattle.foreign_parts.specs.Stocks.{left_of}
 use Rattle.graph_checks.specs.Answers.{Checked, next}

@@ -5,52 +5,41 @@ ghost use Rattle.graph_checks.specs.Boxes as spec;
 ghost use Rattle.graph_checks.specs.Boxes.{Keeps};
 
 use config_tree::{FromFault, Plugin, SettingValue, Settings};
-use event_text::Options;
-use filter_settings::{SetByName, read_settings, set_option};
+use filter_settings::{SetByName, read_id, read_settings};
 use foreign_parts::{Boxes, Kind};
+use plugin_graph::BoxedFilter;
 use std::alloc::Global;
 
-/// What is read here of the settings of a plugin that is a box: those that every plugin of its kind has.
+/// What is read here of an output that is a box: its id, which is not kept. The box reads the others.
 #[derive(Drop)]
-pub(crate) struct BoxSettings {
-    kind: Kind,
-    options: Options,
-}
+pub(crate) struct BoxedOutput {}
 
-impl SetByName for BoxSettings {
-    ghost use Rattle.graph_checks.specs.Boxes.{shared_set};
+impl SetByName for BoxedOutput {
+    ghost use Rattle.graph_checks.specs.Boxes.{boxed_output_set};
 
-    ghost setting = { shared_set };
+    ghost setting = { boxed_output_set };
 
     fn set(&mut self, alloc: Global, name: &str, value: &SettingValue) -> Result<(), FromFault> {
-        if is_shared(self.kind, name) {
-            set_option(&mut self.options, alloc, name, value)
-        } else {
-            Ok(())
+        if name == "id" {
+            let _ = read_id(alloc, name, value)?;
         }
+        Ok(())
     }
 }
 
-fn is_shared(kind: Kind, name: &str) -> bool
-    ensures { result ≡ spec.is_shared kind name.now }
+// Reads those settings that every plugin of a kind has.
+fn read_shared(kind: Kind, settings: &Settings) -> Result<(), FromFault>
+    ensures { Gives result (spec.shared_of kind settings.now.list) }
 {
     match kind {
         Kind::Filter => {
-            name == "id"
-                || name == "add_field"
-                || name == "remove_field"
-                || name == "add_tag"
-                || name == "remove_tag"
+            let _ = BoxedFilter::from_settings(settings)?;
         }
-        Kind::Output => name == "id",
+        Kind::Output => {
+            let _ = read_settings(settings, BoxedOutput {})?;
+        }
     }
-}
-
-fn read_shared(kind: Kind, settings: &Settings) -> Result<BoxSettings, FromFault>
-    ensures { Gives result (spec.shared_of kind settings.now.list) }
-{
-    let options = Options::none(settings.list.allocator());
-    read_settings(settings, BoxSettings { kind, options })
+    Ok(())
 }
 
 /// Reads the settings of a plugin that is a box: first those that every plugin has, and then each box reads

@@ -1,10 +1,13 @@
-ghost use Rattle.graph_checks.specs.Answers.{Gives};
+ghost use Rattle.std.specs.Prelude.{IfOk};
+ghost use Rattle.graph_checks.specs.Answers.{Gives, Passes};
 ghost use Rattle.graph_checks.specs.Boxes.{Keeps};
+ghost use Rattle.graph_checks.specs.Wants.{IsWanted};
 ghost use Rattle.graph_checks.specs.Whole.{checked};
 
 use crate::fault::GraphFault;
 use crate::inputs::{InputsMet, check_inputs};
 use crate::walk::{Walk, check_section};
+use crate::want::Wants;
 use crate::whole::check_whole;
 use config_tree::Config;
 use foreign_parts::{Boxes, Kind};
@@ -21,7 +24,6 @@ use std::alloc::Global;
 ///
 /// `Memory` comes where memory runs out, also in the place of another answer. No box is taken. It takes time
 /// in proportion to the text, and for each plugin that is a box a look at the names in the rack.
-#[tactic(auto, unfolding(crate::specs::Whole::checked))]
 pub fn check<B: Boxes>(
     alloc: Global,
     config: &Config,
@@ -29,6 +31,28 @@ pub fn check<B: Boxes>(
     workers: u32,
 ) -> Result<(), GraphFault>
     ensures fault { Gives result (checked
+        (record { stand = B.stand boxes.old; links = B.links boxes.old; workers = workers })
+        config.now) }
+    ensures keeps { Keeps B.stand B.links boxes.old boxes.new }
+{
+    match find_wants(alloc, config, boxes, workers) {
+        Ok(_wants) => Ok(()),
+        Err(fault) => Err(fault),
+    }
+}
+
+/// The same, and where there is no fault what the configuration wants of the rack.
+#[tactic(auto, unfolding(crate::specs::Whole::checked))]
+pub(crate) fn find_wants<B: Boxes>(
+    alloc: Global,
+    config: &Config,
+    boxes: &mut B,
+    workers: u32,
+) -> Result<Wants, GraphFault>
+    ensures fault { Passes result (checked
+        (record { stand = B.stand boxes.old; links = B.links boxes.old; workers = workers })
+        config.now) }
+    ensures wants { IfOk result (IsWanted
         (record { stand = B.stand boxes.old; links = B.links boxes.old; workers = workers })
         config.now) }
     ensures keeps { Keeps B.stand B.links boxes.old boxes.new }
@@ -44,10 +68,16 @@ pub fn check<B: Boxes>(
     let filters = check_section(alloc, Kind::Filter, each, ids, filters, boxes)?;
     let Walk {
         boxes: filter_boxes,
+        wants: filter_wants,
         ids,
         ..
     } = filters;
     let outputs = config.outputs.as_slice();
     let outputs = check_section(alloc, Kind::Output, 1, ids, outputs, boxes)?;
-    check_whole(boxes, each, inputs, &outside, &filter_boxes, &outputs)
+    check_whole(boxes, each, inputs, &outside, &filter_boxes, &outputs)?;
+    let Walk { wants, .. } = outputs;
+    Ok(Wants {
+        filters: filter_wants,
+        outputs: wants,
+    })
 }

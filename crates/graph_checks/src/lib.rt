@@ -13,9 +13,11 @@ mod counts;
 mod fault;
 mod ids;
 mod inputs;
+pub mod laws;
 mod plugins;
 mod texts;
 mod walk;
+mod want;
 mod whole;
 
 pub use checking::check;

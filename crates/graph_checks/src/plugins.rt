@@ -1,4 +1,4 @@
-ghost use Rattle.std.specs.Prelude.{◌≡◌, IfOk};
+ghost use Rattle.std.specs.Prelude.{◌≡◌, IfOk, OnOk};
 ghost use Rattle.graph_checks.specs.Answers.{Gives, Leaves};
 ghost use Rattle.graph_checks.specs.Boxes.{Keeps};
 ghost use Rattle.graph_checks.specs.Plugins as spec;
@@ -9,6 +9,7 @@ use crate::fault::GraphFault;
 use crate::ids::plugin_id;
 use crate::texts::MetTexts;
 use crate::walk::Walk;
+use crate::want::Want;
 use config_tree::{FromFault, Plugin};
 use foreign_parts::{Boxes, Kind};
 use plain_data::Text;
@@ -87,7 +88,7 @@ impl Walk {
         ensures keeps { Keeps B.stand B.links boxes.old boxes.new }
     {
         let id = self.next_plugin_id(alloc, kind, plugin)?;
-        match read_built_in(kind, plugin.name.as_str(), &plugin.settings) {
+        match read_built_in(kind, plugin) {
             Ok(Some(built_in)) => self.meet_plugin(alloc, id, built_in.path),
             Ok(None) => {
                 self.check_box(kind, &id, plugin, boxes)?;
@@ -120,9 +121,18 @@ impl Walk {
         }
         let before = self.boxes.count(&plugin.name);
         match read_box(boxes, kind, self.each, before, plugin) {
-            Ok(()) => Ok(self.boxes.raise(&plugin.name)?),
+            Ok(()) => Ok(self.add_want(id, &plugin.name)?),
             Err(fault) => Err(setting_fault(id.copy()?, fault)),
         }
+    }
+
+    fn add_want(&mut self, id: &Text, name: &Text) -> Result<(), AllocError>
+        ensures { OnOk result (self.new ≡ spec.with_want id.now name.now self.old) }
+    {
+        self.boxes.raise(name)?;
+        let id = id.copy()?;
+        let name = name.copy()?;
+        self.wants.push(Want { id, name })
     }
 
     // Meets what was read of a plugin: its id, and its path where it has one.

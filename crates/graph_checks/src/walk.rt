@@ -9,8 +9,10 @@ use crate::fault::GraphFault;
 use crate::ids::condition_id;
 use crate::plugins::{section_name, setting_fault};
 use crate::texts::MetTexts;
+use crate::want::Want;
 use config_tree::{Arm, Condition, Statement};
 use foreign_parts::{Boxes, Kind};
+use plain_data::Items;
 use std::alloc::{AllocError, Global};
 
 /// What was met so far of a section.
@@ -23,6 +25,8 @@ pub(crate) struct Walk {
     pub conditions: u64,
     /// The names of its plugins that are boxes.
     pub boxes: Counts,
+    /// These plugins, in the order of the text.
+    pub wants: Items<Want>,
     /// The ids of all plugins, those of earlier sections among them.
     pub ids: MetTexts,
     /// The paths of its outputs.
@@ -48,6 +52,7 @@ pub(crate) fn check_section<B: Boxes>(
         plugins: 0,
         conditions: 0,
         boxes: Counts::new(alloc),
+        wants: Items::new(alloc),
         ids,
         paths: MetTexts::new(alloc),
     };

@@ -1,4 +1,4 @@
-use Rattle.std.proofs.Common.{◌≡◌, ◌-◌, arith, subst, Err}
+use Rattle.std.proofs.Common.{◌-◌, arith, subst, Err}
 use Rattle.foreign_parts.specs.Stocks.{AnswersAt, refusals_of}
 use Rattle.graph_checks.specs.Boxes.{refused_below, unless_refused}
 use Rattle.graph_checks.proofs.Handing.{made_handed}
