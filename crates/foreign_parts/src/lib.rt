@@ -10,6 +10,7 @@ mod plugged;
 mod rack;
 mod shelf;
 mod shelves;
+mod stockroom;
 
 pub use boxes::{Boxes, Kind};
 pub use config_tree::{FromFault, SettingFault, Settings};
@@ -18,3 +19,4 @@ pub use output::{DeliverFault, Delivery, Fate, Fates, ForeignOutput};
 pub use place::Place;
 pub use plugged::{Plugged, PluggedFilter, PluggedOutput};
 pub use rack::Rack;
+pub use stockroom::Stockroom;
