@@ -8,12 +8,9 @@ use Rattle.plugin_settings.specs.declared.read.Input.{Input}
 use Rattle.plugin_settings.specs.declared.read.Input.TheVariants as i
 use Rattle.plugin_settings.specs.declared.read.Output.{Output}
 use Rattle.plugin_settings.specs.declared.read.Output.TheVariants as o
-use Rattle.plugin_settings.specs.declared.common.InputSettings.{InputSettings}
 
-abbrev pub stdin_of : Entries → Made InputSettings
-stdin_of es = inputs.stdin_of es
-
-abbrev some_of : {A B : Type 0} → (A → B) → Made A → Made (Option B)
+-- what is made, as an input or an output that was found
+abbrev pub some_of : {A B : Type 0} → (A → B) → Made A → Made (Option B)
 some_of f made = with_made (λ x. Some (f x)) made
 
 -- the input of a name; none where no input has it

@@ -5,7 +5,7 @@ ghost use Rattle.plugin_settings.specs.Codecs as spec;
 use crate::faults::unknown;
 use config_tree::{FromFault, SettingValue, Settings};
 use event_text::Template;
-use filter_settings::{SetByName, read_settings, read_template, wanted};
+use filter_settings::{SetByName, assign, read_settings, read_template, wanted};
 use line_codecs::{Codec, OutCodec};
 use std::alloc::{AllocError, Global};
 
@@ -22,10 +22,9 @@ impl SetByName for Format {
 
     fn set(&mut self, alloc: Global, name: &str, value: &SettingValue) -> Result<(), FromFault> {
         match name {
-            "format" => self.template = read_template(alloc, name, value)?,
-            _ => return Err(unknown(alloc, name)),
+            "format" => assign(&mut self.template, read_template(alloc, name, value)),
+            _ => Err(unknown(alloc, name)),
         }
-        Ok(())
     }
 }
 

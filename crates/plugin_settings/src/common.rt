@@ -7,7 +7,10 @@ use crate::faults::unknown;
 use config_tree::{FromFault, SettingValue};
 use event_text::Template;
 use event_tree::Path;
-use filter_settings::{SetByName, read_field_templates, read_id, read_templates, read_text};
+use filter_settings::{
+    SetByName, assign, assign_some, not_kept, read_field_templates, read_id, read_templates,
+    read_text,
+};
 use line_codecs::Codec;
 use plain_data::{Items, Text};
 use std::alloc::Global;
@@ -43,16 +46,16 @@ impl SetByName for InputSettings {
 
     fn set(&mut self, alloc: Global, name: &str, value: &SettingValue) -> Result<(), FromFault> {
         match name {
-            "id" => {
-                let _ = read_id(alloc, name, value)?;
-            }
-            "codec" => self.codec = read_codec(alloc, name, value)?,
-            "add_field" => self.add_field = read_field_templates(alloc, name, value)?,
-            "tags" => self.tags = read_templates(alloc, name, value)?,
-            "type" => self.event_type = Some(read_text(alloc, name, value)?),
-            _ => return Err(unknown(alloc, name)),
+            "id" => not_kept(read_id(alloc, name, value)),
+            "codec" => assign(&mut self.codec, read_codec(alloc, name, value)),
+            "add_field" => assign(
+                &mut self.add_field,
+                read_field_templates(alloc, name, value),
+            ),
+            "tags" => assign(&mut self.tags, read_templates(alloc, name, value)),
+            "type" => assign_some(&mut self.event_type, read_text(alloc, name, value)),
+            _ => Err(unknown(alloc, name)),
         }
-        Ok(())
     }
 }
 

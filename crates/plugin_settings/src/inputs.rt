@@ -7,7 +7,9 @@ use crate::common::InputSettings;
 use crate::numbers::read_count;
 use config_tree::{FromFault, SettingValue, Settings};
 use event_tree::Names;
-use filter_settings::{SetByName, read_settings, read_text, read_texts, require, wanted};
+use filter_settings::{
+    SetByName, assign, assign_some, read_settings, read_text, read_texts, require, wanted,
+};
 use line_codecs::Codec;
 use plain_data::Text;
 use std::alloc::{AllocError, Global};
@@ -44,13 +46,12 @@ impl SetByName for GeneratorSettings {
 
     fn set(&mut self, alloc: Global, name: &str, value: &SettingValue) -> Result<(), FromFault> {
         match name {
-            "message" => self.message = read_text(alloc, name, value)?,
-            "lines" => self.lines = Some(read_lines(alloc, name, value)?),
-            "count" => self.count = read_count(alloc, name, value)?,
-            "sample" => self.sample = Some(read_count(alloc, name, value)?),
-            _ => self.common.set(alloc, name, value)?,
+            "message" => assign(&mut self.message, read_text(alloc, name, value)),
+            "lines" => assign_some(&mut self.lines, read_lines(alloc, name, value)),
+            "count" => assign(&mut self.count, read_count(alloc, name, value)),
+            "sample" => assign_some(&mut self.sample, read_count(alloc, name, value)),
+            _ => self.common.set(alloc, name, value),
         }
-        Ok(())
     }
 }
 
@@ -119,12 +120,11 @@ impl SetByName for FileInputSettings {
 
     fn set(&mut self, alloc: Global, name: &str, value: &SettingValue) -> Result<(), FromFault> {
         match name {
-            "path" => self.path = read_text(alloc, name, value)?,
-            "start_position" => self.from_start = read_position(alloc, name, value)?,
-            "mode" => self.ends = read_mode(alloc, name, value)?,
-            _ => self.common.set(alloc, name, value)?,
+            "path" => assign(&mut self.path, read_text(alloc, name, value)),
+            "start_position" => assign(&mut self.from_start, read_position(alloc, name, value)),
+            "mode" => assign(&mut self.ends, read_mode(alloc, name, value)),
+            _ => self.common.set(alloc, name, value),
         }
-        Ok(())
     }
 }
 

@@ -6,7 +6,7 @@ ghost use Rattle.plugin_settings.specs.Inputs as spec;
 use crate::common::InputSettings;
 use crate::numbers::read_port;
 use config_tree::{FromFault, SettingValue, Settings};
-use filter_settings::{SetByName, read_settings, read_text, require, wanted};
+use filter_settings::{SetByName, assign, read_settings, read_text, require, wanted};
 use line_codecs::Codec;
 use plain_data::Text;
 use std::alloc::Global;
@@ -36,12 +36,11 @@ impl SetByName for TcpSettings {
 
     fn set(&mut self, alloc: Global, name: &str, value: &SettingValue) -> Result<(), FromFault> {
         match name {
-            "port" => self.port = read_port(alloc, name, value)?,
-            "host" => self.host = read_text(alloc, name, value)?,
-            "mode" => read_server(alloc, name, value)?,
-            _ => self.common.set(alloc, name, value)?,
+            "port" => assign(&mut self.port, read_port(alloc, name, value)),
+            "host" => assign(&mut self.host, read_text(alloc, name, value)),
+            "mode" => read_server(alloc, name, value),
+            _ => self.common.set(alloc, name, value),
         }
-        Ok(())
     }
 }
 
@@ -98,11 +97,10 @@ impl SetByName for HttpSettings {
 
     fn set(&mut self, alloc: Global, name: &str, value: &SettingValue) -> Result<(), FromFault> {
         match name {
-            "port" => self.port = read_port(alloc, name, value)?,
-            "host" => self.host = read_text(alloc, name, value)?,
-            _ => self.common.set(alloc, name, value)?,
+            "port" => assign(&mut self.port, read_port(alloc, name, value)),
+            "host" => assign(&mut self.host, read_text(alloc, name, value)),
+            _ => self.common.set(alloc, name, value),
         }
-        Ok(())
     }
 }
 
@@ -145,10 +143,9 @@ impl SetByName for AddressSettings {
 
     fn set(&mut self, alloc: Global, name: &str, value: &SettingValue) -> Result<(), FromFault> {
         match name {
-            "address" => self.address = read_text(alloc, name, value)?,
-            _ => self.common.set(alloc, name, value)?,
+            "address" => assign(&mut self.address, read_text(alloc, name, value)),
+            _ => self.common.set(alloc, name, value),
         }
-        Ok(())
     }
 }
 
@@ -191,10 +188,9 @@ impl SetByName for DeadLetterSettings {
 
     fn set(&mut self, alloc: Global, name: &str, value: &SettingValue) -> Result<(), FromFault> {
         match name {
-            "pipeline_id" => self.pipeline_id = read_text(alloc, name, value)?,
-            _ => self.common.set(alloc, name, value)?,
+            "pipeline_id" => assign(&mut self.pipeline_id, read_text(alloc, name, value)),
+            _ => self.common.set(alloc, name, value),
         }
-        Ok(())
     }
 }
 

@@ -6,7 +6,8 @@ use crate::faults::unknown;
 use config_tree::{FromFault, SettingValue, Settings};
 use event_tree::Names;
 use filter_settings::{
-    SetByName, read_flag, read_id, read_settings, read_text, read_texts, require, wanted,
+    SetByName, assign, not_kept, read_flag, read_id, read_settings, read_text, read_texts, require,
+    wanted,
 };
 use line_codecs::{Codec, OutCodec};
 use plain_data::Text;
@@ -17,10 +18,7 @@ fn read_output_id(alloc: Global, name: &str, value: &SettingValue) -> Result<(),
     ensures { Gives result (spec.id_set name.now value.now tt) }
 {
     match name {
-        "id" => {
-            let _ = read_id(alloc, name, value)?;
-            Ok(())
-        }
+        "id" => not_kept(read_id(alloc, name, value)),
         _ => Err(unknown(alloc, name)),
     }
 }
@@ -38,10 +36,9 @@ impl SetByName for StdoutSettings {
 
     fn set(&mut self, alloc: Global, name: &str, value: &SettingValue) -> Result<(), FromFault> {
         match name {
-            "codec" => self.codec = read_out_codec(alloc, name, value)?,
-            _ => read_output_id(alloc, name, value)?,
+            "codec" => assign(&mut self.codec, read_out_codec(alloc, name, value)),
+            _ => read_output_id(alloc, name, value),
         }
-        Ok(())
     }
 }
 
@@ -79,11 +76,10 @@ impl SetByName for FileOutputSettings {
 
     fn set(&mut self, alloc: Global, name: &str, value: &SettingValue) -> Result<(), FromFault> {
         match name {
-            "path" => self.path = read_text(alloc, name, value)?,
-            "codec" => self.codec = read_out_codec(alloc, name, value)?,
-            _ => read_output_id(alloc, name, value)?,
+            "path" => assign(&mut self.path, read_text(alloc, name, value)),
+            "codec" => assign(&mut self.codec, read_out_codec(alloc, name, value)),
+            _ => read_output_id(alloc, name, value),
         }
-        Ok(())
     }
 }
 
@@ -115,11 +111,10 @@ impl SetByName for SendSettings {
 
     fn set(&mut self, alloc: Global, name: &str, value: &SettingValue) -> Result<(), FromFault> {
         match name {
-            "send_to" => self.send_to = read_texts(alloc, name, value)?,
-            "ensure_delivery" => read_sure(alloc, name, value)?,
-            _ => read_output_id(alloc, name, value)?,
+            "send_to" => assign(&mut self.send_to, read_texts(alloc, name, value)),
+            "ensure_delivery" => read_sure(alloc, name, value),
+            _ => read_output_id(alloc, name, value),
         }
-        Ok(())
     }
 }
 
