@@ -13,7 +13,7 @@ pub fn event_of(alloc: Global, written: &str) -> Result<Event, AllocError> {
     let mut first = true;
     for part in written.split(" with ") {
         if first {
-            put_members(&mut event, &json_value(alloc, part)?)?;
+            put_json(&mut event, alloc, part)?;
         } else {
             put_written(&mut event, alloc, part)?;
         }
@@ -22,11 +22,16 @@ pub fn event_of(alloc: Global, written: &str) -> Result<Event, AllocError> {
     Ok(event)
 }
 
-fn put_members(event: &mut Event, value: &Value) -> Result<(), AllocError> {
-    let Value::Object(fields) = value else {
-        return Ok(());
-    };
-    for member in fields.members() {
+fn put_json(event: &mut Event, alloc: Global, written: &str) -> Result<(), AllocError> {
+    let value = json_value(alloc, written)?;
+    match &value {
+        Value::Object(fields) => put_members(event, fields.members()),
+        _ => Ok(()),
+    }
+}
+
+fn put_members(event: &mut Event, members: &[(Text, Value)]) -> Result<(), AllocError> {
+    for member in members {
         put_member(event, &member.0, &member.1)?;
     }
     Ok(())
@@ -40,8 +45,7 @@ fn put_member(event: &mut Event, key: &Text, value: &Value) -> Result<(), AllocE
 
 fn put_written(event: &mut Event, alloc: Global, written: &str) -> Result<(), AllocError> {
     let (path, value) = written.split_once(' ').unwrap_or((written, ""));
-    let path = repeated(alloc, path)?;
-    match path_in(alloc, path.as_str())? {
+    match path_in(alloc, repeated(alloc, path)?.as_str())? {
         Some(path) => try_put(event, &path, value_of(alloc, value)?),
         None => Ok(()),
     }
@@ -89,11 +93,11 @@ fn json_value(alloc: Global, written: &str) -> Result<Value, AllocError> {
 /// Adds the JSON of an event, and behind `@` that of its metadata where it has any.
 pub fn add_event(to: &mut String, event: &Event) -> Result<(), AllocError> {
     add_json(to, event.fields())?;
-    if has_members(event.meta()) {
-        to.push('@')?;
-        add_json(to, event.meta())?;
+    if !has_members(event.meta()) {
+        return Ok(());
     }
-    Ok(())
+    to.push('@')?;
+    add_json(to, event.meta())
 }
 
 fn has_members(value: &Value) -> bool {
@@ -109,8 +113,5 @@ fn add_json(to: &mut String, value: &Value) -> Result<(), AllocError> {
     if bytes.len() > TOLD {
         return write!(to, "{} bytes of JSON", bytes.len());
     }
-    match str::from_utf8(&bytes) {
-        Ok(text) => to.push_str(text),
-        Err(_) => to.push_str("no UTF-8"),
-    }
+    to.push_str(str::from_utf8(&bytes).unwrap_or("no UTF-8"))
 }

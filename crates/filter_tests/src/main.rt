@@ -1,4 +1,5 @@
-//! Prints what filters make of events in each row of the tables in `data/`, table by table.
+//! Prints what filters make of events, and the first faults of configurations, in each row of the tables in `data/`,
+//! table by table.
 //!
 //! A table is a file, and each of its lines is a row:
 //!
@@ -6,22 +7,30 @@
 //!   event's metadata. Behind it any number of ` with PATH VALUE` put values into the event: JSON, `COUNT*TEXT` for a
 //!   text of so many times that text, or `@SECONDS` for a time. A path may be written as a text is, too.
 //! - `FILTER` alone: whether its settings are read, or why they are refused.
+//! - `BOXES: CONFIGURATION` or `BOXES and WORKERS: CONFIGURATION`, in the tables of `CHECKS`. The boxes that are handed
+//!   in are written `filter NAME REFUSES` or `output NAME REFUSES`, with commas between them, or as `none`: a box
+//!   refuses the setting of the one name, if one is written. There are two workers where no number stands.
 //!
-//! The answers in `stdout` were worked out by hand from the tables of the plugins: whether the filter matched, and the
-//! events that stand in the event's place. Those of `json`, `csv` and `kv` were made with Python's `json`, `csv` and
-//! `re`, and then looked through. Those of `grok` and `grok_library` are what Python's `re` finds by the same regular expressions.
+//! The answers in `stdout` were worked out by hand from the tables of the plugins and of faults: whether the filter
+//! matched, and the events that stand in the event's place. Those of `json`, `csv` and `kv` were made with Python's
+//! `json`, `csv` and `re`, and then looked through. Those of `grok` and `grok_library` are what Python's `re` finds by
+//! the same regular expressions. Behind the tables it prints whether a rack counts and draws its boxes as it should.
 //!
 //! With the words of `timing` it applies one filter many times over instead, to be timed from outside.
 #![tactic(auto)]
 
+mod boxes;
+mod checks;
 mod events;
-mod filters;
+mod racks;
 mod rows;
 mod timing;
 
+use std::alloc::{AllocError, Global};
 use std::{env, fs, io};
 
-const TABLES: [&str; 29] = [
+/// Tables of filters.
+const FILTERS: [&str; 29] = [
     "settings",
     "clone",
     "split",
@@ -53,34 +62,54 @@ const TABLES: [&str; 29] = [
     "grok_hostile",
 ];
 
+/// Tables of configurations.
+const CHECKS: [&str; 5] = ["worked_checks", "inputs", "statements", "boxes", "orders"];
+
 fn main(rt: HostRuntime) -> io::Result<()> {
     let words: Vec<String> = env::args(&rt)?.skip(1).collect(rt.alloc())?;
     if words.is_empty() {
         print_tables(&rt)
     } else {
-        match timing::run(&rt, &words) {
-            Some(done) => println!(rt; "{done}"),
-            None => println!(rt;
-                "the words are a filter, `copies` or `calls`, a file that can be read, and rounds"
-            ),
-        }
+        print_timed(&rt, &words)
+    }
+}
+
+fn print_timed(rt: &HostRuntime, words: &[String]) -> io::Result<()> {
+    match timing::run(rt, words) {
+        Some(done) => println!(rt; "{done}"),
+        None => println!(rt;
+            "the words are a filter, `copies` or `calls`, a file that can be read, and rounds"
+        ),
     }
 }
 
 fn print_tables(rt: &HostRuntime) -> io::Result<()> {
-    for name in &TABLES {
-        let table = fs::read_to_string(rt, *name)?;
-        println!(rt; "# {name}")?;
-        print_answers(rt, table.as_str())?;
+    for name in &FILTERS {
+        print_table(rt, name, false)?;
+    }
+    for name in &CHECKS {
+        print_table(rt, name, true)?;
+    }
+    let answer = racks::answer(rt.alloc())?;
+    println!(rt; "# rack\n{answer}")
+}
+
+fn print_table(rt: &HostRuntime, name: &str, is_checked: bool) -> io::Result<()> {
+    let table = fs::read_to_string(rt, name)?;
+    println!(rt; "# {name}")?;
+    for row in table.lines() {
+        let answer = answer(rt.alloc(), row, is_checked)?;
+        println!(rt; "{answer}")?;
     }
     Ok(())
 }
 
-fn print_answers(rt: &HostRuntime, table: &str) -> io::Result<()> {
-    for row in table.lines() {
-        let mut answer = String::new(rt.alloc());
+fn answer(alloc: Global, row: &str, is_checked: bool) -> Result<String, AllocError> {
+    let mut answer = String::new(alloc);
+    if is_checked {
+        checks::add_answer(&mut answer, row)?;
+    } else {
         rows::add_answer(&mut answer, row)?;
-        println!(rt; "{answer}")?;
     }
-    Ok(())
+    Ok(answer)
 }

@@ -1,8 +1,8 @@
 use crate::events::{add_event, event_of};
-use crate::filters::Filter;
 use config_parse::parse;
-use config_tree::{FromFault, Plugin, Statement};
-use event_tree::Event;
+use config_tree::{Config, FromFault, Plugin, Statement};
+use filter_settings::Applied;
+use plugin_graph::BuiltFilter;
 use std::alloc::{AllocError, Global};
 
 /// Adds the answer of a row.
@@ -17,17 +17,21 @@ pub fn add_answer(to: &mut String, row: &str) -> Result<(), AllocError> {
 /// The plugin that stands alone in the section of filters.
 pub fn plugin_of(alloc: Global, filter: &str) -> Result<Option<Plugin>, AllocError> {
     let text = format!(in alloc; "filter {{ {filter} }}")?;
-    let Ok(mut config) = parse(alloc, text.as_str()) else {
-        return Ok(None);
-    };
+    match parse(alloc, text.as_str()) {
+        Ok(config) => Ok(only_filter(config)),
+        Err(_) => Ok(None),
+    }
+}
+
+fn only_filter(mut config: Config) -> Option<Plugin> {
     match config.filters.pop() {
-        Some(Statement::Plugin(plugin)) => Ok(Some(plugin)),
-        _ => Ok(None),
+        Some(Statement::Plugin(plugin)) => Some(plugin),
+        _ => None,
     }
 }
 
 fn add_read(to: &mut String, plugin: &Plugin, event: &str) -> Result<(), AllocError> {
-    match Filter::read(plugin) {
+    match BuiltFilter::from_plugin(plugin) {
         Ok(Some(filter)) => add_applied(to, filter, event),
         Ok(None) => to.push_str("no such filter"),
         Err(FromFault::Memory) => Err(AllocError),
@@ -35,23 +39,21 @@ fn add_read(to: &mut String, plugin: &Plugin, event: &str) -> Result<(), AllocEr
     }
 }
 
-fn add_applied(to: &mut String, filter: Filter, event: &str) -> Result<(), AllocError> {
+fn add_applied(to: &mut String, mut filter: BuiltFilter, event: &str) -> Result<(), AllocError> {
     if event.is_empty() {
         return to.push_str("read");
     }
-    let mut filter = filter;
     let event = event_of(*to.allocator(), event)?;
-    let applied = filter.apply(event)?;
+    add_outcome(to, &filter.apply(event)?)
+}
+
+fn add_outcome(to: &mut String, applied: &Applied) -> Result<(), AllocError> {
     to.push_str(if applied.matched {
         "matched"
     } else {
         "not matched"
     })?;
-    add_events(to, applied.events.as_slice())
-}
-
-fn add_events(to: &mut String, events: &[Event]) -> Result<(), AllocError> {
-    for event in events {
+    for event in applied.events.as_slice() {
         to.push(' ')?;
         add_event(to, event)?;
     }

@@ -1,11 +1,30 @@
 //! Applies a filter to copies of events, over and over (bench/filters.sh).
 
 use crate::events::event_of;
-use crate::filters::Filter;
 use crate::rows::plugin_of;
 use event_tree::{Event, Number, Path, Text, Value};
+use plugin_graph::BuiltFilter;
 use std::alloc::Global;
 use std::fs;
+
+/// What is done to the copy of an event.
+enum Work {
+    Copy,
+    /// Six calls at these places.
+    Calls(Vec<Path>),
+    Filter(BuiltFilter),
+}
+
+// Written out, so that it is one call wherever an error is handed on.
+impl Drop for Work {
+    fn drop(self) {
+        match self {
+            Work::Copy => {}
+            Work::Calls(_places) => {}
+            Work::Filter(_filter) => {}
+        }
+    }
+}
 
 /// How many events came out in so many rounds, in which each event of a file (JSON, one a line) is copied and the
 /// filter applied to the copy. With `copies` in the place of the filter it is copied alone, and with `calls` six calls
@@ -17,14 +36,8 @@ pub fn run(rt: &HostRuntime, words: &[String]) -> Option<u64> {
     let rounds = rounds.as_str().parse::<u32>().ok()?;
     let text = fs::read_to_string(rt, file.as_str()).ok()?;
     let events = events(rt.alloc(), text.as_str())?;
-    match what.as_str() {
-        "copies" => copied(&events, rounds),
-        "calls" => called(rt.alloc(), &events, rounds),
-        filter => {
-            let filter = filter_of(rt.alloc(), filter)?;
-            applied(filter, &events, rounds)
-        }
-    }
+    let mut work = work_of(rt.alloc(), what.as_str())?;
+    all_done(rt.alloc(), &mut work, &events, rounds)
 }
 
 fn events(alloc: Global, text: &str) -> Option<Vec<Event>> {
@@ -35,89 +48,82 @@ fn events(alloc: Global, text: &str) -> Option<Vec<Event>> {
     Some(events)
 }
 
-fn filter_of(alloc: Global, text: &str) -> Option<Filter> {
+fn work_of(alloc: Global, what: &str) -> Option<Work> {
+    match what {
+        "copies" => Some(Work::Copy),
+        "calls" => places(alloc).map(Work::Calls),
+        filter => filter_of(alloc, filter).map(Work::Filter),
+    }
+}
+
+fn filter_of(alloc: Global, text: &str) -> Option<BuiltFilter> {
     let plugin = plugin_of(alloc, text).ok()??;
-    Filter::read(&plugin).ok()?
+    BuiltFilter::from_plugin(&plugin).ok()?
 }
 
-fn copied(events: &[Event], rounds: u32) -> Option<u64> {
+/// Where the six calls are made: those of `rename` (from one place to the next), `update`, `replace`, `convert`, `merge`
+/// and `copy`.
+const PLACES: [&str; 7] = [
+    "field00", "fresh", "field02", "field04", "field06", "field08", "copied",
+];
+
+fn places(alloc: Global) -> Option<Vec<Path>> {
+    let mut places = Vec::new(alloc);
+    for place in &PLACES {
+        places.push(Path::read(alloc, place).ok()?).ok()?;
+    }
+    Some(places)
+}
+
+fn all_done(alloc: Global, work: &mut Work, events: &[Event], rounds: u32) -> Option<u64> {
     let mut done = 0u64;
     for _ in 0..rounds {
         for event in events {
-            let _copy = event.copy().ok()?;
-            done = done.wrapping_add(1);
+            done = done.wrapping_add(one_done(alloc, work, event)?);
         }
     }
     Some(done)
 }
 
-fn applied(filter: Filter, events: &[Event], rounds: u32) -> Option<u64> {
-    let mut filter = filter;
-    let mut done = 0u64;
-    for _ in 0..rounds {
-        for event in events {
-            let applied = filter.apply(event.copy().ok()?).ok()?;
-            done = done.wrapping_add(applied.events.as_slice().len() as u64);
-        }
-    }
-    Some(done)
-}
-
-fn called(alloc: Global, events: &[Event], rounds: u32) -> Option<u64> {
-    let places = Places::new(alloc)?;
-    let mut done = 0u64;
-    for _ in 0..rounds {
-        for event in events {
-            let mut event = event.copy().ok()?;
-            call(alloc, &places, &mut event)?;
-            done = done.wrapping_add(1);
-        }
-    }
-    Some(done)
-}
-
-/// Where the six calls are made: those of `rename`, `update`, `replace`, `convert`, `merge` and `copy`.
-#[derive(Drop)]
-struct Places {
-    renamed: Path,
-    renamed_to: Path,
-    updated: Path,
-    replaced: Path,
-    number: Path,
-    list: Path,
-    copied: Path,
-}
-
-impl Places {
-    fn new(alloc: Global) -> Option<Places> {
-        Some(Places {
-            renamed: Path::read(alloc, "field00").ok()?,
-            renamed_to: Path::read(alloc, "fresh").ok()?,
-            updated: Path::read(alloc, "field02").ok()?,
-            replaced: Path::read(alloc, "field04").ok()?,
-            number: Path::read(alloc, "field06").ok()?,
-            list: Path::read(alloc, "field08").ok()?,
-            copied: Path::read(alloc, "copied").ok()?,
-        })
+/// How many events come out of one.
+fn one_done(alloc: Global, work: &mut Work, event: &Event) -> Option<u64> {
+    let mut event = event.copy().ok()?;
+    match work {
+        Work::Copy => Some(1),
+        Work::Calls(places) => called(alloc, places.as_slice(), &mut event),
+        Work::Filter(filter) => applied(filter, event),
     }
 }
 
-fn call(alloc: Global, places: &Places, event: &mut Event) -> Option<()> {
-    event.rename(&places.renamed, &places.renamed_to).ok()?;
-    if event.get(&places.updated).is_some() {
-        event.put(&places.updated, text(alloc)?).ok()?;
-    }
-    event.put(&places.replaced, text(alloc)?).ok()?;
-    let number = event.get(&places.number).and_then(number_in)?;
-    event.put(&places.number, Value::Num(number)).ok()?;
-    let added = event.get(&places.updated)?.copy().ok()?;
-    event.append(&places.list, added).ok()?;
-    let copy = event.get(&places.updated)?.copy().ok()?;
-    event.put(&places.copied, copy).ok()
+fn applied(filter: &mut BuiltFilter, event: Event) -> Option<u64> {
+    Some(filter.apply(event).ok()?.events.as_slice().len() as u64)
 }
 
-fn text(alloc: Global) -> Option<Value> {
-    Some(Value::Text(Text::of(alloc, "a value of some bytes").ok()?))
+fn called(alloc: Global, places: &[Path], event: &mut Event) -> Option<u64> {
+    let [renamed, fresh, updated, replaced, number, list, copied] = places else {
+        return None;
+    };
+    event.rename(renamed, fresh).ok()?;
+    if event.get(updated).is_some() {
+        put_text(alloc, event, updated)?;
+    }
+    put_text(alloc, event, replaced)?;
+    convert(event, number)?;
+    let added = event.get(updated)?.copy().ok()?;
+    event.append(list, added).ok()?;
+    let copy = event.get(updated)?.copy().ok()?;
+    event.put(copied, copy).ok()?;
+    Some(1)
+}
+
+fn put_text(alloc: Global, event: &mut Event, at: &Path) -> Option<()> {
+    let text = Text::of(alloc, "a value of some bytes").ok()?;
+    event.put(at, Value::Text(text)).ok()
+}
+
+fn convert(event: &mut Event, at: &Path) -> Option<()> {
+    let number = event.get(at).and_then(number_in)?;
+    event.put(at, Value::Num(number)).ok()
 }
 
 fn number_in(value: &Value) -> Option<Number> {

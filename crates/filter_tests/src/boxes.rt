@@ -1,5 +1,5 @@
 ghost use Rattle.foreign_parts.specs.Configuring.{Answers};
-ghost use Rattle.graph_tests.specs.Boxes.{refused};
+ghost use Rattle.filter_tests.specs.Boxes.{refused};
 
 use event_tree::{Event, Events};
 use foreign_parts::{
@@ -19,6 +19,18 @@ pub struct Picky {
     pub closes: u64,
 }
 
+/// A box that refuses the setting of this name.
+pub fn refusing(alloc: Global, refuses: &str) -> Result<Box<Picky>, AllocError> {
+    let refuses = Text::of(alloc, refuses)?;
+    let picky = Picky {
+        alloc,
+        refuses,
+        laters: 0,
+        closes: 0,
+    };
+    Ok(Box::new(alloc, picky)?)
+}
+
 impl Picky {
     fn read(&self, settings: &Settings) -> Result<(), FromFault>
         ensures { Answers result (refused self.now.refuses settings.now.list) }
@@ -31,7 +43,7 @@ impl Picky {
 }
 
 impl ForeignFilter for Picky {
-    ghost use Rattle.graph_tests.specs.Boxes.{refused, unchanged};
+    ghost use Rattle.filter_tests.specs.Boxes.{refused, unchanged};
 
     ghost refusal = { λ picky entries. refused picky.refuses entries };
 
@@ -59,7 +71,7 @@ impl ForeignFilter for Picky {
 
 impl ForeignOutput for Picky {
     ghost use Rattle.std.specs.Prelude.{Some, []};
-    ghost use Rattle.graph_tests.specs.Boxes.{refused};
+    ghost use Rattle.filter_tests.specs.Boxes.{refused};
 
     ghost refusal = { λ picky entries. refused picky.refuses entries };
 

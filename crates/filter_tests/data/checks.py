@@ -1,10 +1,11 @@
 #!/usr/bin/env python3
-"""Writes the tables and what must be printed. Each answer was worked out by hand."""
+"""Writes the tables of configurations, and what must be printed of them behind what is printed of filters. Each answer was
+worked out by hand."""
 
 LONG = "x" * 247
 
 TABLES = {
-    "worked": [
+    "worked_checks": [
         ("filter tagger: input { stdin { } } filter { tagger { } } output { stdout { } }", "of tagger 2 are wanted, and 1 are left"),
         ("filter tagger, filter tagger: input { stdin { } } filter { tagger { } } output { stdout { } }", "fine"),
         ("filter tagger, filter tagger: input { stdin { } } filter { tagger { } tagger { } } output { stdout { } }", "of tagger 4 are wanted, and 2 are left"),
@@ -162,5 +163,9 @@ if __name__ == "__main__":
             table.writelines(row + "\n" for row, _ in rows)
         answers.append(f"# {name}")
         answers += [answer for _, answer in rows]
+    answers += ["# rack", "counted, asked and drawn"]
+    with open("../stdout", encoding="utf-8") as out:
+        filters, _, _ = out.read().partition(answers[0] + "\n")
     with open("../stdout", "w", encoding="utf-8") as out:
+        out.write(filters)
         out.writelines(answer + "\n" for answer in answers)

@@ -1,0 +1,45 @@
+//! First faults of configurations, with boxes that are handed in.
+
+use crate::boxes::refusing;
+use config_parse::parse;
+use config_tree::Config;
+use foreign_parts::Rack;
+use graph_checks::check;
+use std::alloc::AllocError;
+
+/// Adds the answer of a row: `BOXES and WORKERS: CONFIGURATION`. The boxes are written `filter NAME REFUSES` or
+/// `output NAME REFUSES`, with commas between them.
+pub fn add_answer(to: &mut String, row: &str) -> Result<(), AllocError> {
+    let (given, text) = row.split_once(": ").unwrap_or(("", row));
+    match parse(*to.allocator(), text) {
+        Ok(config) => add_checked(to, given, &config),
+        Err(_) => to.push_str("no configuration"),
+    }
+}
+
+/// The rack is made where it is used: what hands on boxes that it makes itself has no contract that says something.
+fn add_checked(to: &mut String, given: &str, config: &Config) -> Result<(), AllocError> {
+    let alloc = *to.allocator();
+    let (boxes, workers) = given.split_once(" and ").unwrap_or((given, "2"));
+    let mut rack = Rack::new(alloc);
+    for one in boxes.split(", ") {
+        let (kind, name, refuses) = words_of(one);
+        match kind {
+            "filter" => rack.add_filter(name, refusing(alloc, refuses)?)?,
+            "output" if name.len() <= 255 => rack.add_output(name, refusing(alloc, refuses)?)?,
+            _ => {}
+        }
+    }
+    let workers = workers.parse::<u32>().unwrap_or(2);
+    match check(alloc, config, &mut rack, workers) {
+        Ok(()) => to.push_str("fine"),
+        Err(fault) => write!(to, "{fault}"),
+    }
+}
+
+/// What a box is, its name, and the setting that it refuses.
+fn words_of(one: &str) -> (&str, &str, &str) {
+    let (kind, rest) = one.split_once(' ').unwrap_or((one, ""));
+    let (name, refuses) = rest.split_once(' ').unwrap_or((rest, ""));
+    (kind, name, refuses)
+}
