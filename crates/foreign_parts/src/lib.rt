@@ -17,6 +17,6 @@ pub use config_tree::{FromFault, SettingFault, Settings};
 pub use filter::{ForeignFilter, Verdict};
 pub use output::{DeliverFault, Delivery, Fate, Fates, ForeignOutput};
 pub use place::Place;
-pub use plugged::{Plugged, PluggedFilter, PluggedOutput};
+pub use plugged::{Asked, Plugged, PluggedFilter, PluggedOutput};
 pub use rack::Rack;
 pub use stockroom::Stockroom;

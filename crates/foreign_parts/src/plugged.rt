@@ -1,6 +1,10 @@
-use crate::filter::ForeignFilter;
+ghost use Rattle.std.specs.Prelude.{IfOk};
+
+use crate::filter::{ForeignFilter, Verdict};
 use crate::output::ForeignOutput;
 use config_tree::{FromFault, Settings};
+use event_tree::Event;
+use std::alloc::AllocError;
 
 /// What the rack holds: a box with its number, which reads settings.
 pub trait Plugged: Drop {
@@ -19,6 +23,19 @@ pub trait Plugged: Drop {
         ensures answers { Answers result (refusal self.old settings.now.list) }
         ensures refusal { refusal self.new ≡ refusal self.old }
         ensures number { number self.new ≡ number self.old };
+}
+
+/// What a boxed filter is to a kit: it answers to an event with a verdict.
+pub trait Asked: Drop {
+    ghost use Rattle.event_tree.specs.Events.{Ev};
+    ghost use Rattle.foreign_parts.specs.declared.filter.Verdict.{Verdict};
+
+    /// Whether it may make this of an event.
+    ghost may: { Self → Ev → Verdict → Type 0 };
+
+    /// What it makes of an event.
+    fn ask(&self, event: &Event) -> Result<Verdict, AllocError>
+        ensures { IfOk result (may self.now event.now) };
 }
 
 /// A boxed filter with the number that it has of its own.
@@ -42,6 +59,14 @@ impl Plugged for PluggedFilter {
 
     fn configure(&mut self, settings: &Settings) -> Result<(), FromFault> {
         self.filter.configure(settings)
+    }
+}
+
+impl Asked for PluggedFilter {
+    ghost may = { λ p. (ForeignFilter-box p.filter).may p.filter.value };
+
+    fn ask(&self, event: &Event) -> Result<Verdict, AllocError> {
+        self.filter.apply(event)
     }
 }
 

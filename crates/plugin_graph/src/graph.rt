@@ -9,12 +9,12 @@ ghost use Rattle.plugin_graph.specs.Kits.{table_of, MayAt};
 ghost use Rattle.plugin_graph.specs.Makes.{makes};
 ghost use Rattle.plugin_graph.specs.Passages.{IsPassageOf};
 
-use crate::asked::Asked;
 use crate::kit::Kit;
 use crate::passage::Passage;
 use config_tree::Config;
 use event_flow::{Step, lay_config};
 use event_tree::{Events, Items};
+use foreign_parts::Asked;
 use std::alloc::{AllocError, Global};
 
 /// The statements of a configuration, laid out flat. It names plugins and conditions by the numbers

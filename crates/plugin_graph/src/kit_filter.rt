@@ -6,7 +6,6 @@ ghost use Rattle.event_flow.specs.declared.cell.Cell.TheVariants as cell;
 ghost use Rattle.plugin_graph.specs.Meetings.{Answered, Meeting, MayAnswer, filter_act};
 ghost use Rattle.plugin_graph.specs.Makes.{applied, optioned};
 
-use crate::asked::Asked;
 use crate::boxed::BoxedFilter;
 use crate::built::BuiltFilter;
 use crate::filter::Filter;
@@ -14,7 +13,7 @@ use event_flow::{Cell, Outcome, Targets};
 use event_text::Options;
 use event_tree::{Event, Events, Items};
 use filter_settings::Applied;
-use foreign_parts::Verdict;
+use foreign_parts::{Asked, Verdict};
 use std::alloc::AllocError;
 
 /// A filter of a kit, with its box, if it is a boxed one and the box was put in.

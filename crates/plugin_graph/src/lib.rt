@@ -5,7 +5,6 @@
 //! batch through both, and does what the configuration means.
 #![tactic(auto)]
 
-mod asked;
 mod boxed;
 mod built;
 mod condition;
@@ -22,7 +21,6 @@ mod parts;
 mod passage;
 mod places;
 
-pub use asked::Asked;
 pub use boxed::BoxedFilter;
 pub use built::BuiltFilter;
 pub use condition::{CompiledCondition, NamedCondition};

@@ -4,13 +4,13 @@ ghost use Rattle.event_flow.specs.Steps.{Table};
 ghost use Rattle.plugin_graph.specs.Kits.{HaveOwnTargets, MayAt, boxes_of, filter_acts};
 ghost use Rattle.plugin_graph.specs.Meetings.{Meeting};
 
-use crate::asked::Asked;
 use crate::condition::CompiledCondition;
 use crate::kit_filter::KitFilter;
 use crate::output::{Output, Target};
 use condition_eval::Truth;
 use event_flow::{Cell, Kit, Outcome, Targets};
 use event_tree::{Event, Items};
+use foreign_parts::Asked;
 use std::alloc::AllocError;
 
 /// The plugins and conditions of a kit, by their numbers: those of the filters first.
