@@ -12,3 +12,5 @@ pub mod Telling
 pub mod Refusing
 pub mod Handing
 pub mod Wholes
+pub mod Restoring
+pub mod Turning

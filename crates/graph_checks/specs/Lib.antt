@@ -7,3 +7,5 @@ pub mod Inputs
 pub mod Whole
 pub mod Wants
 pub mod Readings
+pub mod Drawings
+pub mod Drawns

@@ -2,12 +2,25 @@
 //! the call.
 #![tactic(auto)]
 
-ghost use Rattle.std.specs.Prelude.{◌≡◌, Ok};
+ghost use Rattle.std.specs.Prelude.{◌≡◌, ℕ, List, Ok};
 ghost use Rattle.config_tree.specs.declared.tree.Config.{Config};
+ghost use Rattle.foreign_parts.specs.Stocks.{Stock};
+ghost use Rattle.graph_checks.specs.Drawings.{AllDrawn, AllMayGoBack, Numbered, all_back};
 ghost use Rattle.graph_checks.specs.Readings.{IsRead};
 ghost use Rattle.graph_checks.specs.Whole.{Given, checked};
 
 /// Where a configuration has no fault each of its filters reads, and each pattern of its conditions is one.
 pub fn checked_configurations_read()
     ensures { (given : Given) (config : Config) → checked given config ≡ Ok tt → IsRead config }
+{}
+
+/// Boxes that were drawn may go back, and then the rack holds what it held before they were drawn.
+pub fn drawn_boxes_go_back()
+    ensures may { (given : ℕ) (filters outputs : Numbered) (fs os new_fs new_os : List Stock)
+        → AllDrawn given filters outputs fs os new_fs new_os
+        → AllMayGoBack given filters outputs new_fs new_os }
+    ensures filters { (given : ℕ) (filters outputs : Numbered) (fs os new_fs new_os : List Stock)
+        → AllDrawn given filters outputs fs os new_fs new_os → all_back filters new_fs ≡ fs }
+    ensures outputs { (given : ℕ) (filters outputs : Numbered) (fs os new_fs new_os : List Stock)
+        → AllDrawn given filters outputs fs os new_fs new_os → all_back outputs new_os ≡ os }
 {}

@@ -2,7 +2,7 @@
 //!
 //! The statements are tested in the order of the text: the inputs, then the filters, then the outputs, with
 //! the conditions in front of their blocks. Then the whole is tested. Boxes are asked where they stand, and
-//! none is taken.
+//! none is taken; `draw_boxes` takes those that a configuration wants, once it passed.
 #![tactic(auto)]
 
 mod asking;
@@ -10,16 +10,23 @@ mod built_in;
 mod checking;
 mod conditions;
 mod counts;
+mod drawing;
+mod drawn;
 mod fault;
 mod ids;
 mod inputs;
 pub mod laws;
 mod plugins;
+mod returning;
 mod texts;
 mod walk;
 mod want;
 mod whole;
 
 pub use checking::check;
+pub use drawing::draw_boxes;
+pub use drawn::{Drawn, DrawnBoxes};
 pub use fault::GraphFault;
-pub use foreign_parts::{Boxes, Kind};
+pub use foreign_parts::{Boxes, Kind, Stockroom};
+pub use returning::give_back_boxes;
+pub use want::Want;
