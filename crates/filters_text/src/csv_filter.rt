@@ -7,9 +7,9 @@ use csv_row::one_row;
 use decoded_fields::{field_path, text_in};
 use event_tree::{Event, Items, Names, Path, Text, Value};
 use filter_settings::{
-    Applied, Change, Conversion, FromFault, Options, SetByName, SettingValue, Settings, convert,
-    finish, is_same, one_event, path_under, put_at, read_field_conversions, read_flag, read_path,
-    read_paths, read_settings, read_text, set_option, wanted,
+    Applied, Change, Conversion, FromFault, Options, SetByName, SettingValue, Settings, assign,
+    assign_some, convert, finish, is_same, one_event, path_under, put_at, read_field_conversions,
+    read_flag, read_path, read_paths, read_settings, read_text, set_option, wanted,
 };
 use std::alloc::{AllocError, Global};
 
@@ -82,13 +82,12 @@ impl SetByName for Csv {
 
     fn set(&mut self, alloc: Global, name: &str, value: &SettingValue) -> Result<(), FromFault> {
         match name {
-            "source" => self.source = read_path(alloc, name, value)?,
-            "target" => self.target = Some(read_path(alloc, name, value)?),
-            "separator" => self.separator = read_ascii(alloc, name, value)?,
-            "quote_char" => self.quote_char = read_ascii(alloc, name, value)?,
-            _ => self.set_columns(alloc, name, value)?,
+            "source" => assign(&mut self.source, read_path(alloc, name, value)),
+            "target" => assign_some(&mut self.target, read_path(alloc, name, value)),
+            "separator" => assign(&mut self.separator, read_ascii(alloc, name, value)),
+            "quote_char" => assign(&mut self.quote_char, read_ascii(alloc, name, value)),
+            _ => self.set_columns(alloc, name, value),
         }
-        Ok(())
     }
 }
 
@@ -108,6 +107,7 @@ impl Csv {
         ensures { IfOk result (λ filter. filter ≡ spec.csv_start) }
     {
         let source = field_path(Text::of(alloc, "message")?)?;
+        let failure_tag = Text::of(alloc, "_csvparsefailure")?;
         Ok(Csv {
             source,
             target: None,
@@ -118,7 +118,7 @@ impl Csv {
             skip_empty_columns: false,
             convert: Items::new(alloc),
             places: Items::new(alloc),
-            failure_tag: Text::of(alloc, "_csvparsefailure")?,
+            failure_tag,
             options: Options::none(alloc),
         })
     }
@@ -133,15 +133,21 @@ impl Csv {
         ensures { Leaves result (spec.columns_set name.now value.now self.old) self.new }
     {
         match name {
-            "columns" => self.columns = read_paths(alloc, name, value)?,
-            "autogenerate_column_names" => {
-                self.autogenerate_column_names = read_flag(alloc, name, value)?;
-            }
-            "skip_empty_columns" => self.skip_empty_columns = read_flag(alloc, name, value)?,
-            "convert" => self.convert = read_field_conversions(alloc, name, value)?,
-            _ => set_option(&mut self.options, alloc, name, value)?,
+            "columns" => assign(&mut self.columns, read_paths(alloc, name, value)),
+            "autogenerate_column_names" => assign(
+                &mut self.autogenerate_column_names,
+                read_flag(alloc, name, value),
+            ),
+            "skip_empty_columns" => assign(
+                &mut self.skip_empty_columns,
+                read_flag(alloc, name, value),
+            ),
+            "convert" => assign(
+                &mut self.convert,
+                read_field_conversions(alloc, name, value),
+            ),
+            _ => set_option(&mut self.options, alloc, name, value),
         }
-        Ok(())
     }
 
     fn set_places(&mut self) -> Result<(), AllocError>

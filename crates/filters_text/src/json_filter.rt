@@ -7,8 +7,8 @@ ghost use Rattle.filters_text.specs.Json as spec;
 use decoded_fields::{failure_tags, field_path, json_value, place, text_in};
 use event_tree::{Event, Fields, Path, Text, Value};
 use filter_settings::{
-    Applied, FromFault, Options, SetByName, SettingValue, Settings, add_tag, finish, one_event,
-    put_at, read_path, read_settings, read_text, require, set_option,
+    Applied, FromFault, Options, SetByName, SettingValue, Settings, add_tag, assign, assign_some,
+    finish, one_event, put_at, read_path, read_settings, read_text, require, set_option,
 };
 use std::alloc::{AllocError, Global};
 
@@ -42,12 +42,11 @@ impl SetByName for Json {
 
     fn set(&mut self, alloc: Global, name: &str, value: &SettingValue) -> Result<(), FromFault> {
         match name {
-            "source" => self.source = read_path(alloc, name, value)?,
-            "target" => self.target = Some(read_path(alloc, name, value)?),
-            "tag_on_failure" => self.tag_on_failure = read_text(alloc, name, value)?,
-            _ => set_option(&mut self.options, alloc, name, value)?,
+            "source" => assign(&mut self.source, read_path(alloc, name, value)),
+            "target" => assign_some(&mut self.target, read_path(alloc, name, value)),
+            "tag_on_failure" => assign(&mut self.tag_on_failure, read_text(alloc, name, value)),
+            _ => set_option(&mut self.options, alloc, name, value),
         }
-        Ok(())
     }
 }
 

@@ -13,8 +13,8 @@ use crate::target::field_under;
 use decoded_fields::{field_path, text_in};
 use event_tree::{Event, Fields, Items, Names, Path, Text, Value};
 use filter_settings::{
-    Applied, FromFault, Options, SetByName, SettingValue, Settings, one_event, read_flag,
-    read_path, read_settings, read_text, read_texts, set_option, try_put,
+    Applied, FromFault, Options, SetByName, SettingValue, Settings, assign, assign_some, one_event,
+    read_flag, read_path, read_settings, read_text, read_texts, set_option, try_put,
 };
 use kv_text::{Splits, trimmed};
 use std::alloc::{AllocError, Global};
@@ -67,17 +67,17 @@ impl SetByName for Kv {
 
     fn set(&mut self, alloc: Global, name: &str, value: &SettingValue) -> Result<(), FromFault> {
         match name {
-            "source" => self.source = read_path(alloc, name, value)?,
-            "target" => self.target = Some(read_path(alloc, name, value)?),
-            "prefix" => self.prefix = read_text(alloc, name, value)?,
-            "include_keys" => self.include_keys = read_texts(alloc, name, value)?,
-            "exclude_keys" => self.exclude_keys = read_texts(alloc, name, value)?,
-            "allow_duplicate_values" => {
-                self.allow_duplicate_values = read_flag(alloc, name, value)?;
-            }
-            _ => self.set_text(alloc, name, value)?,
+            "source" => assign(&mut self.source, read_path(alloc, name, value)),
+            "target" => assign_some(&mut self.target, read_path(alloc, name, value)),
+            "prefix" => assign(&mut self.prefix, read_text(alloc, name, value)),
+            "include_keys" => assign(&mut self.include_keys, read_texts(alloc, name, value)),
+            "exclude_keys" => assign(&mut self.exclude_keys, read_texts(alloc, name, value)),
+            "allow_duplicate_values" => assign(
+                &mut self.allow_duplicate_values,
+                read_flag(alloc, name, value),
+            ),
+            _ => self.set_text(alloc, name, value),
         }
-        Ok(())
     }
 }
 
@@ -99,6 +99,7 @@ impl Kv {
         let source = field_path(Text::of(alloc, "message")?)?;
         let fields = one_character(alloc, ' ')?;
         let values = one_character(alloc, '=')?;
+        let prefix = Text::of(alloc, "")?;
         Ok(Kv {
             source,
             target: None,
@@ -107,7 +108,7 @@ impl Kv {
                 values,
                 keys: Items::new(alloc),
             },
-            prefix: Text::of(alloc, "")?,
+            prefix,
             include_keys: Names::new(alloc),
             exclude_keys: Names::new(alloc),
             trim_key: Items::new(alloc),
@@ -122,13 +123,12 @@ impl Kv {
         ensures { Leaves result (spec.text_set name.now value.now self.old) self.new }
     {
         match name {
-            "field_split" => self.splits.fields = read_characters(alloc, name, value)?,
-            "value_split" => self.splits.values = read_characters(alloc, name, value)?,
-            "trim_key" => self.trim_key = read_characters(alloc, name, value)?,
-            "trim_value" => self.trim_value = read_characters(alloc, name, value)?,
-            _ => set_option(&mut self.options, alloc, name, value)?,
+            "field_split" => assign(&mut self.splits.fields, read_characters(alloc, name, value)),
+            "value_split" => assign(&mut self.splits.values, read_characters(alloc, name, value)),
+            "trim_key" => assign(&mut self.trim_key, read_characters(alloc, name, value)),
+            "trim_value" => assign(&mut self.trim_value, read_characters(alloc, name, value)),
+            _ => set_option(&mut self.options, alloc, name, value),
         }
-        Ok(())
     }
 
     fn set_ends(&mut self) -> Result<(), AllocError>
