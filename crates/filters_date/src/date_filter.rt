@@ -11,8 +11,9 @@ use event_text::{event_time, number_of, path_in};
 use event_times::{TimeParts, iso8601_parts, read_offset, read_time, year_of};
 use event_tree::{Event, Items, Names, Number, Path, Text, Value};
 use filter_settings::{
-    Applied, FromFault, Options, SetByName, SettingValue, Settings, bad_pattern, finish, one_event,
-    put_at, read_path, read_settings, read_text, read_texts, require, set_option, wanted,
+    Applied, FromFault, Options, SetByName, SettingValue, Settings, assign, bad_pattern, finish,
+    one_event, put_at, read_path, read_settings, read_text, read_texts, require, set_option,
+    wanted,
 };
 use std::alloc::{AllocError, Global};
 use time_instant::Instant;
@@ -53,13 +54,12 @@ impl SetByName for DateFilter {
 
     fn set(&mut self, alloc: Global, name: &str, value: &SettingValue) -> Result<(), FromFault> {
         match name {
-            "match" => self.set_match(alloc, name, value)?,
-            "target" => self.target = read_path(alloc, name, value)?,
-            "timezone" => self.timezone = read_timezone(alloc, name, value)?,
-            "tag_on_failure" => self.tag_on_failure = read_text(alloc, name, value)?,
-            _ => set_option(&mut self.options, alloc, name, value)?,
+            "match" => self.set_match(alloc, name, value),
+            "target" => assign(&mut self.target, read_path(alloc, name, value)),
+            "timezone" => assign(&mut self.timezone, read_timezone(alloc, name, value)),
+            "tag_on_failure" => assign(&mut self.tag_on_failure, read_text(alloc, name, value)),
+            _ => set_option(&mut self.options, alloc, name, value),
         }
-        Ok(())
     }
 }
 
@@ -79,12 +79,13 @@ impl DateFilter {
     {
         let source = timestamp_path(alloc)?;
         let target = timestamp_path(alloc)?;
+        let tag_on_failure = Text::of(alloc, "_dateparsefailure")?;
         Ok(DateFilter {
             source,
             formats: Items::new(alloc),
             target,
             timezone: 0,
-            tag_on_failure: Text::of(alloc, "_dateparsefailure")?,
+            tag_on_failure,
             options: Options::none(alloc),
         })
     }
