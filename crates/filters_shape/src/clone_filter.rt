@@ -4,7 +4,7 @@ ghost use Rattle.filters_shape.specs.Clone as spec;
 
 use event_tree::{Event, Events, Names, Text};
 use filter_settings::{
-    Applied, FromFault, Options, SetByName, SettingValue, Settings, add_tag, read_settings,
+    Applied, FromFault, Options, SetByName, SettingValue, Settings, add_tag, assign, read_settings,
     read_texts, require, set_option,
 };
 use std::alloc::{AllocError, Global};
@@ -34,10 +34,9 @@ impl SetByName for CloneFilter {
 
     fn set(&mut self, alloc: Global, name: &str, value: &SettingValue) -> Result<(), FromFault> {
         match name {
-            "clones" => self.clones = read_texts(alloc, name, value)?,
-            _ => set_option(&mut self.options, alloc, name, value)?,
+            "clones" => assign(&mut self.clones, read_texts(alloc, name, value)),
+            _ => set_option(&mut self.options, alloc, name, value),
         }
-        Ok(())
     }
 }
 

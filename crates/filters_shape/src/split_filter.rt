@@ -7,8 +7,8 @@ ghost use Rattle.filters_shape.specs.Split as spec;
 
 use event_tree::{Event, Events, Items, Names, Path, Text, Value};
 use filter_settings::{
-    Applied, FromFault, Options, SetByName, SettingValue, Settings, add_tag, one_event, read_path,
-    read_settings, read_text, set_option, split_text, try_put,
+    Applied, FromFault, Options, SetByName, SettingValue, Settings, add_tag, assign, assign_some,
+    one_event, read_path, read_settings, read_text, set_option, split_text, try_put,
 };
 use std::alloc::{AllocError, Global};
 
@@ -43,12 +43,11 @@ impl SetByName for SplitFilter {
 
     fn set(&mut self, alloc: Global, name: &str, value: &SettingValue) -> Result<(), FromFault> {
         match name {
-            "field" => self.field = read_path(alloc, name, value)?,
-            "terminator" => self.terminator = read_text(alloc, name, value)?,
-            "target" => self.target = Some(read_path(alloc, name, value)?),
-            _ => set_option(&mut self.options, alloc, name, value)?,
+            "field" => assign(&mut self.field, read_path(alloc, name, value)),
+            "terminator" => assign(&mut self.terminator, read_text(alloc, name, value)),
+            "target" => assign_some(&mut self.target, read_path(alloc, name, value)),
+            _ => set_option(&mut self.options, alloc, name, value),
         }
-        Ok(())
     }
 }
 
@@ -149,9 +148,16 @@ impl SplitFilter {
     {
         let mut events = Events::with_capacity(pieces.allocator(), pieces.len())?;
         for piece in pieces.into_vec() {
-            events.push(self.with_piece(rest.copy()?, piece)?)?;
+            events.push(self.copy_with(rest, piece)?)?;
         }
         Ok(events)
+    }
+
+    fn copy_with(&self, rest: &Event, piece: Value) -> Result<Event, AllocError>
+        ensures { IfOk result (λ event. event ≡ spec.event_of self.now rest.now piece) }
+    {
+        let copy = rest.copy()?;
+        self.with_piece(copy, piece)
     }
 
     fn with_piece(&self, rest: Event, piece: Value) -> Result<Event, AllocError>
