@@ -29,13 +29,24 @@ pub fn one_row(
     ensures { IfOk result (λ row. row ≡ spec.one_row separator quote text.now) }
 {
     let mut reader = reader_of(alloc, text, separator, quote);
+    only_row(alloc, &mut reader)
+}
+
+/// The fields of the row that a reader gives, where it gives that row alone.
+fn only_row(alloc: Global, reader: &mut Reader<&[u8]>) -> Result<Option<Names>, AllocError>
+    ensures { (separator quote : ℕ) (text : List ℕ)
+        → readers.Stands (λ source. Some source.now) (strip_bom text) reader.old
+        → reader_config reader.old ≡ spec.form separator quote
+        → reader_state reader.old ≡ st.StartRecord
+        → IfOk result (λ row. row ≡ spec.one_row separator quote text) }
+{
     let mut row = StringRecord::new(alloc);
-    match read_next(&mut reader, &mut row)? {
+    match read_next(reader, &mut row)? {
         Next::Row => {}
         Next::NoText | Next::End => return Ok(None),
     }
     let mut other = StringRecord::new(alloc);
-    match read_next(&mut reader, &mut other)? {
+    match read_next(reader, &mut other)? {
         Next::End => Ok(Some(fields(alloc, &row)?)),
         Next::Row | Next::NoText => Ok(None),
     }

@@ -1,26 +1,6 @@
-use Rattle.std.proofs.Common.{◌∙◌, sym, ap, Some}
-use Rattle.csv.specs.Reading.{strip_bom}
-use Rattle.csv_row.proofs.Rowing.{behind, refused, others, alone}
 use Rattle.csv_row.proofs.one_row.Goals as goal
-
-pub returns-in-NoText : goal.returns-in-NoText
-returns-in-NoText c =
-    let reader = c.reader_of-reader.ensures in
-    let says = c.in_ok-read_next.ensures (strip_bom c.args.text.now) reader.stands in
-    sym (refused _ c.args.separator c.args.quote c.args.text.now _ _ _ _ reader.config reader.state c.in-NoText.is says)
-
-pub returns-in-End : goal.returns-in-End
-returns-in-End c =
-    let reader = c.reader_of-reader.ensures in
-    let says = rw c.in-Row.is at c.in_ok-read_next.ensures (strip_bom c.args.text.now) reader.stands in
-    let (p, is, found) = behind _ _ _ _ _ says in
-    let then_says = c.in_ok-read_next-2.ensures p.2 found.stands in
-    ap Some c.in_ok-fields-in-End.ensures ∙ sym (alone _ c.args.separator c.args.quote c.args.text.now _ _ _ _ _ p _ reader.config reader.state is found then_says c.in-End.is)
 
 pub returns : goal.returns
 returns c =
     let reader = c.reader_of-reader.ensures in
-    let says = rw c.in-Row.is at c.in_ok-read_next.ensures (strip_bom c.args.text.now) reader.stands in
-    let (p, is, found) = behind _ _ _ _ _ says in
-    let then_says = c.in_ok-read_next-2.ensures p.2 found.stands in
-    sym (others _ c.args.separator c.args.quote c.args.text.now _ _ _ _ _ p _ reader.config reader.state is found then_says c.in-Row-2.is)
+    c.only_row.ensures c.args.separator c.args.quote c.args.text.now reader.stands reader.config reader.state
