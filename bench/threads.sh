@@ -5,7 +5,7 @@
 # four workers on four processors do less than three times the jobs of one. Needs cc.
 . "$(dirname "$0")/common.sh"
 
-build bench_threads
+build bench_parts
 cc -O2 -pthread -o "$work/threads_calls" "$root/bench/threads_calls.c"
 status=0
 

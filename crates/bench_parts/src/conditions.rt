@@ -81,7 +81,7 @@ fn rounds_that_hold(
 {
     let mut found = 0u64;
     for _ in 0..rounds {
-        if eval(condition, patterns, event).ok()? == Truth::Yes {
+        if matches!(eval(condition, patterns, event).ok()?, Truth::Yes) {
             found = found.wrapping_add(1);
         }
     }

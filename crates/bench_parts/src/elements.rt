@@ -10,12 +10,15 @@ pub fn run(alloc: Global, words: &[String]) -> Option<u64> {
         return None;
     };
     let rounds = rounds.as_str().parse::<u32>().ok()?;
-    let event = event(alloc)?;
+    coded(alloc, &event(alloc)?, call.as_str(), rounds)
+}
+
+fn coded(alloc: Global, event: &Event, call: &str, rounds: u32) -> Option<u64> {
     let mut bytes = Vec::new(alloc);
-    encode(&event, &mut bytes).ok()?;
-    match call.as_str() {
+    encode(event, &mut bytes).ok()?;
+    match call {
         "size" => Some(event.size()),
-        "encode" => encodes(&event, &mut bytes, rounds),
+        "encode" => encodes(event, &mut bytes, rounds),
         _ => decodes(alloc, &bytes, rounds),
     }
 }
@@ -23,65 +26,75 @@ pub fn run(alloc: Global, words: &[String]) -> Option<u64> {
 /// An event like that of a line of an access log.
 pub(crate) fn event(alloc: Global) -> Option<Event> {
     let mut event = Event::new(alloc);
-    put_texts(alloc, &mut event)?;
-    put_numbers(alloc, &mut event)?;
-    put_moment(alloc, &mut event)?;
+    fill(alloc, &mut event)?;
     Some(event)
 }
 
+fn fill(alloc: Global, event: &mut Event) -> Option<()> {
+    put_texts(alloc, event)?;
+    put_numbers(alloc, event)?;
+    put_moment(alloc, event)
+}
+
+/// The texts of the event, with their paths.
+const TEXTS: [(&str, &str); 13] = [
+    ("@version", "1"),
+    (
+        "message",
+        "10.1.2.3 - alice [05/Mar/2024:00:00:00 +0000] \"GET /shop/item/1234?page=5 HTTP/1.1\" 200 48213 \"https://example.org/list/77\" \"Mozilla/5.0 (X11; Linux x86_64) Firefox/115.0\"",
+    ),
+    ("[host][name]", "web-07.example.org"),
+    ("[source][address]", "10.1.2.3"),
+    ("[user][name]", "alice"),
+    ("[url][original]", "/shop/item/1234?page=5"),
+    ("[url][query]", "page=5"),
+    ("[http][request][method]", "GET"),
+    ("[http][request][referrer]", "https://example.org/list/77"),
+    ("[http][version]", "1.1"),
+    (
+        "[user_agent][original]",
+        "Mozilla/5.0 (X11; Linux x86_64) Firefox/115.0",
+    ),
+    ("[event][dataset]", "nginx.access"),
+    ("[log][file][path]", "/var/log/nginx/access.log"),
+];
+
+/// Its numbers.
+const NUMBERS: [(&str, i64, u8); 5] = [
+    ("[http][response][status]", 200, 0),
+    ("[http][response][bytes]", 48_213, 0),
+    ("[http][duration]", 12_375, 6),
+    ("[geo][latitude]", 5_221_437, 5),
+    ("[geo][longitude]", -174_412, 5),
+];
+
 fn put_texts(alloc: Global, event: &mut Event) -> Option<()> {
-    for (path, text) in texts() {
-        let path = Path::read(alloc, path).ok()?;
+    for (path, text) in &TEXTS {
         let text = Text::of(alloc, text).ok()?;
-        event.put(&path, Value::Text(text)).ok()?;
+        put(alloc, event, path, Value::Text(text))?;
     }
     Some(())
 }
 
 fn put_numbers(alloc: Global, event: &mut Event) -> Option<()> {
-    for (path, mantissa, scale) in [
-        ("[http][response][status]", 200, 0),
-        ("[http][response][bytes]", 48_213, 0),
-        ("[http][duration]", 12_375, 6),
-        ("[geo][latitude]", 5_221_437, 5),
-        ("[geo][longitude]", -174_412, 5),
-    ] {
-        let number = Number::new(mantissa, scale)?;
-        let path = Path::read(alloc, path).ok()?;
-        event.put(&path, Value::Num(number)).ok()?;
+    for (path, mantissa, scale) in &NUMBERS {
+        put(
+            alloc,
+            event,
+            path,
+            Value::Num(Number::new(*mantissa, *scale)?),
+        )?;
     }
     Some(())
 }
 
 fn put_moment(alloc: Global, event: &mut Event) -> Option<()> {
     let moment = Instant::from_nanos(1_709_596_800_123_000_000)?;
-    let path = Path::read(alloc, "@timestamp").ok()?;
-    event.put(&path, Value::Time(moment)).ok()?;
-    Some(())
+    put(alloc, event, "@timestamp", Value::Time(moment))
 }
 
-fn texts() -> [(&'static str, &'static str); 13] {
-    [
-        ("@version", "1"),
-        (
-            "message",
-            "10.1.2.3 - alice [05/Mar/2024:00:00:00 +0000] \"GET /shop/item/1234?page=5 HTTP/1.1\" 200 48213 \"https://example.org/list/77\" \"Mozilla/5.0 (X11; Linux x86_64) Firefox/115.0\"",
-        ),
-        ("[host][name]", "web-07.example.org"),
-        ("[source][address]", "10.1.2.3"),
-        ("[user][name]", "alice"),
-        ("[url][original]", "/shop/item/1234?page=5"),
-        ("[url][query]", "page=5"),
-        ("[http][request][method]", "GET"),
-        ("[http][request][referrer]", "https://example.org/list/77"),
-        ("[http][version]", "1.1"),
-        (
-            "[user_agent][original]",
-            "Mozilla/5.0 (X11; Linux x86_64) Firefox/115.0",
-        ),
-        ("[event][dataset]", "nginx.access"),
-        ("[log][file][path]", "/var/log/nginx/access.log"),
-    ]
+fn put(alloc: Global, event: &mut Event, path: &str, value: Value) -> Option<()> {
+    event.put(&Path::read(alloc, path).ok()?, value).ok()
 }
 
 fn encodes(event: &Event, bytes: &mut Vec<u8>, rounds: u32) -> Option<u64> {

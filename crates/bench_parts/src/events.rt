@@ -12,9 +12,13 @@ pub fn run(alloc: Global, words: &[String]) -> Option<u64> {
         return None;
     };
     let rounds = rounds.as_str().parse::<u32>().ok()?;
+    made(alloc, call.as_str(), rounds)
+}
+
+fn made(alloc: Global, call: &str, rounds: u32) -> Option<u64> {
     let paths = paths(alloc)?;
     let mut event = event(alloc, &paths)?;
-    match call.as_str() {
+    match call {
         "get" => Some(gets(&event, &paths, rounds)),
         "put" => puts(alloc, &mut event, &paths, rounds),
         "take" => takes(&mut event, &paths, rounds),
@@ -26,15 +30,18 @@ pub fn run(alloc: Global, words: &[String]) -> Option<u64> {
 fn paths(alloc: Global) -> Option<Vec<Path>> {
     let mut paths = Vec::new(alloc);
     for i in 0..FIELDS {
-        let text = if i % 2 == 0 {
-            format!(in alloc; "field{i:02}").ok()?
-        } else {
-            format!(in alloc; "[group][field{i:02}]").ok()?
-        };
-        let path = Path::read(alloc, text.as_str()).ok()?;
-        paths.push(path).ok()?;
+        paths.push(path(alloc, i)?).ok()?;
     }
     Some(paths)
+}
+
+fn path(alloc: Global, i: u8) -> Option<Path> {
+    let text = if i % 2 == 0 {
+        format!(in alloc; "field{i:02}").ok()?
+    } else {
+        format!(in alloc; "[group][field{i:02}]").ok()?
+    };
+    Path::read(alloc, text.as_str()).ok()
 }
 
 fn event(alloc: Global, paths: &[Path]) -> Option<Event> {

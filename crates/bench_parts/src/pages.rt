@@ -25,13 +25,11 @@ pub fn run(rt: &HostRuntime, words: &[String]) -> Option<u64> {
     let rows = rows.as_str().parse::<u32>().ok()?;
     let every = every.as_str().parse::<u32>().ok()?;
     let mut store = FileStore::new(rt.alloc(), rt);
-    match call.as_str() {
-        "write" => {
-            let event = elements::event(rt.alloc())?;
-            write(rt.alloc(), &mut store, file.as_str(), &event, rows, every)
-        }
-        _ => scan(rt.alloc(), &mut store, file.as_str(), rows),
+    if call.as_str() != "write" {
+        return scan(rt.alloc(), &mut store, file.as_str(), rows);
     }
+    let event = elements::event(rt.alloc())?;
+    write(rt.alloc(), &mut store, file.as_str(), &event, rows, every)
 }
 
 /// How a page with so many rows from number 1 on is recorded.

@@ -438,9 +438,13 @@ for table in (
     calls,
 ):
     table()
+# What is told of settings stands behind these tables, and was worked out by hand.
+with open("../stdout", encoding="utf-8", newline="") as stdout:
+    _, settings, answers = stdout.read().partition("# words\n")
 with open("../stdout", "w", encoding="utf-8", newline="") as stdout:
     for name, rows in ROWS.items():
         with open(name, "w", encoding="utf-8", newline="") as file:
             file.writelines(f"{row}\n" for row, _ in rows)
         stdout.write(f"# {name}\n")
         stdout.writelines(f"{answer}\n" for _, answer in rows)
+    stdout.write(settings + answers)

@@ -8,16 +8,25 @@
 //!   that a write takes, and the calls that fail. Calls are counted from 0, commas stand between numbers, and `-` is none.
 //! - `tests`: `STDOUT, STDERR | WORDS`: the test of the configuration that the words name.
 //! - `calls`: words, and the call that they are for, with how many workers they want.
+//! - `words`: the words of a command line, around blanks, and what they order. A row without bytes has no words.
+//! - `pipelines`: a text that is read as `pipelines.yml`, with the orders of no words.
+//! - `defaults`: words, ` => `, and such a text, with the orders of those words.
+//! - `paths`: a pattern, a blank and a name, and whether the pattern stands for the name.
 //!
-//! Words have ` & ` between them. In words and bytes `%HEX;` are bytes in base 16, and `%COUNT*TEXT;` is a text so many times;
+//! In the first three words have ` & ` between them. In words and bytes `%HEX;` are bytes in base 16, and `%COUNT*TEXT;` is a text so many times;
 //! in what is told `%0a;` is a line feed, and a character that stands more than eight times in a row is told as such a text.
 //! The clock shows 2024-01-01T00:00:00Z.
 //!
-//! `data/rows.py` made the tables and `stdout` from the rules of lines and rows, and of what is flushed when.
+//! `data/rows.py` made the tables and `stdout` from the rules of lines and rows, and of what is flushed when; but for the last
+//! four. In their rows `%n`, `%r`, `%t` and `%s` are a line feed, a carriage return, a tab and a blank, `%e` is nothing, `%p` is
+//! `%`, `%x` is the byte 255, which is no text, and `%(N*TEXT)` is a text so many times, and their answers were worked out by hand
+//! from the tables of options and keys in `docs/settings.md`, and from what a `*` stands for.
 #![tactic(auto)]
 
+mod marked;
 mod objects;
 mod runs;
+mod settings;
 mod told;
 mod words;
 mod written;
@@ -32,9 +41,13 @@ enum Table {
     Runs,
     Tests,
     Calls,
+    Words,
+    Pipelines,
+    Defaults,
+    Paths,
 }
 
-const TABLES: [(&str, Table); 12] = [
+const TABLES: [(&str, Table); 16] = [
     ("texts", Table::Runs),
     ("lines", Table::Runs),
     ("words_refused", Table::Runs),
@@ -47,6 +60,10 @@ const TABLES: [(&str, Table); 12] = [
     ("defined", Table::Runs),
     ("tests", Table::Tests),
     ("calls", Table::Calls),
+    ("words", Table::Words),
+    ("pipelines", Table::Pipelines),
+    ("defaults", Table::Defaults),
+    ("paths", Table::Paths),
 ];
 
 fn main(rt: HostRuntime) -> io::Result<()> {
@@ -67,5 +84,9 @@ fn add_answer<R: Wait>(rt: &R, to: &mut String, table: Table, row: &str) -> Resu
         Table::Runs => runs::add_run(rt, to, row),
         Table::Tests => words::add_test(to, row),
         Table::Calls => words::add_call(to, row),
+        Table::Words => settings::add_words(to, row),
+        Table::Pipelines => settings::add_pipelines(to, "", row),
+        Table::Defaults => settings::add_defaults(to, row),
+        Table::Paths => settings::add_match(to, row),
     }
 }

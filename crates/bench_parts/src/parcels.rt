@@ -1,4 +1,4 @@
-//! Parcels there and back on a link between two threads.
+//! Parcels there and back on a link between two threads (bench/threads.sh).
 
 ghost use Rattle.std.specs.Prelude.{◌≡◌, IfOk, IfSome, length};
 ghost use Rattle.pipeline_bus.specs.Parcels.{with_events};
@@ -11,12 +11,13 @@ use std::alloc::{AllocError, Global};
 use std::thread::Threads;
 use std::{hint, io, thread};
 
-/// How many parcels these words order, if they do.
-pub fn read(words: &[String]) -> Option<u64> {
+/// Sends as many parcels as these words order, and gives how many answers were heard.
+pub fn run<R: Threads>(rt: &R, alloc: Global, words: &[String]) -> Option<u64> {
     let [parcels] = words else {
         return None;
     };
-    parcels.as_str().parse::<u32>().ok().map(u64::from)
+    let parcels = parcels.as_str().parse::<u32>().ok()?;
+    there_and_back(rt, alloc, u64::from(parcels)).ok()?
 }
 
 /// A parcel with one empty event.
@@ -67,7 +68,7 @@ fn start_taker<R: Threads>(rt: &R, taker: LinkTaker, parcels: u64) -> io::Result
 }
 
 /// Sends so many parcels to a thread that answers each, and gives how many answers were heard.
-pub fn there_and_back<R: Threads>(rt: &R, alloc: Global, parcels: u64) -> io::Result<Option<u64>> {
+fn there_and_back<R: Threads>(rt: &R, alloc: Global, parcels: u64) -> io::Result<Option<u64>> {
     let (sender, taker) = Link::pair(alloc)?;
     start_taker(rt, taker, parcels)?;
     Ok(send(alloc, sender, parcels))

@@ -1,7 +1,7 @@
 use Rattle.std.proofs.Common.{◌≡◌, ◌≤◌, ◌-◌}
 use Rattle.pipeline_bus.specs.Ends.{sending}
 use Rattle.pipeline_bus.specs.Parcels.{with_events}
-use Rattle.bench_threads.proofs.parcels.send.Given as goal
+use Rattle.bench_parts.proofs.parcels.send.Given as goal
 
 abbrev pub invariant-loop-number : goal.invariant-loop-number
 invariant-loop-number l = (with_events (sending l.sender).sent ≡ l.number) × (l.number ≤ l.parcels)

@@ -1,4 +1,6 @@
-use crate::rows::{text_in, words_of};
+//! What operators set, by command lines and by texts of `pipelines.yml`.
+
+use crate::marked::{text_in, words_of};
 use logstash_settings::{
     ConfigSource, Orders, PipelineSettings, Policy, QueueTool, SettingsFault, WordsFault,
     read_pipelines, read_words,
@@ -70,11 +72,9 @@ fn add_each(to: &mut String, pipelines: &[PipelineSettings]) -> Result<(), Alloc
 
 fn add_pipeline(to: &mut String, settings: &PipelineSettings) -> Result<(), AllocError> {
     add_text(to, settings.pipeline_id.as_str())?;
-    to.push(' ')?;
-    add_source(to, &settings.source)?;
-    to.push_str(" in ")?;
-    add_text(to, settings.path_data.as_str())?;
-    add_numbers(to, settings)?;
+    add_source(to, " ", &settings.source)?;
+    add_named(to, " in ", settings.path_data.as_str())?;
+    add_numbers(to, &numbers_of(settings))?;
     to.push_str(if settings.drain { " drain" } else { "" })?;
     to.push_str(match settings.storage_policy {
         Policy::Hold => " hold",
@@ -83,38 +83,50 @@ fn add_pipeline(to: &mut String, settings: &PipelineSettings) -> Result<(), Allo
     })
 }
 
-fn add_numbers(to: &mut String, settings: &PipelineSettings) -> Result<(), AllocError> {
-    let workers = settings.workers;
-    let batch = settings.batch;
-    write!(to, " {workers} {batch}")?;
-    let page = settings.page_capacity;
-    let most = settings.max_bytes;
-    write!(to, " {page} {most}")?;
-    let writes = settings.checkpoint_writes;
-    let acks = settings.checkpoint_acks;
-    write!(to, " {writes} {acks}")?;
-    let dead = settings.dead_max_bytes;
-    write!(to, " {dead}")
+fn numbers_of(settings: &PipelineSettings) -> [u64; 7] {
+    [
+        u64::from(settings.workers),
+        u64::from(settings.batch),
+        settings.page_capacity,
+        settings.max_bytes,
+        u64::from(settings.checkpoint_writes),
+        u64::from(settings.checkpoint_acks),
+        settings.dead_max_bytes,
+    ]
+}
+
+fn add_numbers(to: &mut String, numbers: &[u64]) -> Result<(), AllocError> {
+    for number in numbers {
+        write!(to, " {number}")?;
+    }
+    Ok(())
 }
 
 fn add_orders(to: &mut String, orders: &Orders) -> Result<(), AllocError> {
     match &orders.tool {
-        None => add_source(to, &orders.source)?,
+        None => add_source(to, "", &orders.source)?,
         Some(QueueTool::Check(id)) => add_named(to, "check ", id.as_str())?,
         Some(QueueTool::Repair(id)) => add_named(to, "repair ", id.as_str())?,
     }
+    add_flags(to, orders)?;
+    add_numbers(to, &[u64::from(orders.workers), u64::from(orders.batch)])?;
+    add_paths(to, orders)
+}
+
+fn add_flags(to: &mut String, orders: &Orders) -> Result<(), AllocError> {
     to.push_str(if orders.test { " test" } else { "" })?;
     to.push_str(if orders.reload { " reload" } else { "" })?;
-    to.push_str(if orders.apart { " apart" } else { "" })?;
-    let workers = orders.workers;
-    let batch = orders.batch;
-    write!(to, " {workers} {batch} ")?;
-    add_text(to, orders.path_data.as_str())?;
+    to.push_str(if orders.apart { " apart" } else { "" })
+}
+
+fn add_paths(to: &mut String, orders: &Orders) -> Result<(), AllocError> {
+    add_named(to, " ", orders.path_data.as_str())?;
     add_named(to, " ", orders.path_settings.as_str())?;
     add_named(to, " ", orders.pipeline_id.as_str())
 }
 
-fn add_source(to: &mut String, source: &ConfigSource) -> Result<(), AllocError> {
+fn add_source(to: &mut String, before: &str, source: &ConfigSource) -> Result<(), AllocError> {
+    to.push_str(before)?;
     match source {
         ConfigSource::Text(text) => add_named(to, "text ", text.as_str()),
         ConfigSource::Path(path) => add_named(to, "path ", path.as_str()),

@@ -1,4 +1,4 @@
-//! Adds to a counter of a monitor.
+//! Adds to a counter of a monitor (bench/threads.sh).
 
 use monitor_core::{Counter, Monitor, MonitorOpen};
 use std::alloc::Global;

@@ -1,3 +1,5 @@
+//! Words and texts as they stand in the rows of what operators set.
+
 use byte_lines::text_of_bytes;
 use std::alloc::{AllocError, Global};
 
@@ -28,21 +30,30 @@ pub fn text_in(alloc: Global, row: &str) -> Result<String, AllocError> {
 
 /// Adds what stands behind a `%`.
 fn add_marked(to: &mut Vec<u8>, piece: &str) -> Result<(), AllocError> {
-    match piece.as_bytes() {
-        [b'n', rest @ ..] => add(to, b"\n", rest),
-        [b'r', rest @ ..] => add(to, b"\r", rest),
-        [b't', rest @ ..] => add(to, b"\t", rest),
-        [b's', rest @ ..] => add(to, b" ", rest),
-        [b'p', rest @ ..] => add(to, b"%", rest),
-        [b'x', rest @ ..] => add(to, b"\xff", rest),
-        [b'e', rest @ ..] => add(to, b"", rest),
-        _ => add_repeated(to, piece),
+    let [mark, rest @ ..] = piece.as_bytes() else {
+        return Ok(());
+    };
+    match mark_of(*mark) {
+        Some(meant) => {
+            to.extend_from_slice(meant)?;
+            to.extend_from_slice(rest)
+        }
+        None => add_repeated(to, piece),
     }
 }
 
-fn add(to: &mut Vec<u8>, first: &[u8], rest: &[u8]) -> Result<(), AllocError> {
-    to.extend_from_slice(first)?;
-    to.extend_from_slice(rest)
+/// The bytes that a mark means; none of one that means no bytes of its own.
+fn mark_of(mark: u8) -> Option<&'static [u8]> {
+    match mark {
+        b'n' => Some(b"\n"),
+        b'r' => Some(b"\r"),
+        b't' => Some(b"\t"),
+        b's' => Some(b" "),
+        b'p' => Some(b"%"),
+        b'x' => Some(b"\xff"),
+        b'e' => Some(b""),
+        _ => None,
+    }
 }
 
 /// Adds `(N*TEXT)`, and what stands behind it.

@@ -1,4 +1,4 @@
-//! Jobs through a `ThreadShop`.
+//! Jobs through a `ThreadShop` (bench/threads.sh).
 
 ghost use Rattle.std.specs.Prelude.{⊤};
 
@@ -37,10 +37,13 @@ pub struct Order {
 
 impl Order {
     /// The order that these words are, if they are one.
-    pub fn read(words: &[String]) -> Option<Order> {
+    pub fn read(part: &str, words: &[String]) -> Option<Order> {
         let [workers, turns, jobs] = words else {
             return None;
         };
+        if part != "jobs" {
+            return None;
+        }
         Some(Order {
             workers: workers.as_str().parse::<u32>().ok()?,
             turns: turns.as_str().parse::<u32>().ok()?,
