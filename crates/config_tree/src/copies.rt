@@ -136,9 +136,10 @@ fn copy_arm(arm: &Arm) -> Result<Arm, AllocError>
     ensures { IfOk result (λ copy. copy ≡ arm.now) }
 {
     let alloc = arm.block.allocator();
+    let block = copy_statements(alloc, arm.block.as_slice())?;
     Ok(Arm {
         condition: copy_test(alloc, &arm.condition)?,
-        block: copy_statements(alloc, arm.block.as_slice())?,
+        block,
     })
 }
 

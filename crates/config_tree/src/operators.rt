@@ -2,28 +2,27 @@
 
 ghost use Rattle.std.specs.Prelude.{◌≡◌, ◌∷◌, ◌++◌, [], IfOk};
 ghost use Rattle.config_tree.specs.Joints as joints;
-ghost use Rattle.config_tree.specs.declared.tree.Condition.TheVariants as condition;
 
 use crate::tree::Condition;
 use plain_data::{Boxed, Items};
 use std::alloc::{AllocError, Global};
 
 /// The joints that bind more tightly.
-#[derive(Clone, Copy, Debug, PartialEq, Eq)]
+#[derive(Clone, Copy, PartialEq, Eq)]
 pub enum Conjunction {
     And,
     Nand,
 }
 
 /// The joints that bind less tightly.
-#[derive(Clone, Copy, Debug, PartialEq, Eq)]
+#[derive(Clone, Copy, PartialEq, Eq)]
 pub enum Disjunction {
     Or,
     Xor,
 }
 
 /// `==`, `!=`, `<`, `>`, `<=` and `>=`.
-#[derive(Clone, Copy, Debug, PartialEq, Eq)]
+#[derive(Clone, Copy, PartialEq, Eq)]
 pub enum Comparison {
     Equal,
     Unequal,
@@ -34,7 +33,7 @@ pub enum Comparison {
 }
 
 /// `=~` and `!~`.
-#[derive(Clone, Copy, Debug, PartialEq, Eq)]
+#[derive(Clone, Copy, PartialEq, Eq)]
 pub enum Matching {
     Matches,
     MatchesNot,
@@ -52,13 +51,15 @@ impl Condition {
         ensures { IfOk result (λ joined. joined ≡ joints.conjoined joint left right) }
     {
         match left {
-            Condition::Conjoined(first, rest) => conjoin(first, rest, joint, right),
-            other => conjoin(
-                Boxed::new(alloc, other)?,
-                Items::with_capacity(alloc, 1)?,
-                joint,
-                right,
-            ),
+            Condition::Conjoined(first, rest) => Ok(Condition::Conjoined(
+                first,
+                with_conjunct(rest, joint, right)?,
+            )),
+            other => {
+                let first = Boxed::new(alloc, other);
+                let rest = with_conjunct(Items::new(alloc), joint, right)?;
+                Ok(Condition::Conjoined(first?, rest))
+            }
         }
     }
 
@@ -73,40 +74,40 @@ impl Condition {
         ensures { IfOk result (λ joined. joined ≡ joints.disjoined joint left right) }
     {
         match left {
-            Condition::Disjoined(first, rest) => disjoin(first, rest, joint, right),
-            other => disjoin(
-                Boxed::new(alloc, other)?,
-                Items::with_capacity(alloc, 1)?,
-                joint,
-                right,
-            ),
+            Condition::Disjoined(first, rest) => Ok(Condition::Disjoined(
+                first,
+                with_disjunct(rest, joint, right)?,
+            )),
+            other => {
+                let first = Boxed::new(alloc, other);
+                let rest = with_disjunct(Items::new(alloc), joint, right)?;
+                Ok(Condition::Disjoined(first?, rest))
+            }
         }
     }
 }
 
-// These conditions, with one more behind its joint.
-fn conjoin(
-    first: Boxed<Condition>,
-    rest: Items<(Conjunction, Condition)>,
+// A row with one more condition behind its joint.
+fn with_conjunct(
+    row: Items<(Conjunction, Condition)>,
     joint: Conjunction,
-    right: Condition,
-) -> Result<Condition, AllocError>
-    ensures { IfOk result (λ joined. joined ≡ condition.Conjoined first (rest ++ (joint, right) ∷ [])) }
+    condition: Condition,
+) -> Result<Items<(Conjunction, Condition)>, AllocError>
+    ensures { IfOk result (λ longer. longer ≡ row ++ (joint, condition) ∷ []) }
 {
-    let mut rest = rest;
-    rest.push((joint, right))?;
-    Ok(Condition::Conjoined(first, rest))
+    let mut longer = row;
+    longer.push((joint, condition))?;
+    Ok(longer)
 }
 
-fn disjoin(
-    first: Boxed<Condition>,
-    rest: Items<(Disjunction, Condition)>,
+fn with_disjunct(
+    row: Items<(Disjunction, Condition)>,
     joint: Disjunction,
-    right: Condition,
-) -> Result<Condition, AllocError>
-    ensures { IfOk result (λ joined. joined ≡ condition.Disjoined first (rest ++ (joint, right) ∷ [])) }
+    condition: Condition,
+) -> Result<Items<(Disjunction, Condition)>, AllocError>
+    ensures { IfOk result (λ longer. longer ≡ row ++ (joint, condition) ∷ []) }
 {
-    let mut rest = rest;
-    rest.push((joint, right))?;
-    Ok(Condition::Disjoined(first, rest))
+    let mut longer = row;
+    longer.push((joint, condition))?;
+    Ok(longer)
 }
