@@ -4,7 +4,6 @@ use plain_data::{Items, Text};
 use std::alloc::{AllocError, Global};
 
 /// A call of a store, with what it was given.
-#[derive(Debug, PartialEq, Eq, Drop)]
 pub enum Call {
     /// The names in this folder were asked for.
     List(Text),
@@ -78,8 +77,24 @@ impl Call {
     }
 }
 
+// Written out, so that a proof sees one call wherever a call of a store is dropped, and not the drop of each variant.
+impl Drop for Call {
+    fn drop(self) {
+        match self {
+            Call::List(_folder) => {}
+            Call::Length(_name) => {}
+            Call::Read(_name, _) => {}
+            Call::Append(_name, _bytes) => {}
+            Call::WriteAt(_name, _, _bytes) => {}
+            Call::Cut(_name, _) => {}
+            Call::Remove(_name) => {}
+            Call::Sync => {}
+        }
+    }
+}
+
 /// A call as the log has it.
-#[derive(Debug, PartialEq, Eq, Drop)]
+#[derive(Drop)]
 pub struct Logged {
     pub call: Call,
     /// Whether it did its work. A call that failed changed nothing.

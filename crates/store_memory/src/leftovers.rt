@@ -14,7 +14,7 @@ use io_memory::{Table, copy, cut_in, length_in, remove_in, write_in};
 use std::alloc::{AllocError, Global};
 
 /// What becomes of a change that no sync settled.
-#[derive(Clone, Copy, Debug, PartialEq, Eq)]
+#[derive(Clone, Copy, PartialEq, Eq)]
 pub enum Left {
     /// It is there as a whole.
     Kept,
