@@ -1,5 +1,5 @@
 /// A part of a time that is written in one or two digits.
-#[derive(Clone, Copy, Debug, PartialEq, Eq)]
+#[derive(Clone, Copy)]
 pub enum TimeField {
     Month,
     Day,
@@ -9,7 +9,7 @@ pub enum TimeField {
 }
 
 /// An item of a format of times, by what it reads of a text.
-#[derive(Clone, Copy, Debug, PartialEq, Eq)]
+#[derive(Clone, Copy)]
 pub enum TimeItem {
     /// A year in exactly four digits.
     Year,

@@ -9,7 +9,7 @@ use time_instant::Instant;
 
 /// The parts of a time, as a text writes them: a civil date and a time of day, and the offset from UTC at which a clock
 /// shows them.
-#[derive(Clone, Copy, Debug, PartialEq, Eq)]
+#[derive(Clone, Copy)]
 pub struct TimeParts {
     /// None where the text writes no year.
     pub year: Option<u32>,

@@ -19,7 +19,7 @@ use std::alloc::{AllocError, Global};
 const MAX_ENTRIES: usize = 16;
 
 /// What is read of an entry.
-#[derive(Debug, Drop)]
+#[derive(Drop)]
 pub(crate) struct Entry<'a> {
     /// The number of its first line.
     pub(crate) number: usize,

@@ -7,7 +7,7 @@ use std::error::Error;
 use std::fmt;
 
 /// Why a line of `pipelines.yml` is refused, but for its key and its value.
-#[derive(Clone, Copy, Debug, PartialEq, Eq)]
+#[derive(Clone, Copy, Debug)]
 pub enum LineFault {
     /// It is no blank line, no comment, and no key with a scalar; or it stands before the first entry.
     Form,
@@ -25,7 +25,7 @@ pub enum LineFault {
 
 /// Why a text is refused as `pipelines.yml`: the first line at fault by its number, from 1 on. A line with several faults
 /// has the first of them in the order `Form`, `KeyTwice`, `NoId`, `NoConfiguration`, `TooMany`, `Unknown`, `Range`.
-#[derive(Debug, PartialEq, Eq, Drop)]
+#[derive(Debug, Drop)]
 pub enum SettingsFault {
     /// This line is refused.
     Line(usize, LineFault),

@@ -6,7 +6,7 @@ ghost use Rattle.settings_lines.specs.Lines as spec;
 ghost use Rattle.settings_lines.specs.Pairs.{pair_view};
 
 /// The key and the scalar of a line.
-#[derive(Clone, Copy, Debug)]
+#[derive(Clone, Copy)]
 pub(crate) struct Pair<'a> {
     pub(crate) key: &'a str,
     pub(crate) scalar: &'a str,

@@ -1,7 +1,7 @@
 use plain_data::Text;
 
 /// Where the configuration of a pipeline is.
-#[derive(Debug, PartialEq, Eq, Drop)]
+#[derive(Drop)]
 pub enum ConfigSource {
     /// It is this text.
     Text(Text),
@@ -14,7 +14,7 @@ pub enum ConfigSource {
 }
 
 /// A tool for the queue of a pipeline, of this id.
-#[derive(Debug, PartialEq, Eq, Drop)]
+#[derive(Drop)]
 pub enum QueueTool {
     /// Says how many rows the queue has, or where it is damaged.
     Check(Text),
@@ -23,7 +23,7 @@ pub enum QueueTool {
 }
 
 /// What the words of a command line order.
-#[derive(Debug, PartialEq, Eq, Drop)]
+#[derive(Drop)]
 pub struct Orders {
     /// Where the configuration is; `Pipelines` where a tool is ordered.
     pub source: ConfigSource,

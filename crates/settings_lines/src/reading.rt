@@ -15,7 +15,7 @@ use plain_data::Items;
 use std::alloc::Global;
 
 /// What is read of a text: the settings of the entries that are whole, and an entry that may go on.
-#[derive(Debug, Drop)]
+#[derive(Drop)]
 pub(crate) struct Reading<'a> {
     pub(crate) done: Items<PipelineSettings>,
     pub(crate) entry: Option<Entry<'a>>,

@@ -2,7 +2,7 @@ use crate::orders::ConfigSource;
 use plain_data::Text;
 
 /// What becomes of a dead letter for which the queue of dead letters has no room.
-#[derive(Clone, Copy, Debug, PartialEq, Eq)]
+#[derive(Clone, Copy)]
 pub enum Policy {
     /// The run ends, and nothing is lost.
     Hold,
@@ -13,7 +13,7 @@ pub enum Policy {
 }
 
 /// The settings of a pipeline.
-#[derive(Debug, PartialEq, Eq, Drop)]
+#[derive(Drop)]
 pub struct PipelineSettings {
     /// 1 to 64 letters, digits, `_` and `-`.
     pub pipeline_id: Text,

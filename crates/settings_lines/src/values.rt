@@ -13,7 +13,7 @@ use plain_data::Text;
 use std::alloc::{AllocError, Global};
 
 /// The keys of an entry with their values, in the order of the lines. Each key of the table stands once at most.
-#[derive(Debug, Drop)]
+#[derive(Drop)]
 pub(crate) struct Values<'a> {
     pub(crate) pairs: Vec<Pair<'a>>,
 }
