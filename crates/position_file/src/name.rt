@@ -6,7 +6,7 @@ use plain_data::Text;
 use std::alloc::{AllocError, Global};
 
 /// Of what a position file records a position.
-#[derive(Clone, Copy, Debug, PartialEq, Eq)]
+#[derive(Clone, Copy)]
 pub enum PositionOf {
     /// Of a file that is written.
     Output,

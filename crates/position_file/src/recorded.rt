@@ -1,5 +1,5 @@
 /// What a position file records.
-#[derive(Clone, Copy, Debug, PartialEq, Eq)]
+#[derive(Clone, Copy)]
 pub enum Recorded {
     /// No position yet: no slot is intact, and the file is no longer than one.
     Nothing,
