@@ -55,28 +55,52 @@ fn add_answer(
     name: &str,
 ) -> Result<(), FromFault> {
     match reader {
-        "text" => match settings.text(name)? {
-            Some(text) => add_text(to, text)?,
-            None => to.push_str("none")?,
-        },
-        "flag" => match settings.flag(name)? {
-            Some(flag) => write!(to, "{flag}")?,
-            None => to.push_str("none")?,
-        },
-        "number" => match settings.number(name)? {
-            Some(number) => add_number(to, &number)?,
-            None => to.push_str("none")?,
-        },
-        "list" => match settings.list(name)? {
-            Some(values) => add_array(to, values)?,
-            None => to.push_str("none")?,
-        },
-        _ => match settings.hash(name)? {
-            Some(entries) => add_hash(to, entries)?,
-            None => to.push_str("none")?,
-        },
+        "text" => add_text_of(to, settings, name),
+        "flag" => add_flag_of(to, settings, name),
+        "number" => add_number_of(to, settings, name),
+        "list" => add_list_of(to, settings, name),
+        _ => add_hash_of(to, settings, name),
     }
-    Ok(())
+}
+
+fn add_text_of(to: &mut String, settings: &Settings, name: &str) -> Result<(), FromFault> {
+    let found = settings.text(name)?;
+    Ok(match found {
+        Some(text) => add_text(to, text),
+        None => to.push_str("none"),
+    }?)
+}
+
+fn add_flag_of(to: &mut String, settings: &Settings, name: &str) -> Result<(), FromFault> {
+    let found = settings.flag(name)?;
+    Ok(match found {
+        Some(flag) => write!(to, "{flag}"),
+        None => to.push_str("none"),
+    }?)
+}
+
+fn add_number_of(to: &mut String, settings: &Settings, name: &str) -> Result<(), FromFault> {
+    let found = settings.number(name)?;
+    Ok(match found {
+        Some(number) => add_number(to, &number),
+        None => to.push_str("none"),
+    }?)
+}
+
+fn add_list_of(to: &mut String, settings: &Settings, name: &str) -> Result<(), FromFault> {
+    let found = settings.list(name)?;
+    Ok(match found {
+        Some(values) => add_array(to, values),
+        None => to.push_str("none"),
+    }?)
+}
+
+fn add_hash_of(to: &mut String, settings: &Settings, name: &str) -> Result<(), FromFault> {
+    let found = settings.hash(name)?;
+    Ok(match found {
+        Some(entries) => add_hash(to, entries),
+        None => to.push_str("none"),
+    }?)
 }
 
 /// What a refusal of this kind says, of a setting of this name.

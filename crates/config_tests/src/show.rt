@@ -154,7 +154,14 @@ fn matching_sign(matching: Matching) -> &'static str {
     }
 }
 
-fn add_comparison(to: &mut String, left: &Operand, right: &Operand) -> Result<(), AllocError> {
+/// A sign, and behind it the two operands that it joins.
+fn add_comparison(
+    to: &mut String,
+    sign: &str,
+    left: &Operand,
+    right: &Operand,
+) -> Result<(), AllocError> {
+    to.push_str(sign)?;
     to.push('(')?;
     add_operand(to, left)?;
     to.push(',')?;
@@ -162,12 +169,35 @@ fn add_comparison(to: &mut String, left: &Operand, right: &Operand) -> Result<()
     to.push(')')
 }
 
-fn add_matching(to: &mut String, left: &Operand, right: &MatchPattern) -> Result<(), AllocError> {
+fn add_matching(
+    to: &mut String,
+    sign: &str,
+    left: &Operand,
+    right: &MatchPattern,
+) -> Result<(), AllocError> {
+    to.push_str(sign)?;
     to.push('(')?;
     add_operand(to, left)?;
     to.push(',')?;
     add_pattern(to, right)?;
     to.push(')')
+}
+
+/// The signs of a row of joints, from the last one on.
+fn add_conjunctions(to: &mut String, rest: &[(Conjunction, Condition)]) -> Result<(), AllocError> {
+    for part in rest.iter().rev() {
+        to.push_str(conjunction_sign(part.0))?;
+        to.push('(')?;
+    }
+    Ok(())
+}
+
+fn add_disjunctions(to: &mut String, rest: &[(Disjunction, Condition)]) -> Result<(), AllocError> {
+    for part in rest.iter().rev() {
+        to.push_str(disjunction_sign(part.0))?;
+        to.push('(')?;
+    }
+    Ok(())
 }
 
 /// A row of joints is shown as they associate, to the left: `a and b nand c` as `nand(and(a,b),c)`.
@@ -181,48 +211,42 @@ fn add_condition(to: &mut String, found: &Condition) -> Result<(), AllocError> {
             to.push(')')
         }
         Condition::Conjoined(first, rest) => {
-            for part in rest.as_slice().iter().rev() {
-                to.push_str(conjunction_sign(part.0))?;
-                to.push('(')?;
-            }
+            add_conjunctions(to, rest.as_slice())?;
             add_condition(to, first.get())?;
-            for part in rest.as_slice() {
-                to.push(',')?;
-                add_condition(to, &part.1)?;
-                to.push(')')?;
-            }
-            Ok(())
+            add_conjoined(to, rest.as_slice())
         }
         Condition::Disjoined(first, rest) => {
-            for part in rest.as_slice().iter().rev() {
-                to.push_str(disjunction_sign(part.0))?;
-                to.push('(')?;
-            }
+            add_disjunctions(to, rest.as_slice())?;
             add_condition(to, first.get())?;
-            for part in rest.as_slice() {
-                to.push(',')?;
-                add_condition(to, &part.1)?;
-                to.push(')')?;
-            }
-            Ok(())
+            add_disjoined(to, rest.as_slice())
         }
         Condition::Compared(by, left, right) => {
-            to.push_str(comparison_sign(*by))?;
-            add_comparison(to, left, right)
+            add_comparison(to, comparison_sign(*by), left, right)
         }
-        Condition::Matched(by, left, right) => {
-            to.push_str(matching_sign(*by))?;
-            add_matching(to, left, right)
-        }
-        Condition::In(left, right) => {
-            to.push_str("in")?;
-            add_comparison(to, left, right)
-        }
-        Condition::NotIn(left, right) => {
-            to.push_str("not in")?;
-            add_comparison(to, left, right)
-        }
+        Condition::Matched(by, left, right) => add_matching(to, matching_sign(*by), left, right),
+        Condition::In(left, right) => add_comparison(to, "in", left, right),
+        Condition::NotIn(left, right) => add_comparison(to, "not in", left, right),
     }
+}
+
+#[cycle(conditions)]
+fn add_conjoined(to: &mut String, rest: &[(Conjunction, Condition)]) -> Result<(), AllocError> {
+    for part in rest {
+        to.push(',')?;
+        add_condition(to, &part.1)?;
+        to.push(')')?;
+    }
+    Ok(())
+}
+
+#[cycle(conditions)]
+fn add_disjoined(to: &mut String, rest: &[(Disjunction, Condition)]) -> Result<(), AllocError> {
+    for part in rest {
+        to.push(',')?;
+        add_condition(to, &part.1)?;
+        to.push(')')?;
+    }
+    Ok(())
 }
 
 #[cycle(statements)]

@@ -1,21 +1,10 @@
-//! Prints what the calls on events answer in each case of the tables in `data/`, table by table.
-//!
-//! A table is a file. Its cases are what stands between lines `---`, or its lines where there is no such line. The
-//! answers in `stdout` come from the formats' rules and examples, worked out by hand, and from Python's `json` (which
-//! prefixes of a text it can still complete, and what it reads) and `datetime`.
-#![tactic(auto)]
+//! The tables of calls on events. Their answers come from the formats' rules and examples, worked out by hand, and from
+//! Python's `json` (which prefixes of a text it can still complete, and what it reads) and `datetime`.
 
-mod cases;
-mod codecs;
-mod elements;
-mod events;
-mod json;
-mod numbers;
-mod paths;
-
-use cases::cases_of;
+use crate::cases::cases_of;
+use crate::elements::{self, bytes_of};
+use crate::{calls, json, numbers, paths};
 use element_code::ElementFault;
-use elements::bytes_of;
 use event_json::JsonFault;
 use event_tree::{Event, PathFault, PutFault};
 use std::alloc::AllocError;
@@ -65,22 +54,23 @@ const TABLES: [(&str, Table); 24] = [
     ("calls", Table::Calls),
     ("deep_calls", Table::Calls),
     ("large_calls", Table::Calls),
-    ("values", Table::Calls),
-    ("fields", Table::Calls),
+    ("event_values", Table::Calls),
+    ("event_fields", Table::Calls),
     ("dates", Table::Calls),
     ("no_moment", Table::Calls),
     ("no_fields", Table::Calls),
     ("days", Table::Calls),
 ];
 
-fn main(rt: HostRuntime) -> io::Result<()> {
+/// Prints what is answered in each case of the tables of events.
+pub fn print_tables(rt: &HostRuntime) -> io::Result<()> {
     for (name, table) in &TABLES {
-        let text = fs::read_to_string(&rt, *name)?;
+        let text = fs::read_to_string(rt, *name)?;
         println!(rt; "# {name}")?;
-        print_answers(&rt, *table, text.as_str())?;
+        print_answers(rt, *table, text.as_str())?;
     }
     println!(rt; "# want of memory")?;
-    print_want_of_memory(&rt)
+    print_want_of_memory(rt)
 }
 
 fn print_answers(rt: &HostRuntime, table: Table, text: &str) -> io::Result<()> {
@@ -110,7 +100,7 @@ fn add_answer(
         Table::NumberTexts => numbers::add_read(to, case),
         Table::Digits => numbers::add_from_digits(to, case),
         Table::Times => numbers::add_moment(to, case),
-        Table::Calls => events::call(to, event, case),
+        Table::Calls => calls::call(to, event, case),
     }
 }
 

@@ -1,5 +1,5 @@
 use Rattle.std.proofs.Common.{length}
-use Rattle.event_tests.proofs.numbers.+are_digits.Given as goal
+use Rattle.config_tests.proofs.numbers.+are_digits.Given as goal
 
 abbrev pub decreases-are_digits : goal.decreases-are_digits
 decreases-are_digits l = length l.bytes.now
