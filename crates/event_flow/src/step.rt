@@ -1,5 +1,5 @@
 /// One step of a configuration that is laid out flat. Plugins and conditions go by their numbers.
-#[derive(Clone, Copy, Debug, PartialEq, Eq)]
+#[derive(Clone, Copy)]
 pub enum Step {
     /// The event meets the plugin of this number.
     Plugin(u64),

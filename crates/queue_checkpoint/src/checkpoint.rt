@@ -13,7 +13,7 @@ use crc_frame::newest;
 use store_disk::{Failed, PageState, Store};
 
 /// What a checkpoint file says.
-#[derive(Clone, Copy, Debug, PartialEq, Eq)]
+#[derive(Clone, Copy)]
 pub struct Slots {
     /// The turn of the newest intact slot, and what it says of its page.
     pub newest: Option<(u64, PageState)>,
