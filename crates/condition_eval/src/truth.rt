@@ -7,7 +7,7 @@ use std::error::Error;
 use std::fmt;
 
 /// What a condition says of an event.
-#[derive(Debug, PartialEq, Eq, Drop)]
+#[derive(Drop)]
 pub enum Truth {
     Yes,
     No,
@@ -17,7 +17,7 @@ pub enum Truth {
 
 /// Why a condition has no truth of an event, or an event was rejected. Its text is that of a dead
 /// letter.
-#[derive(Debug, PartialEq, Eq, Drop)]
+#[derive(Debug, Drop)]
 pub enum Reason {
     /// Values of these kinds, left and right, have no order.
     Order(Kind, Kind),
@@ -28,7 +28,7 @@ pub enum Reason {
 }
 
 /// The kinds of values.
-#[derive(Clone, Copy, Debug, PartialEq, Eq)]
+#[derive(Clone, Copy, Debug)]
 pub enum Kind {
     Null,
     Boolean,
