@@ -6,7 +6,7 @@ use std::error::Error;
 use std::fmt;
 
 /// An option whose value has a range. Its text is its long word, with the dashes.
-#[derive(Clone, Copy, Debug, PartialEq, Eq)]
+#[derive(Clone, Copy, Debug)]
 pub enum RangedOption {
     /// 1 to 64.
     Workers,
@@ -23,7 +23,7 @@ pub enum RangedOption {
 }
 
 /// Why the words of a command line are refused. Words with several faults have the first of them in this order.
-#[derive(Clone, Copy, Debug, PartialEq, Eq)]
+#[derive(Clone, Copy, Debug)]
 pub enum WordsFault {
     /// The command doesn't take them.
     Unread,

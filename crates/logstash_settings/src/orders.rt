@@ -105,16 +105,16 @@ pub(crate) fn orders(alloc: Global, matches: &ArgMatches<'_>) -> Result<Orders, 
     ensures { IfOk result (λ orders. orders ≡ spec.orders_of (rows matches.now)) }
 {
     Ok(Orders {
-        source: source(alloc, matches)?,
+        path_data: text_or(alloc, matches, PATH_DATA, "data")?,
+        path_settings: text_or(alloc, matches, PATH_SETTINGS, "config")?,
+        pipeline_id: text_or(alloc, matches, PIPELINE_ID, "main")?,
         tool: tool(alloc, matches)?,
+        source: source(alloc, matches)?,
         test: is_set(matches, TEST),
         reload: is_set(matches, RELOAD),
         apart: is_set(matches, APART),
         workers: number_or(matches, WORKERS, 64, 2),
         batch: number_or(matches, BATCH_SIZE, 10_000, 125),
-        path_data: text_or(alloc, matches, PATH_DATA, "data")?,
-        path_settings: text_or(alloc, matches, PATH_SETTINGS, "config")?,
-        pipeline_id: text_or(alloc, matches, PIPELINE_ID, "main")?,
     })
 }
 
