@@ -2,7 +2,7 @@ use crate::rack::Rack;
 use config_tree::{FromFault, Settings};
 
 /// What is handed in as boxes.
-#[derive(Clone, Copy, Debug, PartialEq, Eq)]
+#[derive(Clone, Copy)]
 pub enum Kind {
     Filter,
     Output,

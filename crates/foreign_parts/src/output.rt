@@ -14,7 +14,7 @@ use std::alloc::AllocError;
 use thiserror::Error;
 
 /// What became of an event that was delivered.
-#[derive(Debug, Drop)]
+#[derive(Drop)]
 pub enum Fate {
     Took,
     /// It was refused for good, with a status and a text of at most 65,536 bytes.
@@ -25,7 +25,7 @@ pub enum Fate {
 pub type Fates = Items<Fate>;
 
 /// What an output answered to events.
-#[derive(Debug, Drop)]
+#[derive(Drop)]
 pub enum Delivery {
     /// It took them, but for those that it rejected.
     Took(Fates),
@@ -34,7 +34,7 @@ pub enum Delivery {
 }
 
 /// Why events were not delivered.
-#[derive(Clone, Copy, Debug, PartialEq, Eq, Error)]
+#[derive(Clone, Copy, Debug, Error)]
 pub enum DeliverFault {
     /// The output failed, and the count of its faults rose in that call.
     #[error("the output failed")]

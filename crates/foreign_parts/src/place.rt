@@ -4,7 +4,7 @@ use event_tree::Text;
 use std::alloc::AllocError;
 
 /// Where events are delivered.
-#[derive(Debug, Drop)]
+#[derive(Drop)]
 pub enum Place {
     Stdout,
     /// The file of this path.
