@@ -3,7 +3,7 @@ ghost use Rattle.io_traits.specs.Answers.{IsNext};
 ghost use Rattle.io_traits.specs.Telling.{Grows};
 
 /// What a program is to do before its next step.
-#[derive(Clone, Copy, Debug, PartialEq, Eq, Hash)]
+#[derive(Clone, Copy, PartialEq, Eq)]
 pub enum Said {
     /// Go on.
     Go,

@@ -8,7 +8,7 @@ use crate::faults::Failed;
 use crate::sources::Step;
 
 /// What a look for a connection found.
-#[derive(Clone, Copy, Debug, PartialEq, Eq, Hash)]
+#[derive(Clone, Copy, PartialEq, Eq)]
 pub enum Come {
     /// A connection came. It has this number.
     Conn(u32),

@@ -6,7 +6,7 @@ ghost use Rattle.io_traits.specs.Telling.{Grows, Shrinks, IsAtEnd};
 use crate::faults::Failed;
 
 /// What a read of a source found.
-#[derive(Clone, Copy, Debug, PartialEq, Eq, Hash)]
+#[derive(Clone, Copy, PartialEq, Eq)]
 pub enum Step {
     /// So many bytes came, and stand at the front of the room.
     Bytes(usize),

@@ -5,7 +5,7 @@ use plain_data::Text;
 use std::alloc::AllocError;
 
 /// What stands in a file in another way than its writer left it.
-#[derive(Debug, PartialEq, Eq, Hash, Drop)]
+#[derive(Drop)]
 pub struct Damage {
     /// The name of the file in its store.
     pub file: Text,
@@ -18,7 +18,7 @@ pub struct Damage {
 }
 
 /// Why something that is kept in files of a store was not read.
-#[derive(Debug, PartialEq, Eq, Hash, Drop)]
+#[derive(Drop)]
 pub enum QueueFault {
     /// A call of the store failed, and its count of faults rose.
     Fault,

@@ -1,5 +1,5 @@
 /// What a checkpoint says of a page of a queue.
-#[derive(Clone, Copy, Debug, PartialEq, Eq)]
+#[derive(Clone, Copy)]
 pub struct PageState {
     /// The number of the page.
     pub page: u32,
