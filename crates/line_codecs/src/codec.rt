@@ -4,7 +4,7 @@ ghost use Rattle.line_codecs.specs.Codecs as spec;
 use event_text::Template;
 
 /// How an input reads its lines as events, or an output writes events.
-#[derive(Clone, Copy, Debug, PartialEq, Eq)]
+#[derive(Clone, Copy)]
 pub enum Codec {
     /// At an input as `Line`. At an output the text of a format for each event, with nothing behind it.
     Plain,

@@ -2,7 +2,7 @@ ghost use Rattle.std.specs.Prelude.{◌≡◌, ◌<◌, ◌+◌, ◌^◌, ◌==�
 ghost use Rattle.monitor_core.specs.Places.{place, last};
 
 /// What is counted.
-#[derive(Clone, Copy, Debug, PartialEq, Eq)]
+#[derive(Clone, Copy)]
 pub enum Counter {
     Accepted,
     Delivered,
@@ -25,7 +25,7 @@ impl Counter {
 }
 
 /// A sum over seats.
-#[derive(Clone, Copy, Debug, PartialEq, Eq)]
+#[derive(Clone, Copy, PartialEq, Eq)]
 pub struct Total {
     pub sum: u128,
     /// Whether one of the numbers that were added up stands at the last number of 64 bits, so that it may stand for
@@ -34,7 +34,7 @@ pub struct Total {
 }
 
 /// The sums of all counters.
-#[derive(Clone, Copy, Debug, PartialEq, Eq)]
+#[derive(Clone, Copy)]
 pub struct Totals {
     pub accepted: Total,
     pub delivered: Total,
