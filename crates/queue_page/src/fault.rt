@@ -6,7 +6,7 @@ use std::alloc::{AllocError, Global};
 use store_disk::{Damage, Failed, QueueFault};
 
 /// What is wrong in a page: two numbers that differ, and where.
-#[derive(Clone, Copy, Debug, PartialEq, Eq)]
+#[derive(Clone, Copy)]
 pub(crate) struct Misfit {
     /// The place in the file, in bytes from its beginning.
     pub(crate) place: u64,
@@ -17,7 +17,7 @@ pub(crate) struct Misfit {
 }
 
 /// Why a row was not read.
-#[derive(Clone, Copy, Debug, PartialEq, Eq)]
+#[derive(Clone, Copy)]
 pub(crate) enum RowFault {
     /// The page is damaged there.
     Misfit(Misfit),

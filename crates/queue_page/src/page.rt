@@ -25,7 +25,7 @@ use std::marker::Model;
 use store_disk::{Failed, PageState, QueueFault, Store};
 
 /// A page file of a queue, of which its version is kept, and how it stands now.
-#[derive(Clone, Copy, Debug, PartialEq, Eq)]
+#[derive(Clone, Copy)]
 pub struct Page {
     version: u8,
     state: PageState,
