@@ -1,5 +1,5 @@
 /// The call that the words of a command line are for.
-#[derive(Clone, Copy, Debug, PartialEq, Eq)]
+#[derive(Clone, Copy, Debug)]
 pub enum Which {
     /// `logstash`; it also tells why words are refused.
     Run,

@@ -5,7 +5,7 @@ use io_traits::Failed;
 use std::alloc::AllocError;
 
 /// Why a run stopped before its end.
-#[derive(Clone, Copy, Debug, PartialEq, Eq)]
+#[derive(Clone, Copy)]
 pub(crate) enum RunFault {
     /// A read of stdin failed.
     Input,

@@ -1,6 +1,6 @@
 //! What the words of the command line ask of the program.
 
-ghost use Rattle.std.specs.Prelude.{◌≡◌, ◌⊎◌, Err, IfOk, map, string_bytes};
+ghost use Rattle.std.specs.Prelude.{◌≡◌, ◌⊎◌, Ok, Err, IfOk, map, string_bytes};
 ghost use Rattle.logstash_settings.specs.Words.{answer_of};
 ghost use Rattle.logstash_top.specs.Answers.{asked};
 ghost use Rattle.logstash_top.specs.Words as spec;
@@ -24,10 +24,22 @@ pub(crate) struct Command {
 pub fn which(alloc: Global, words: &[String]) -> Result<Which, AllocError>
     ensures { IfOk result (λ which. which ≡ which_of (answer_of (map string_bytes words.now))) }
 {
-    match answered(alloc, words)? {
-        Ok(orders) if orders.test => Ok(Which::Test),
-        Ok(orders) if orders.apart => Ok(Which::Apart),
-        _ => Ok(Which::Run),
+    Ok(match answered(alloc, words)? {
+        Ok(orders) => call_of(&orders),
+        Err(_) => Which::Run,
+    })
+}
+
+/// The call that orders are for.
+fn call_of(orders: &Orders) -> Which
+    ensures { result ≡ which_of (Ok orders.now) }
+{
+    if orders.test {
+        Which::Test
+    } else if orders.apart {
+        Which::Apart
+    } else {
+        Which::Run
     }
 }
 
