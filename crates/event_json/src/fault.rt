@@ -4,7 +4,7 @@ use std::alloc::AllocError;
 use thiserror::Error;
 
 /// Why bytes are no JSON text that is read. Places are counted in bytes from 0.
-#[derive(Clone, Copy, Debug, PartialEq, Eq, Drop, Error)]
+#[derive(Clone, Copy, Debug, Drop, Error)]
 pub enum JsonFault {
     /// The bytes are no UTF-8: the place of the first byte that begins no character.
     #[error("no UTF-8 character begins at byte {0}")]
@@ -22,7 +22,7 @@ pub enum JsonFault {
 }
 
 // Where reading stopped, as the number of bytes from there to the end.
-#[derive(Debug, Drop)]
+#[derive(Drop)]
 pub(crate) enum JsonStop {
     Memory,
     At(usize),
