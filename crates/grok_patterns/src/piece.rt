@@ -9,7 +9,7 @@ use filter_settings::split_text;
 use std::alloc::{AllocError, Global};
 
 /// What the text of a capture becomes.
-#[derive(Clone, Copy, Debug, PartialEq, Eq)]
+#[derive(Clone, Copy)]
 pub enum Coercion {
     /// It stays a text.
     Text,

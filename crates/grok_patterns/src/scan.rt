@@ -4,7 +4,7 @@ ghost use Rattle.grok_patterns.specs.Scans as spec;
 use std::alloc::AllocError;
 
 /// Where a regular expression stands behind some of its bytes.
-#[derive(Clone, Copy, Debug, PartialEq, Eq)]
+#[derive(Clone, Copy)]
 pub enum Place {
     /// Where a group may begin.
     Plain,
@@ -25,7 +25,7 @@ pub enum Place {
 }
 
 /// What was read of a regular expression up to a byte.
-#[derive(Clone, Copy, Debug, PartialEq, Eq)]
+#[derive(Clone, Copy)]
 pub struct Scan {
     pub place: Place,
     /// How many brackets are open.

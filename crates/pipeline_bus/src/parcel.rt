@@ -33,7 +33,7 @@ impl Parcel {
 }
 
 /// What became of a parcel.
-#[derive(Clone, Copy, Debug, PartialEq, Eq)]
+#[derive(Clone, Copy, PartialEq, Eq)]
 pub enum Heard {
     /// Each of its events stands in the listener's queue, and is marked there.
     Assured,
@@ -42,7 +42,7 @@ pub enum Heard {
 }
 
 /// The answer to the parcel of this number.
-#[derive(Clone, Copy, Debug, PartialEq, Eq)]
+#[derive(Clone, Copy, PartialEq, Eq)]
 pub struct Answer {
     pub number: u64,
     pub answer: Heard,
