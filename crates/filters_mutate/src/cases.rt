@@ -13,7 +13,7 @@ use filter_settings::{Change, change_at};
 use std::alloc::{AllocError, Global};
 
 /// A case of ASCII letters.
-#[derive(Clone, Copy, Debug, PartialEq, Eq)]
+#[derive(Clone, Copy)]
 pub enum Case {
     Upper,
     /// The first character in upper case, and the rest in lower case.

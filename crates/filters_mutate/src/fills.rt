@@ -10,7 +10,7 @@ use filter_settings::put_at;
 use std::alloc::AllocError;
 
 /// Where a text is set.
-#[derive(Clone, Copy, Debug, PartialEq, Eq)]
+#[derive(Clone, Copy)]
 pub enum Fill {
     /// In place of a null.
     Coerce,

@@ -15,7 +15,7 @@ use filter_settings::{Change, change_at, split_text};
 use std::alloc::{AllocError, Global};
 
 /// From which to which.
-#[derive(Clone, Copy, Debug, PartialEq, Eq)]
+#[derive(Clone, Copy)]
 pub enum Listing {
     /// From a text to the list of its pieces.
     Split,

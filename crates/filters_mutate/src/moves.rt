@@ -10,7 +10,7 @@ use filter_settings::{Change, change_at, put_at};
 use std::alloc::{AllocError, Global};
 
 /// How a value is brought to another field.
-#[derive(Clone, Copy, Debug, PartialEq, Eq)]
+#[derive(Clone, Copy)]
 pub enum Move {
     /// It moves from the first field to the second.
     Rename,

@@ -1,5 +1,5 @@
 /// An operation of the filter `mutate`.
-#[derive(Clone, Copy, Debug, PartialEq, Eq)]
+#[derive(Clone, Copy)]
 pub enum Operation {
     Coerce,
     Rename,
