@@ -1,7 +1,7 @@
 use thiserror::Error;
 
 /// Why bytes are no event.
-#[derive(Clone, Copy, Debug, PartialEq, Eq, Drop, Error)]
+#[derive(Clone, Copy, Debug, Drop, Error)]
 pub enum ElementFault {
     /// The bytes aren't the one spelling of an event. The place, counted from the first byte, is that
     /// of the first tag, length or key that can't stand there, of the first byte behind the event, or

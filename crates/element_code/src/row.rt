@@ -15,7 +15,7 @@ use std::alloc::{AllocError, Global};
 use std::str;
 
 /// The input of a row.
-#[derive(Debug, Drop)]
+#[derive(Drop)]
 pub enum Origin {
     /// The row was written before rows named their inputs.
     Unknown,
