@@ -139,7 +139,7 @@ impl Grok {
 }
 
 /// What became of the search of a field.
-#[derive(Clone, Copy, Debug, PartialEq, Eq)]
+#[derive(Clone, Copy)]
 pub enum Searched {
     /// Nothing matched.
     Missed,

@@ -13,7 +13,7 @@ use grok_patterns::Capture;
 use std::alloc::{AllocError, Global};
 
 /// How fields are searched.
-#[derive(Clone, Copy, Debug, PartialEq, Eq)]
+#[derive(Clone, Copy)]
 pub struct How {
     /// The first match ends it.
     pub ends: bool,
