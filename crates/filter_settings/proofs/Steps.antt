@@ -1,7 +1,7 @@
 -- One thing after another, up to the first that fails: one step, for the invariant of a loop that says what the rest still does.
 use Rattle.std.proofs.Common.{◌≡◌, ℕ, ◌+◌, ◌<◌, ◌≤◌, List, length, drop, get_or, sym, ap, ◌∙◌, Ok, Err}
 use Rattle.event_tree.specs.Events.{Ev}
-use Rattle.event_text.proofs.Going.{front, behind_end}
+use Rattle.event_text.proofs.Going.{front, behind_end, each_more, each_none, each_end}
 use Rattle.filter_settings.specs.Trying.{Tried, all_tried, then_try}
 
 module _ {X : Type 0} (f : X → Ev → Tried) (xs : List X) (i : ℕ) where
@@ -15,3 +15,6 @@ module _ {X : Type 0} (f : X → Ev → Tried) (xs : List X) (i : ℕ) where
   tried_end e e0 end so_far = ap (λ ys. all_tried f ys e) (sym (behind_end xs i end)) ∙ so_far
 
 pub ruleset trying = (tried_more, tried_fails, tried_end)
+
+-- what each of a list is read as, up to the first that isn't
+pub ruleset each = (each_more, each_none, each_end)

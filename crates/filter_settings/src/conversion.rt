@@ -9,7 +9,7 @@ use event_tree::{Items, Number, Text, Value};
 use std::alloc::{AllocError, Global};
 
 /// A kind to which values are converted.
-#[derive(Clone, Copy, Debug, PartialEq, Eq)]
+#[derive(Clone, Copy)]
 pub enum Conversion {
     /// A number without its fraction. Numbers, texts that write one, and truth values can become it.
     Integer,
@@ -46,7 +46,7 @@ fn convert_list(alloc: Global, to: Conversion, items: &[Value]) -> Result<Change
     }
 }
 
-#[tactic(auto, using(event_text::proofs::Going::going))]
+#[tactic(auto, using(crate::proofs::Steps::each))]
 fn convert_items(
     alloc: Global,
     to: Conversion,
@@ -146,19 +146,19 @@ fn set_flag(holds: bool, fails: bool) -> Change
 fn is_true(text: &str) -> bool
     ensures { result ≡ spec.is_true text.now }
 {
-    text == "true" || text == "t" || text == "yes" || text == "y" || text == "1" || text == "1.0"
+    match text {
+        "true" | "t" | "yes" | "y" | "1" | "1.0" => true,
+        _ => false,
+    }
 }
 
 fn is_false(text: &str) -> bool
     ensures { result ≡ spec.is_false text.now }
 {
-    text == "false"
-        || text == "f"
-        || text == "no"
-        || text == "n"
-        || text == "0"
-        || text == "0.0"
-        || text == ""
+    match text {
+        "false" | "f" | "no" | "n" | "0" | "0.0" | "" => true,
+        _ => false,
+    }
 }
 
 fn is_whole(number: Number, digits: i64) -> bool

@@ -8,6 +8,7 @@
 mod conversion;
 mod faults;
 mod hashes;
+mod items;
 mod keeping;
 mod lists;
 mod options;
@@ -24,8 +25,9 @@ pub use faults::{bad_pattern, wanted};
 pub use hashes::{
     hash_of, read_field_conversions, read_field_paths, read_field_templates, read_field_texts,
 };
+pub use items::text_item;
 pub use keeping::{assign, assign_some, not_kept};
-pub use lists::{read_paths, read_templates, read_texts, text_item};
+pub use lists::{read_paths, read_templates, read_texts};
 pub use options::set_option;
 pub use paths::{is_same, path_under, written};
 pub use pieces::split_text;

@@ -1,15 +1,15 @@
-ghost use Rattle.std.specs.Prelude.{◌≡◌, IfOk};
+ghost use Rattle.std.specs.Prelude.{◌≡◌, IfOk, option_and_then};
 ghost use Rattle.std.specs.Option.{option_copied};
 ghost use Rattle.event_text.specs.Options.{each_in};
 ghost use Rattle.filter_settings.specs.Readers as spec;
 ghost use Rattle.filter_settings.specs.Settings.{Gives, wanted};
 
-use crate::conversion::Conversion;
 use crate::faults::wanted;
+use crate::items::ListItem;
 use config_tree::{FromFault, SettingValue};
-use event_text::{Template, path_in, value_text};
-use event_tree::{Names, Path, Value};
-use plain_data::{Items, Text};
+use event_text::Template;
+use event_tree::{Names, Path};
+use plain_data::Items;
 use std::alloc::{AllocError, Global};
 use std::slice;
 
@@ -17,20 +17,14 @@ use std::slice;
 pub fn read_texts(alloc: Global, name: &str, value: &SettingValue) -> Result<Names, FromFault>
     ensures { Gives result (wanted name.now (spec.texts_of value.now)) }
 {
-    match list_of(value) {
-        Some(items) => wanted(alloc, name, text_items(alloc, items)?),
-        None => wanted(alloc, name, None),
-    }
+    read_items(alloc, name, value)
 }
 
 /// A list of paths of fields.
 pub fn read_paths(alloc: Global, name: &str, value: &SettingValue) -> Result<Items<Path>, FromFault>
     ensures { Gives result (wanted name.now (spec.paths_of value.now)) }
 {
-    match list_of(value) {
-        Some(items) => wanted(alloc, name, path_items(alloc, items)?),
-        None => wanted(alloc, name, None),
-    }
+    read_items(alloc, name, value)
 }
 
 /// A list of templates.
@@ -41,8 +35,20 @@ pub fn read_templates(
 ) -> Result<Items<Template>, FromFault>
     ensures { Gives result (wanted name.now (spec.templates_of value.now)) }
 {
+    read_items(alloc, name, value)
+}
+
+// A list, each of whose items is read alike.
+fn read_items<T: ListItem>(
+    alloc: Global,
+    name: &str,
+    value: &SettingValue,
+) -> Result<Items<T>, FromFault>
+    ensures { Gives result (wanted name.now
+        (option_and_then (each_in T.said) (spec.list_of value.now))) }
+{
     match list_of(value) {
-        Some(items) => wanted(alloc, name, template_items(alloc, items)?),
+        Some(items) => wanted(alloc, name, items_of(alloc, items)?),
         None => wanted(alloc, name, None),
     }
 }
@@ -58,103 +64,19 @@ fn list_of(value: &SettingValue) -> Option<&[SettingValue]>
     }
 }
 
-#[tactic(auto, using(event_text::proofs::Going::going))]
-fn text_items(alloc: Global, items: &[SettingValue]) -> Result<Option<Names>, AllocError>
-    ensures { IfOk result (λ found. found ≡ each_in spec.text_item items.now) }
+#[tactic(auto, using(crate::proofs::Steps::each))]
+fn items_of<T: ListItem>(
+    alloc: Global,
+    values: &[SettingValue],
+) -> Result<Option<Items<T>>, AllocError>
+    ensures { IfOk result (λ found. found ≡ each_in T.said values.now) }
 {
     let mut found = Items::new(alloc);
-    for item in items {
-        let Some(text) = text_item(alloc, item)? else {
+    for value in values {
+        let Some(item) = T::read(alloc, value)? else {
             return Ok(None);
         };
-        found.push(text)?;
+        found.push(item)?;
     }
     Ok(Some(found))
-}
-
-#[tactic(auto, using(event_text::proofs::Going::going))]
-fn path_items(alloc: Global, items: &[SettingValue]) -> Result<Option<Items<Path>>, AllocError>
-    ensures { IfOk result (λ found. found ≡ each_in spec.path_item items.now) }
-{
-    let mut found = Items::new(alloc);
-    for item in items {
-        let Some(path) = path_item(alloc, item)? else {
-            return Ok(None);
-        };
-        found.push(path)?;
-    }
-    Ok(Some(found))
-}
-
-#[tactic(auto, using(event_text::proofs::Going::going))]
-fn template_items(
-    alloc: Global,
-    items: &[SettingValue],
-) -> Result<Option<Items<Template>>, AllocError>
-    ensures { IfOk result (λ found. found ≡ each_in spec.template_item items.now) }
-{
-    let mut found = Items::new(alloc);
-    for item in items {
-        let Some(template) = template_item(alloc, item)? else {
-            return Ok(None);
-        };
-        found.push(template)?;
-    }
-    Ok(Some(found))
-}
-
-/// A text, or a number as its decimal text; `None` of another value.
-pub fn text_item(alloc: Global, item: &SettingValue) -> Result<Option<Text>, AllocError>
-    ensures { IfOk result (λ text. text ≡ spec.text_item item.now) }
-{
-    match item {
-        SettingValue::Text(text) => Ok(Some(text.copy()?)),
-        SettingValue::Number(number) => Ok(Some(value_text(alloc, &Value::Num(*number))?)),
-        SettingValue::Nested(_) | SettingValue::Array(_) | SettingValue::Hash(_) => Ok(None),
-    }
-}
-
-pub(crate) fn path_item(alloc: Global, item: &SettingValue) -> Result<Option<Path>, AllocError>
-    ensures { IfOk result (λ path. path ≡ spec.path_item item.now) }
-{
-    match text_item(alloc, item)? {
-        Some(text) => path_in(alloc, text.as_str()),
-        None => Ok(None),
-    }
-}
-
-pub(crate) fn template_item(
-    alloc: Global,
-    item: &SettingValue,
-) -> Result<Option<Template>, AllocError>
-    ensures { IfOk result (λ template. template ≡ spec.template_item item.now) }
-{
-    match text_item(alloc, item)? {
-        Some(text) => Ok(Some(Template::read(alloc, text.as_str())?)),
-        None => Ok(None),
-    }
-}
-
-pub(crate) fn conversion_item(
-    alloc: Global,
-    item: &SettingValue,
-) -> Result<Option<Conversion>, AllocError>
-    ensures { IfOk result (λ to. to ≡ spec.conversion_item item.now) }
-{
-    match text_item(alloc, item)? {
-        Some(text) => Ok(conversion_of(text.as_str())),
-        None => Ok(None),
-    }
-}
-
-fn conversion_of(text: &str) -> Option<Conversion>
-    ensures { result ≡ spec.conversion_of text.now }
-{
-    match text {
-        "integer" => Some(Conversion::Integer),
-        "float" => Some(Conversion::Float),
-        "string" => Some(Conversion::Text),
-        "boolean" => Some(Conversion::Boolean),
-        _ => None,
-    }
 }

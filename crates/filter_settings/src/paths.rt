@@ -2,6 +2,7 @@
 ghost use Rattle.std.specs.Prelude.{◌≡◌, ◌<◌, ◌++◌, length, IfOk, OnOk};
 ghost use Rattle.filter_settings.specs.Paths as spec;
 
+use crate::pieces::add_text;
 use event_tree::{Names, Path, Text};
 use std::alloc::{AllocError, Global};
 
@@ -12,7 +13,7 @@ pub fn written(alloc: Global, path: &Path) -> Result<Names, AllocError>
 {
     let mut parts = Names::with_capacity(alloc, path.parts().len().saturating_add(1))?;
     if path.is_meta() {
-        parts.push(Text::of(alloc, "@metadata")?)?;
+        add_text(&mut parts, "@metadata")?;
     }
     add_parts(&mut parts, path.parts())?;
     Ok(parts)

@@ -1,4 +1,4 @@
-ghost use Rattle.std.specs.Prelude.{◌≡◌, ◌<◌, length, IfOk};
+ghost use Rattle.std.specs.Prelude.{◌≡◌, ◌<◌, ◌++◌, ◌∷◌, [], length, IfOk, OnOk};
 ghost use Rattle.std.specs.Prelude.{encode_utf8};
 ghost use Rattle.filter_settings.specs.Pieces as spec;
 
@@ -27,11 +27,19 @@ fn pieces(alloc: Global, text: &str, separator: &str) -> Result<Names, AllocErro
     let mut found = Names::new(alloc);
     let mut rest = text;
     while let Some((before, behind)) = rest.split_once(separator) {
-        found.push(Text::of(alloc, before)?)?;
+        add_text(&mut found, before)?;
         rest = behind;
     }
-    found.push(Text::of(alloc, rest)?)?;
+    add_text(&mut found, rest)?;
     Ok(found)
+}
+
+/// Adds a copy of a text.
+pub(crate) fn add_text(to: &mut Names, text: &str) -> Result<(), AllocError>
+    ensures { OnOk result (to.new ≡ to.old ++ text.now ∷ []) }
+{
+    let text = Text::of(to.allocator(), text)?;
+    to.push(text)
 }
 
 fn characters(alloc: Global, text: &str) -> Result<Names, AllocError>

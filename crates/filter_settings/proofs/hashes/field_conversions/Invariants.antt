@@ -1,8 +1,0 @@
-use Rattle.std.proofs.Common.{◌≡◌, drop}
-use Rattle.event_text.proofs.Going.{with_front}
-use Rattle.event_text.specs.Options.{each_in}
-use Rattle.filter_settings.specs.Readers.{at_field, conversion_item}
-use Rattle.filter_settings.proofs.hashes.field_conversions.Given as goal
-
-abbrev pub invariant-loop-entry : goal.invariant-loop-entry
-invariant-loop-entry l = with_front l.found (each_in (at_field conversion_item) (drop l.entry-index l.entries)) ≡ each_in (at_field conversion_item) l.entries
