@@ -19,14 +19,13 @@ module _ {X : Type 0} (f : X → Written → Option Written) (xs : List X) (i : 
   pub added_end : (o o0 : Written) → length xs ≤ i → all_added f (drop i xs) o ≡ all_added f xs o0 → Some o ≡ all_added f xs o0
   added_end o o0 end so_far = ap (λ ys. all_added f ys o) (sym (behind_end xs i end)) ∙ so_far
 
--- a reference whose pieces were added, and closed
-pub reference_added : (r : Rules) (n : ℕ) (p : Piece) (name : List ℕ) (f : Option Field) (o o1 o2 : Written) (inner : List Piece) → p ≡ piece.Reference name f → 0 < n
-    → Some (inner, o1) ≡ begun r name f o → Some o2 ≡ all_added (added r (n - 1)) inner o1 → added r n p o ≡ write (codes ")") o2
-reference_added r zero p name f o o1 o2 inner is some begins goes = absurd (omega arith)
-reference_added r (suc k) p name f o o1 o2 inner is some begins goes =
+-- a reference at a depth of one or more, whose pieces were added, and closed
+pub reference_added : (r : Rules) (name : List ℕ) (f : Option Field) (o : Written) (n : ℕ) (o1 o2 : Written) (inner : List Piece) → 0 < n
+    → Some (inner, o1) ≡ begun r name f o → Some o2 ≡ all_added (added r (n - 1)) inner o1 → added r n (piece.Reference name f) o ≡ write (codes ")") o2
+reference_added r name f o zero o1 o2 inner some begins goes = absurd (omega arith)
+reference_added r name f o (suc k) o1 o2 inner some begins goes =
     let e : suc k - 1 ≡ k = omega arith in
-    ap (λ q. added r (suc k) q o) is
-    ∙ ap (option_and_then (closed (all_added (added r k)))) (sym begins)
+    ap (option_and_then (closed (all_added (added r k)))) (sym begins)
     ∙ ap (option_and_then (write (codes ")"))) (ap (λ j. all_added (added r j) inner o1) (sym e) ∙ sym goes)
 
 pub ruleset adding = (added_more, added_fails, added_end)

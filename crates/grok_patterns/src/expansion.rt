@@ -1,8 +1,9 @@
 // What grok patterns stand for.
-ghost use Rattle.std.specs.Prelude.{◌≡◌, ◌<◌, ◌++◌, length, option_map, map, string_bytes, IfOk, OnOk};
+ghost use Rattle.std.specs.Prelude.{◌≡◌, ◌<◌, ◌++◌, ◌∷◌, [], length, option_map, map, string_bytes, IfOk, OnOk};
 ghost use Rattle.grok_patterns.specs.Expansions as spec;
 ghost use Rattle.grok_patterns.specs.Expansions.{went};
 ghost use Rattle.grok_patterns.specs.Pieces.{pair_of};
+ghost use Rattle.grok_patterns.specs.declared.piece.Piece.TheVariants as piece;
 
 use crate::library::LIBRARY;
 use crate::piece::{Coercion, Field, Piece, Pieces, read_pieces};
@@ -88,47 +89,67 @@ pub fn expand(
     ensures { IfOk result (λ found. found ≡ spec.expanded rules.now pieces.now) }
 {
     let mut draft = Draft::new(alloc);
-    if add_pieces(rules, pieces, &mut draft)? {
+    if add_pieces(rules, MAX_DEPTH, pieces, &mut draft)? {
         Ok(Some(draft.finished()))
     } else {
         Ok(None)
     }
 }
 
+// Pieces in which names stand at most so deep.
 #[tactic(auto, using(crate::proofs::Adding::adding))]
-fn add_pieces(rules: &Rules, pieces: &[Piece], to: &mut Draft) -> Result<bool, AllocError>
-    ensures { IfOk result (λ fine. went fine to.new ≡ spec.all_added (spec.added rules.now 250) pieces.now to.old) }
+#[cycle(add)]
+fn add_pieces(
+    rules: &Rules,
+    depth: usize,
+    pieces: &[Piece],
+    to: &mut Draft,
+) -> Result<bool, AllocError>
+    ensures { IfOk result (λ fine. went fine to.new
+        ≡ spec.all_added (spec.added rules.now depth) pieces.now to.old) }
 {
     for piece in pieces {
-        if !add_piece(rules, MAX_DEPTH, piece, to)? {
+        if !add_piece(rules, depth, piece, to)? {
             return Ok(false);
         }
     }
     Ok(true)
 }
 
-#[tactic(auto, using(crate::proofs::Adding::adding))]
+#[cycle(add)]
 fn add_piece(rules: &Rules, depth: usize, piece: &Piece, to: &mut Draft) -> Result<bool, AllocError>
     ensures { IfOk result (λ fine. went fine to.new ≡ spec.added rules.now depth piece.now to.old) }
 {
     match piece {
         Piece::Written(text) => to.write(text.as_str()),
         Piece::Group(name) => to.open_named(rules, name.as_str()),
-        Piece::Reference(name, field) => {
-            if depth == 0 {
-                return Ok(false);
-            }
-            let Some(inner) = begin(rules, name, field, to)? else {
-                return Ok(false);
-            };
-            for one in inner {
-                if !add_piece(rules, depth - 1, one, to)? {
-                    return Ok(false);
-                }
-            }
-            to.write(")")
-        }
+        Piece::Reference(name, field) => add_reference(rules, depth, name, field, to),
         Piece::Unreadable => Ok(false),
+    }
+}
+
+#[tactic(auto, using(crate::proofs::Adding::adding))]
+#[cycle(add)]
+fn add_reference(
+    rules: &Rules,
+    depth: usize,
+    name: &Text,
+    field: &Option<Field>,
+    to: &mut Draft,
+) -> Result<bool, AllocError>
+    ensures { IfOk result (λ fine. went fine to.new
+        ≡ spec.added rules.now depth (piece.Reference name.now field.now) to.old) }
+{
+    if depth == 0 {
+        return Ok(false);
+    }
+    let Some(inner) = begin(rules, name, field, to)? else {
+        return Ok(false);
+    };
+    if add_pieces(rules, depth - 1, inner, to)? {
+        to.write(")")
+    } else {
+        Ok(false)
     }
 }
 
@@ -329,10 +350,8 @@ fn add_defined(
 ) -> Result<(), AllocError>
     ensures { OnOk result (known.new ≡ known.old ++ map (spec.read all_kept) definitions.now) }
 {
-    let alloc = known.allocator();
     for one in definitions {
-        let pieces = read_pieces(alloc, all_kept, one.1.as_str())?;
-        known.push((one.0.copy()?, pieces))?;
+        add_known(known, all_kept, one.0.as_str(), one.1.as_str())?;
     }
     Ok(())
 }
@@ -344,10 +363,18 @@ fn add_library(
 ) -> Result<(), AllocError>
     ensures { OnOk result (known.new ≡ known.old ++ map (spec.read all_kept) (map pair_of library.now)) }
 {
-    let alloc = known.allocator();
     for one in library {
-        let pieces = read_pieces(alloc, all_kept, one.1)?;
-        known.push((Text::of(alloc, one.0)?, pieces))?;
+        add_known(known, all_kept, one.0, one.1)?;
     }
     Ok(())
+}
+
+// A name, and the pieces of the pattern that it stands for.
+fn add_known(known: &mut Known, all_kept: bool, name: &str, pattern: &str) -> Result<(), AllocError>
+    ensures { OnOk result (known.new ≡ known.old ++ spec.read all_kept (name.now, pattern.now) ∷ []) }
+{
+    let alloc = known.allocator();
+    let pieces = read_pieces(alloc, all_kept, pattern)?;
+    let name = Text::of(alloc, name)?;
+    known.push((name, pieces))
 }

@@ -1,7 +1,8 @@
 // How grok patterns are written.
-ghost use Rattle.std.specs.Prelude.{◌≡◌, ◌<◌, ◌++◌, false, option_map, IfOk, OnOk};
+ghost use Rattle.std.specs.Prelude.{◌≡◌, ◌<◌, ◌++◌, ◌∷◌, [], false, option_map, IfOk, OnOk};
 ghost use Rattle.grok_patterns.specs.Pieces as spec;
 ghost use Rattle.grok_patterns.specs.Pieces.{pair_of};
+ghost use Rattle.grok_patterns.specs.declared.piece.Piece.TheVariants as piece;
 
 use event_text::path_in;
 use event_tree::{Items, Path, Text};
@@ -73,16 +74,24 @@ fn add_part(pieces: &mut Pieces, all_kept: bool, later: bool, part: &str) -> Res
         return add_plain(pieces, part);
     }
     match cut(part, '}') {
-        Some((inner, behind)) => {
-            let reference = read_reference(pieces.allocator(), all_kept, inner)?;
-            pieces.push(reference)?;
-            add_plain(pieces, behind)
-        }
-        None => {
-            let alloc = pieces.allocator();
-            pieces.push(Piece::Written(joined(alloc, "%{", part)?))
-        }
+        Some((inner, behind)) => add_reference(pieces, all_kept, inner, behind),
+        None => add_joined(pieces, "%{", part),
     }
+}
+
+// A reference, and what stands behind it.
+fn add_reference(
+    pieces: &mut Pieces,
+    all_kept: bool,
+    inner: &str,
+    behind: &str,
+) -> Result<(), AllocError>
+    ensures { OnOk result (pieces.new
+        ≡ pieces.old ++ spec.reference all_kept inner.now ∷ spec.plain_pieces behind.now) }
+{
+    let reference = read_reference(pieces.allocator(), all_kept, inner)?;
+    pieces.push(reference)?;
+    add_plain(pieces, behind)
 }
 
 // What holds no reference.
@@ -108,17 +117,38 @@ fn add_groups(pieces: &mut Pieces, parts: &[Text]) -> Result<(), AllocError>
 fn add_group(pieces: &mut Pieces, later: bool, part: &str) -> Result<(), AllocError>
     ensures { OnOk result (pieces.new ≡ pieces.old ++ spec.group_pieces later part.now) }
 {
-    let alloc = pieces.allocator();
     if !later {
-        return pieces.push(Piece::Written(Text::of(alloc, part)?));
+        return add_written(pieces, part);
     }
     match named(part) {
-        Some((name, behind)) => {
-            pieces.push(Piece::Group(Text::of(alloc, name)?))?;
-            pieces.push(Piece::Written(Text::of(alloc, behind)?))
-        }
-        None => pieces.push(Piece::Written(joined(alloc, "(?<", part)?)),
+        Some((name, behind)) => add_named(pieces, name, behind),
+        None => add_joined(pieces, "(?<", part),
     }
+}
+
+// A group of this name, and what stands behind it.
+fn add_named(pieces: &mut Pieces, name: &str, behind: &str) -> Result<(), AllocError>
+    ensures { OnOk result (pieces.new
+        ≡ pieces.old ++ piece.Group name.now ∷ piece.Written behind.now ∷ []) }
+{
+    let name = Text::of(pieces.allocator(), name)?;
+    pieces.push(Piece::Group(name))?;
+    add_written(pieces, behind)
+}
+
+fn add_written(pieces: &mut Pieces, text: &str) -> Result<(), AllocError>
+    ensures { OnOk result (pieces.new ≡ pieces.old ++ piece.Written text.now ∷ []) }
+{
+    let text = Text::of(pieces.allocator(), text)?;
+    pieces.push(Piece::Written(text))
+}
+
+// Two texts as one piece.
+fn add_joined(pieces: &mut Pieces, front: &str, back: &str) -> Result<(), AllocError>
+    ensures { OnOk result (pieces.new ≡ pieces.old ++ piece.Written (front.now ++ back.now) ∷ []) }
+{
+    let text = joined(pieces.allocator(), front, back)?;
+    pieces.push(Piece::Written(text))
 }
 
 // The name of a group, up to its `>`, and what stands behind; none at a look-behind.
@@ -183,8 +213,8 @@ fn kept_at(alloc: Global, name: &str, field: &str, coercion: Coercion) -> Result
     let Some(path) = path_in(alloc, field)? else {
         return Ok(Piece::Unreadable);
     };
-    let field = Field { path, coercion };
-    Ok(Piece::Reference(Text::of(alloc, name)?, Some(field)))
+    let name = Text::of(alloc, name)?;
+    Ok(Piece::Reference(name, Some(Field { path, coercion })))
 }
 
 // What stands before the first such character of ASCII, and behind it.
