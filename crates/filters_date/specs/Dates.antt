@@ -102,13 +102,20 @@ units places n = if nat_le n.scale places then Some (moment_in_years (n.mantissa
 abbrev pub in_own_year : Ev → TimeParts → TimeParts
 in_own_year e p = over (λ year. p) (record p { year = option_map year_of (own_moment e) }) p.year
 
+-- the moment of a text by ISO 8601, and that of one by the items of a format
+abbrev pub read_iso8601 : DateFilter → Value → Option (Option ℤ)
+read_iso8601 f x = option_and_then (λ s. option_map (λ p. moment_of p f.timezone) (iso_parts s)) (text_of_value x)
+
+abbrev pub read_letters : DateFilter → Ev → Value → List TimeItem → Option (Option ℤ)
+read_letters f e x items = option_and_then (λ s. option_map (λ p. moment_of (in_own_year e p) f.timezone) (parts_read items no_parts s)) (text_of_value x)
+
 -- what a format makes of a value: none where it doesn't read it whole, and else the moment, if it is one of the calendar and of the years
 -- 0001 to 9999
 abbrev pub read_by : DateFilter → Ev → Value → DateFormat → Option (Option ℤ)
-read_by f e x format.Iso8601 = option_and_then (λ s. option_map (λ p. moment_of p f.timezone) (iso_parts s)) (text_of_value x)
+read_by f e x format.Iso8601 = read_iso8601 f x
 read_by f e x format.Unix = option_and_then (units 9) (number_of_value x)
 read_by f e x format.UnixMillis = option_and_then (units 6) (number_of_value x)
-read_by f e x (format.Letters items) = option_and_then (λ s. option_map (λ p. moment_of (in_own_year e p) f.timezone) (parts_read items no_parts s)) (text_of_value x)
+read_by f e x (format.Letters items) = read_letters f e x items
 
 -- by the first of the formats that reads it
 abbrev pub read_first : DateFilter → Ev → Value → List DateFormat → Option ℤ

@@ -8,7 +8,7 @@ ghost use Rattle.filters_date.specs.Formats.{format_of};
 use crate::format::{DateFormat, read_format};
 use crate::unix::units;
 use event_text::{event_time, number_of, path_in};
-use event_times::{TimeParts, iso8601_parts, read_offset, read_time, year_of};
+use event_times::{TimeItem, TimeParts, iso8601_parts, read_offset, read_time, year_of};
 use event_tree::{Event, Items, Names, Number, Path, Text, Value};
 use filter_settings::{
     Applied, FromFault, Options, SetByName, SettingValue, Settings, assign, bad_pattern, finish,
@@ -150,17 +150,30 @@ impl DateFilter {
         ensures { result ≡ spec.read_by self.now event.now value.now format.now }
     {
         match format {
-            DateFormat::Iso8601 => {
-                let parts = iso8601_parts(text_in(value)?)?;
-                Some(parts.moment(self.timezone))
-            }
+            DateFormat::Iso8601 => self.read_iso8601(value),
             DateFormat::Unix => units(number_in(value)?, 9),
             DateFormat::UnixMillis => units(number_in(value)?, 6),
-            DateFormat::Letters(items) => {
-                let parts = read_time(items.as_slice(), text_in(value)?)?;
-                Some(in_own_year(event, parts).moment(self.timezone))
-            }
+            DateFormat::Letters(items) => self.read_letters(event, value, items.as_slice()),
         }
+    }
+
+    fn read_iso8601(&self, value: &Value) -> Option<Option<Instant>>
+        ensures { result ≡ spec.read_iso8601 self.now value.now }
+    {
+        let parts = iso8601_parts(text_in(value)?)?;
+        Some(parts.moment(self.timezone))
+    }
+
+    fn read_letters(
+        &self,
+        event: &Event,
+        value: &Value,
+        items: &[TimeItem],
+    ) -> Option<Option<Instant>>
+        ensures { result ≡ spec.read_letters self.now event.now value.now items.now }
+    {
+        let parts = read_time(items, text_in(value)?)?;
+        Some(in_own_year(event, parts).moment(self.timezone))
     }
 }
 

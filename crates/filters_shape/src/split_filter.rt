@@ -1,4 +1,4 @@
-ghost use Rattle.std.specs.Prelude.{◌≡◌, map, IfOk};
+ghost use Rattle.std.specs.Prelude.{◌≡◌, ◌++◌, ◌∷◌, [], map, IfOk, OnOk};
 ghost use Rattle.std.specs.List.{filter};
 ghost use Rattle.std.specs.Option.{option_and_then, option_copied};
 ghost use Rattle.event_tree.specs.declared.value.Value.TheVariants as v;
@@ -65,9 +65,10 @@ impl SplitFilter {
         ensures { IfOk result (λ filter. filter ≡ spec.split_start) }
     {
         let field = message_path(alloc)?;
+        let terminator = Text::of(alloc, "\n")?;
         Ok(SplitFilter {
             field,
-            terminator: Text::of(alloc, "\n")?,
+            terminator,
             target: None,
             options: Options::none(alloc),
         })
@@ -119,17 +120,30 @@ impl SplitFilter {
         })
     }
 
-    // An event for each piece. The last is the event itself, and the others are copies of what is left of it.
+    // An event for each piece.
     fn events(&self, event: Event, pieces: Items<Value>) -> Result<Events, AllocError>
         ensures { IfOk result (λ events. events ≡ map (spec.split_event self.now event) pieces) }
     {
         let mut pieces = pieces;
-        let Some(last) = pieces.pop() else {
-            return Ok(Events::new(self.terminator.allocator()));
-        };
+        match pieces.pop() {
+            Some(last) => self.events_up_to(event, pieces, last),
+            None => Ok(Events::new(self.terminator.allocator())),
+        }
+    }
+
+    // An event for each piece. The last is the event itself, and the others are copies of what is left of it.
+    fn events_up_to(
+        &self,
+        event: Event,
+        front: Items<Value>,
+        last: Value,
+    ) -> Result<Events, AllocError>
+        ensures { IfOk result (λ events. events
+            ≡ map (spec.split_event self.now event) (front ++ last ∷ [])) }
+    {
         let rest = self.emptied(event)?;
-        let mut events = self.copies(&rest, pieces)?;
-        events.push(self.with_piece(rest, last)?)?;
+        let mut events = self.copies(&rest, front)?;
+        self.add_event(&mut events, rest, last)?;
         Ok(events)
     }
 
@@ -148,16 +162,23 @@ impl SplitFilter {
     {
         let mut events = Events::with_capacity(pieces.allocator(), pieces.len())?;
         for piece in pieces.into_vec() {
-            events.push(self.copy_with(rest, piece)?)?;
+            self.add_copy(&mut events, rest, piece)?;
         }
         Ok(events)
     }
 
-    fn copy_with(&self, rest: &Event, piece: Value) -> Result<Event, AllocError>
-        ensures { IfOk result (λ event. event ≡ spec.event_of self.now rest.now piece) }
+    fn add_copy(&self, to: &mut Events, rest: &Event, piece: Value) -> Result<(), AllocError>
+        ensures { OnOk result (to.new ≡ to.old ++ spec.event_of self.now rest.now piece ∷ []) }
     {
         let copy = rest.copy()?;
-        self.with_piece(copy, piece)
+        self.add_event(to, copy, piece)
+    }
+
+    fn add_event(&self, to: &mut Events, rest: Event, piece: Value) -> Result<(), AllocError>
+        ensures { OnOk result (to.new ≡ to.old ++ spec.event_of self.now rest piece ∷ []) }
+    {
+        let event = self.with_piece(rest, piece)?;
+        to.push(event)
     }
 
     fn with_piece(&self, rest: Event, piece: Value) -> Result<Event, AllocError>
