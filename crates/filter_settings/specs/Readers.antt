@@ -91,9 +91,12 @@ templates_of x = option_and_then (each_in template_item) (list_of x)
 abbrev pub at_field : {A : Type 0} → (SettingValue → Option A) → List ℕ × SettingValue → Option (Way × A)
 at_field f e = option_and_then (λ w. option_map (λ x. (w, x)) (f e.1)) (way_in e.0)
 
--- hashes of fields with texts, paths and templates, in the order of the text
+-- hashes of fields with texts, lists of texts, paths and templates, in the order of the text
 abbrev pub field_texts_of : SettingValue → Option (List (Way × List ℕ))
 field_texts_of x = option_and_then (each_in (at_field text_item)) (hash_of x)
+
+abbrev pub field_lists_of : SettingValue → Option (List (Way × List (List ℕ)))
+field_lists_of x = option_and_then (each_in (at_field texts_of)) (hash_of x)
 
 abbrev pub field_paths_of : SettingValue → Option (List (Way × Way))
 field_paths_of x = option_and_then (each_in (at_field path_item)) (hash_of x)

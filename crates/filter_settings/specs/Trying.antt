@@ -42,7 +42,11 @@ change_at w c.Keep e = Ok e
 change_at w (c.Set x) e = put_at w x e
 change_at w c.Fail e = Err e
 
+-- one event, and whether it matched
+abbrev pub one_applied : Ev → Bool → Applied
+one_applied e matched = record { events = e ∷ []; matched = matched }
+
 -- what a filter makes of an event: with the options where all went well, and with the tag of a failure where not
 abbrev pub finished : Options → List ℕ → Tried → Applied
-finished options tag (Ok e) = record { events = with_options options e ∷ []; matched = true }
-finished options tag (Err e) = record { events = tagged tag e ∷ []; matched = false }
+finished options tag (Ok e) = one_applied (with_options options e) true
+finished options tag (Err e) = one_applied (tagged tag e) false

@@ -9,7 +9,7 @@ use crate::faults::wanted;
 use crate::items::ListItem;
 use config_tree::{FromFault, SettingValue};
 use event_text::{Template, path_in};
-use event_tree::Path;
+use event_tree::{Names, Path};
 use plain_data::{Items, Text};
 use std::alloc::{AllocError, Global};
 
@@ -20,6 +20,17 @@ pub fn read_field_texts(
     value: &SettingValue,
 ) -> Result<Items<(Path, Text)>, FromFault>
     ensures { Gives result (wanted name.now (spec.field_texts_of value.now)) }
+{
+    read_fields(alloc, name, value)
+}
+
+/// A hash of fields with a list of texts each, in the order of the text.
+pub fn read_field_lists(
+    alloc: Global,
+    name: &str,
+    value: &SettingValue,
+) -> Result<Items<(Path, Names)>, FromFault>
+    ensures { Gives result (wanted name.now (spec.field_lists_of value.now)) }
 {
     read_fields(alloc, name, value)
 }

@@ -3,9 +3,10 @@ ghost use Rattle.std.specs.Prelude.{◌≡◌, IfOk};
 ghost use Rattle.filter_settings.specs.Readers as spec;
 
 use crate::conversion::Conversion;
+use crate::lists::list_items;
 use config_tree::SettingValue;
 use event_text::{Template, path_in, value_text};
-use event_tree::{Path, Value};
+use event_tree::{Names, Path, Value};
 use plain_data::Text;
 use std::alloc::{AllocError, Global};
 
@@ -54,6 +55,16 @@ impl ListItem for Template {
             Some(text) => Ok(Some(Template::read(alloc, text.as_str())?)),
             None => Ok(None),
         }
+    }
+}
+
+impl ListItem for Names {
+    ghost use Rattle.filter_settings.specs.Readers.{texts_of};
+
+    ghost said = { texts_of };
+
+    fn read(alloc: Global, value: &SettingValue) -> Result<Option<Names>, AllocError> {
+        list_items(alloc, value)
     }
 }
 

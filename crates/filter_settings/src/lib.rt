@@ -6,6 +6,7 @@
 #![tactic(auto)]
 
 mod conversion;
+mod copies;
 mod faults;
 mod hashes;
 mod items;
@@ -20,17 +21,19 @@ mod values;
 
 pub use config_tree::{FromFault, SettingFault, SettingValue, Settings};
 pub use conversion::{Conversion, convert};
+pub use copies::add_copies;
 pub use event_text::{Applied, Options, add_tag, try_put};
 pub use faults::{bad_pattern, wanted};
 pub use hashes::{
-    hash_of, read_field_conversions, read_field_paths, read_field_templates, read_field_texts,
+    hash_of, read_field_conversions, read_field_lists, read_field_paths, read_field_templates,
+    read_field_texts,
 };
 pub use items::text_item;
 pub use keeping::{assign, assign_some, not_kept};
 pub use lists::{read_paths, read_templates, read_texts};
 pub use options::set_option;
-pub use paths::{is_same, path_under, written};
+pub use paths::{field_named, is_same, path_under, written};
 pub use pieces::split_text;
 pub use reading::{SetByName, read_settings, require};
-pub use trying::{Change, change_at, finish, one_event, put_at};
+pub use trying::{Change, change_at, finish, one_applied, one_event, put_at};
 pub use values::{read_flag, read_id, read_path, read_template, read_text};

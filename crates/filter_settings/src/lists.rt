@@ -47,9 +47,20 @@ fn read_items<T: ListItem>(
     ensures { Gives result (wanted name.now
         (option_and_then (each_in T.said) (spec.list_of value.now))) }
 {
+    wanted(alloc, name, list_items(alloc, value)?)
+}
+
+/// The items of a list; `None` of another value, or where one of them is of another kind.
+pub(crate) fn list_items<T: ListItem>(
+    alloc: Global,
+    value: &SettingValue,
+) -> Result<Option<Items<T>>, AllocError>
+    ensures { IfOk result (λ found. found
+        ≡ option_and_then (each_in T.said) (spec.list_of value.now)) }
+{
     match list_of(value) {
-        Some(items) => wanted(alloc, name, items_of(alloc, items)?),
-        None => wanted(alloc, name, None),
+        Some(values) => items_of(alloc, values),
+        None => Ok(None),
     }
 }
 

@@ -1,5 +1,6 @@
 // The paths of fields that a filter sets.
-ghost use Rattle.std.specs.Prelude.{◌≡◌, ◌<◌, ◌++◌, length, IfOk, OnOk};
+ghost use Rattle.std.specs.Prelude.{◌≡◌, ◌<◌, ◌++◌, ◌∷◌, [], length, IfOk, OnOk};
+ghost use Rattle.event_tree.specs.PathTexts.{way_of};
 ghost use Rattle.filter_settings.specs.Paths as spec;
 
 use crate::pieces::add_text;
@@ -26,6 +27,15 @@ fn add_parts(parts: &mut Names, more: &[Text]) -> Result<(), AllocError>
         parts.push(part.copy()?)?;
     }
     Ok(())
+}
+
+/// The path of a field of this name at the root of an event.
+pub fn field_named(alloc: Global, name: &str) -> Result<Path, AllocError>
+    ensures { IfOk result (λ path. path ≡ way_of (name.now ∷ [])) }
+{
+    let mut parts = Names::new(alloc);
+    add_text(&mut parts, name)?;
+    Ok(Path::of_parts(parts))
 }
 
 /// A path under another.

@@ -53,16 +53,12 @@ pub fn finish(
 ) -> Result<Applied, AllocError>
     ensures { IfOk result (λ applied. applied ≡ spec.finished options.now tag.now (tried fine event)) }
 {
-    let alloc = tag.allocator();
     let event = if fine {
         options.apply(event)?
     } else {
         with_tag(event, tag)?
     };
-    Ok(Applied {
-        events: one_event(alloc, event)?,
-        matched: fine,
-    })
+    one_applied(tag.allocator(), event, fine)
 }
 
 fn with_tag(event: Event, tag: &Text) -> Result<Event, AllocError>
@@ -71,6 +67,14 @@ fn with_tag(event: Event, tag: &Text) -> Result<Event, AllocError>
     let mut event = event;
     add_tag(&mut event, tag.copy()?)?;
     Ok(event)
+}
+
+/// What a filter gives that makes this one event, and whether it matched.
+pub fn one_applied(alloc: Global, event: Event, matched: bool) -> Result<Applied, AllocError>
+    ensures { IfOk result (λ applied. applied ≡ spec.one_applied event matched) }
+{
+    let events = one_event(alloc, event)?;
+    Ok(Applied { events, matched })
 }
 
 /// A list of one event.
