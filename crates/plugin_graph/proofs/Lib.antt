@@ -6,6 +6,5 @@ pub mod Making
 pub mod Onces
 pub mod Outputting
 pub mod Patterns
-pub mod Reading
 pub mod Sums
 pub mod Tables

@@ -26,18 +26,22 @@ use Rattle.plugin_graph.specs.declared.built.BuiltFilter.TheVariants as built
 use Rattle.plugin_graph.specs.declared.filter.Filter.{Filter}
 use Rattle.plugin_graph.specs.declared.filter.Filter.TheVariants as f
 
+-- a filter that was made, as a built-in one that was found
+abbrev pub built_as : {A : Type 0} → (A → BuiltFilter) → Made A → Made (Option BuiltFilter)
+built_as f made = with_made (λ x. Some (f x)) made
+
 -- the built-in filter of a name, by its settings; none where no filter of that name is built in
 unfoldable pub built_of : List ℕ → Entries → Made (Option BuiltFilter)
 built_of name es =
-    if bytes_eq name (codes "mutate") then with_made (λ x. Some (built.Mutate x)) (mutate_of es)
-    else (if bytes_eq name (codes "clone") then with_made (λ x. Some (built.Clone x)) (clone_of es)
-    else (if bytes_eq name (codes "split") then with_made (λ x. Some (built.Split x)) (split_of es)
-    else (if bytes_eq name (codes "drop") then with_made (λ x. Some (built.Drop x)) (drop_of es)
-    else (if bytes_eq name (codes "grok") then with_made (λ x. Some (built.Grok x)) (grok_of es)
-    else (if bytes_eq name (codes "json") then with_made (λ x. Some (built.Json x)) (json_of es)
-    else (if bytes_eq name (codes "kv") then with_made (λ x. Some (built.Kv x)) (kv_of es)
-    else (if bytes_eq name (codes "csv") then with_made (λ x. Some (built.Csv x)) (csv_of es)
-    else (if bytes_eq name (codes "date") then with_made (λ x. Some (built.Date x)) (date_of es)
+    if bytes_eq name (codes "mutate") then built_as built.Mutate (mutate_of es)
+    else (if bytes_eq name (codes "clone") then built_as built.Clone (clone_of es)
+    else (if bytes_eq name (codes "split") then built_as built.Split (split_of es)
+    else (if bytes_eq name (codes "drop") then built_as built.Drop (drop_of es)
+    else (if bytes_eq name (codes "grok") then built_as built.Grok (grok_of es)
+    else (if bytes_eq name (codes "json") then built_as built.Json (json_of es)
+    else (if bytes_eq name (codes "kv") then built_as built.Kv (kv_of es)
+    else (if bytes_eq name (codes "csv") then built_as built.Csv (csv_of es)
+    else (if bytes_eq name (codes "date") then built_as built.Date (date_of es)
     else Ok None))))))))
 
 -- what a built-in filter makes of an event

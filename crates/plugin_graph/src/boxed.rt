@@ -52,9 +52,8 @@ impl BoxedFilter {
 fn is_common(name: &str) -> bool
     ensures { result ≡ spec.is_common name.now }
 {
-    name == "id"
-        || name == "add_field"
-        || name == "remove_field"
-        || name == "add_tag"
-        || name == "remove_tag"
+    match name {
+        "id" | "add_field" | "remove_field" | "add_tag" | "remove_tag" => true,
+        _ => false,
+    }
 }

@@ -1,8 +1,18 @@
 ghost use Rattle.std.specs.Prelude.{◌≡◌, IfOk};
 ghost use Rattle.filter_settings.specs.Settings.{Gives};
+ghost use Rattle.filters_date.specs.Dates.{date_of};
+ghost use Rattle.filters_grok.specs.Grok.{grok_of};
+ghost use Rattle.filters_mutate.specs.Settings.{mutate_of};
+ghost use Rattle.filters_shape.specs.Clone.{clone_of};
+ghost use Rattle.filters_shape.specs.Drops.{drop_of};
+ghost use Rattle.filters_shape.specs.Split.{split_of};
+ghost use Rattle.filters_text.specs.Csv.{csv_of};
+ghost use Rattle.filters_text.specs.Json.{json_of};
+ghost use Rattle.filters_text.specs.Kv.{kv_of};
 ghost use Rattle.plugin_graph.specs.Makes as spec;
+ghost use Rattle.plugin_graph.specs.declared.built.BuiltFilter.TheVariants as built;
 
-use config_tree::Plugin;
+use config_tree::{Plugin, Settings};
 use event_tree::Event;
 use filter_settings::{Applied, FromFault};
 use filters_date::DateFilter;
@@ -51,15 +61,15 @@ impl BuiltFilter {
     {
         let settings = &plugin.settings;
         match plugin.name.as_str() {
-            "mutate" => Ok(Some(BuiltFilter::Mutate(Mutate::from_settings(settings)?))),
-            "clone" => Ok(Some(BuiltFilter::Clone(CloneFilter::from_settings(settings)?))),
-            "split" => Ok(Some(BuiltFilter::Split(SplitFilter::from_settings(settings)?))),
-            "drop" => Ok(Some(BuiltFilter::Drop(DropFilter::from_settings(settings)?))),
-            "grok" => Ok(Some(BuiltFilter::Grok(Grok::from_settings(settings)?))),
-            "json" => Ok(Some(BuiltFilter::Json(Json::from_settings(settings)?))),
-            "kv" => Ok(Some(BuiltFilter::Kv(Kv::from_settings(settings)?))),
-            "csv" => Ok(Some(BuiltFilter::Csv(Csv::from_settings(settings)?))),
-            "date" => Ok(Some(BuiltFilter::Date(DateFilter::from_settings(settings)?))),
+            "mutate" => mutate_filter(settings),
+            "clone" => clone_filter(settings),
+            "split" => split_filter(settings),
+            "drop" => drop_filter(settings),
+            "grok" => grok_filter(settings),
+            "json" => json_filter(settings),
+            "kv" => kv_filter(settings),
+            "csv" => csv_filter(settings),
+            "date" => date_filter(settings),
             _ => Ok(None),
         }
     }
@@ -82,4 +92,58 @@ impl BuiltFilter {
             BuiltFilter::Date(filter) => filter.apply(event),
         }
     }
+}
+
+fn mutate_filter(settings: &Settings) -> Result<Option<BuiltFilter>, FromFault>
+    ensures { Gives result (spec.built_as built.Mutate (mutate_of settings.now.list)) }
+{
+    Ok(Some(BuiltFilter::Mutate(Mutate::from_settings(settings)?)))
+}
+
+fn clone_filter(settings: &Settings) -> Result<Option<BuiltFilter>, FromFault>
+    ensures { Gives result (spec.built_as built.Clone (clone_of settings.now.list)) }
+{
+    Ok(Some(BuiltFilter::Clone(CloneFilter::from_settings(settings)?)))
+}
+
+fn split_filter(settings: &Settings) -> Result<Option<BuiltFilter>, FromFault>
+    ensures { Gives result (spec.built_as built.Split (split_of settings.now.list)) }
+{
+    Ok(Some(BuiltFilter::Split(SplitFilter::from_settings(settings)?)))
+}
+
+fn drop_filter(settings: &Settings) -> Result<Option<BuiltFilter>, FromFault>
+    ensures { Gives result (spec.built_as built.Drop (drop_of settings.now.list)) }
+{
+    Ok(Some(BuiltFilter::Drop(DropFilter::from_settings(settings)?)))
+}
+
+fn grok_filter(settings: &Settings) -> Result<Option<BuiltFilter>, FromFault>
+    ensures { Gives result (spec.built_as built.Grok (grok_of settings.now.list)) }
+{
+    Ok(Some(BuiltFilter::Grok(Grok::from_settings(settings)?)))
+}
+
+fn json_filter(settings: &Settings) -> Result<Option<BuiltFilter>, FromFault>
+    ensures { Gives result (spec.built_as built.Json (json_of settings.now.list)) }
+{
+    Ok(Some(BuiltFilter::Json(Json::from_settings(settings)?)))
+}
+
+fn kv_filter(settings: &Settings) -> Result<Option<BuiltFilter>, FromFault>
+    ensures { Gives result (spec.built_as built.Kv (kv_of settings.now.list)) }
+{
+    Ok(Some(BuiltFilter::Kv(Kv::from_settings(settings)?)))
+}
+
+fn csv_filter(settings: &Settings) -> Result<Option<BuiltFilter>, FromFault>
+    ensures { Gives result (spec.built_as built.Csv (csv_of settings.now.list)) }
+{
+    Ok(Some(BuiltFilter::Csv(Csv::from_settings(settings)?)))
+}
+
+fn date_filter(settings: &Settings) -> Result<Option<BuiltFilter>, FromFault>
+    ensures { Gives result (spec.built_as built.Date (date_of settings.now.list)) }
+{
+    Ok(Some(BuiltFilter::Date(DateFilter::from_settings(settings)?)))
 }

@@ -1,4 +1,5 @@
-ghost use Rattle.std.specs.Prelude.{◌≡◌, ◌++◌, OnOk};
+ghost use Rattle.std.specs.Prelude.{◌≡◌, ◌+◌, ◌++◌, IfOk, OnOk};
+ghost use Rattle.event_flow.specs.Ids as ids;
 ghost use Rattle.filter_settings.specs.Settings.{Gives};
 ghost use Rattle.plugin_graph.specs.Conditions.{compiled};
 ghost use Rattle.plugin_graph.specs.Each as spec;
@@ -34,11 +35,27 @@ pub fn add_named(
 {
     let mut number: u64 = 0;
     for condition in conditions.into_vec() {
-        number = number.checked_add(1).ok_or(AllocError)?;
-        let id = Text::from_string(format!(in alloc; "{section}_if_{number}")?);
+        number = next_number(number)?;
+        let id = condition_id(alloc, section, number)?;
         to.push(NamedCondition { condition, id })?;
     }
     Ok(())
+}
+
+fn next_number(number: u64) -> Result<u64, AllocError>
+    ensures { IfOk result (λ next. next ≡ number + 1) }
+{
+    match number.checked_add(1) {
+        Some(next) => Ok(next),
+        None => Err(AllocError),
+    }
+}
+
+// The id of the condition with this number in a section.
+fn condition_id(alloc: Global, section: &str, number: u64) -> Result<Text, AllocError>
+    ensures { IfOk result (λ id. id ≡ ids.condition_id section.now number) }
+{
+    Ok(Text::from_string(format!(in alloc; "{section}_if_{number}")?))
 }
 
 /// Conditions with their patterns. It is refused where a text of one of them is no pattern.

@@ -1,20 +1,23 @@
 ghost use Rattle.std.specs.Prelude.{◌≡◌, ◌++◌, IfOk, IfErr, codes, map};
 ghost use Rattle.event_flow.specs.Parts.{parts_of};
-ghost use Rattle.filter_settings.specs.Settings.{Refuses};
-ghost use Rattle.plugin_graph.specs.Each.{named};
+ghost use Rattle.filter_settings.specs.Settings.{Gives, Refuses};
+ghost use Rattle.plugin_graph.specs.Conditions.{compiled};
+ghost use Rattle.plugin_graph.specs.Each.{each_made, named};
 ghost use Rattle.plugin_graph.specs.Flats.{flat_of};
 ghost use Rattle.plugin_graph.specs.KitParts.{contents_in};
 ghost use Rattle.plugin_graph.specs.Kits.{boxes_of, no_boxes};
 ghost use Rattle.plugin_graph.specs.Loads as spec;
+ghost use Rattle.plugin_graph.specs.Makes.{filter_of};
+ghost use Rattle.plugin_graph.specs.Numbering.{outputs_of};
 
-use crate::condition::NamedCondition;
+use crate::condition::{CompiledCondition, NamedCondition};
 use crate::filter::Filter;
 use crate::flat::Flat;
 use crate::kit_filter::KitFilter;
 use crate::lists::{add_named, compile_conditions, read_filters};
 use crate::output::Outputs;
 use crate::parts::Parts;
-use config_tree::{Condition, Config, FromFault};
+use config_tree::{Condition, Config, FromFault, Plugin};
 use plain_data::{Items, Text};
 use std::alloc::{AllocError, Global};
 use std::mem;
@@ -38,16 +41,54 @@ pub(crate) fn load<X: Drop>(
     ensures refused { IfErr result (λ fault. Refuses fault (spec.loaded draws.now config.now)) }
 {
     let Sections { filters, outputs } = Sections::of_config(alloc, config)?;
-    let read = read_filters(alloc, filters.plugins.as_slice())?;
-    let named = named_conditions(alloc, filters.conditions, outputs.conditions)?;
-    let conditions = compile_conditions(alloc, named)?;
-    let Outputs { outputs, targets } = Outputs::of_plugins(
-        alloc,
-        draws,
-        outputs.plugins.as_slice(),
-    )?;
+    let Flat {
+        plugins,
+        conditions,
+    } = filters;
+    let read = filters_of(alloc, plugins)?;
+    let conditions = conditions_of(alloc, conditions, outputs.conditions)?;
+    Ok(parts_of(alloc, draws, read, outputs.plugins, conditions)?)
+}
+
+// The filters that plugins are.
+fn filters_of(alloc: Global, plugins: Items<Plugin>) -> Result<Items<Filter>, FromFault>
+    ensures { Gives result (each_made filter_of plugins) }
+{
+    read_filters(alloc, plugins.as_slice())
+}
+
+// The conditions of both sections, with their patterns.
+fn conditions_of(
+    alloc: Global,
+    filters: Items<Condition>,
+    outputs: Items<Condition>,
+) -> Result<Items<CompiledCondition>, FromFault>
+    ensures { Gives result (each_made compiled (named (codes "filter") 1 filters
+        ++ named (codes "output") 1 outputs)) }
+{
+    let named = named_conditions(alloc, filters, outputs)?;
+    compile_conditions(alloc, named)
+}
+
+fn parts_of<X: Drop>(
+    alloc: Global,
+    draws: &[(Text, u64)],
+    filters: Items<Filter>,
+    plugins: Items<Plugin>,
+    conditions: Items<CompiledCondition>,
+) -> Result<Parts<X>, AllocError>
+    ensures filters { IfOk result (λ parts. map (λ f. f.filter) parts.filters ≡ filters) }
+    ensures boxes { IfOk result (λ parts. boxes_of parts.filters ≡ no_boxes filters) }
+    ensures outputs { IfOk result (λ parts. parts.outputs
+        ≡ (outputs_of draws.now plugins).outputs) }
+    ensures targets { IfOk result (λ parts. parts.targets
+        ≡ (outputs_of draws.now plugins).targets) }
+    ensures conditions { IfOk result (λ parts. parts.conditions ≡ conditions) }
+{
+    let filters = kit_filters(alloc, filters)?;
+    let Outputs { outputs, targets } = Outputs::of_plugins(alloc, draws, plugins.as_slice())?;
     Ok(Parts {
-        filters: kit_filters(alloc, read)?,
+        filters,
         outputs,
         targets,
         conditions,

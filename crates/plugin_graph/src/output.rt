@@ -94,11 +94,21 @@ impl Outputs {
         ensures { OnOk result (self.new ≡ spec.with_output id places self.old) }
     {
         let targets = numbers(self.outputs.allocator(), self.targets.len(), places.len())?;
+        self.add_targets(&id, places)?;
+        self.outputs.push(Output { id, targets })
+    }
+
+    // Adds the targets of an output of this id.
+    fn add_targets(&mut self, id: &Text, places: Items<Place>) -> Result<(), AllocError>
+        ensures targets { OnOk result (self.new.targets
+            ≡ self.old.targets ++ spec.targets_of id.now places) }
+        ensures outputs { self.new.outputs ≡ self.old.outputs }
+    {
         for place in places.into_vec() {
             let output = id.copy()?;
             self.targets.push(Target { output, place })?;
         }
-        self.outputs.push(Output { id, targets })
+        Ok(())
     }
 }
 

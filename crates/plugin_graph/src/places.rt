@@ -1,6 +1,7 @@
-ghost use Rattle.std.specs.Prelude.{◌≡◌, ◌∷◌, [], IfOk, bytes_eq, codes, map, option_and_then};
+ghost use Rattle.std.specs.Prelude.{◌≡◌, ◌∷◌, [], ℕ, List, Option, IfOk, bytes_eq, codes, map, option_and_then};
 ghost use Rattle.config_tree.specs.Readers.{value_at};
 ghost use Rattle.filter_settings.specs.Readers.{text_of, texts_of};
+ghost use Rattle.filter_settings.specs.Settings.{Gives, wanted};
 ghost use Rattle.event_flow.specs.Ids as ids;
 ghost use Rattle.event_flow.specs.Places as spec;
 ghost use Rattle.foreign_parts.specs.declared.place.Place.TheVariants as place;
@@ -30,17 +31,12 @@ pub(crate) fn plugin_id(
 }
 
 // The id that settings give.
-#[tactic(auto, using(crate::proofs::Reading::reading))]
 fn given_id(alloc: Global, settings: &Settings) -> Result<Option<Text>, AllocError>
     ensures { IfOk result (λ id. id ≡ ids.given_id settings.now.list) }
 {
-    let Some(value) = settings.get("id") else {
-        return Ok(None);
-    };
-    match read_id(alloc, "id", value) {
-        Ok(id) => Ok(Some(id)),
-        Err(FromFault::Bad(_)) => Ok(None),
-        Err(FromFault::Memory) => Err(AllocError),
+    match settings.get("id") {
+        Some(value) => unless_refused(read_id(alloc, "id", value)),
+        None => Ok(None),
     }
 }
 
@@ -80,32 +76,36 @@ fn one(alloc: Global, place: Place) -> Result<Items<Place>, AllocError>
 }
 
 // The path that settings give.
-#[tactic(auto, using(crate::proofs::Reading::reading))]
 fn given_path(alloc: Global, settings: &Settings) -> Result<Option<Text>, AllocError>
     ensures { IfOk result (λ path. path
         ≡ option_and_then text_of (value_at (codes "path") settings.now.list)) }
 {
-    let Some(value) = settings.get("path") else {
-        return Ok(None);
-    };
-    match read_text(alloc, "path", value) {
-        Ok(path) => Ok(Some(path)),
-        Err(FromFault::Bad(_)) => Ok(None),
-        Err(FromFault::Memory) => Err(AllocError),
+    match settings.get("path") {
+        Some(value) => unless_refused(read_text(alloc, "path", value)),
+        None => Ok(None),
     }
 }
 
 // The addresses that settings give.
-#[tactic(auto, using(crate::proofs::Reading::reading))]
 fn given_addresses(alloc: Global, settings: &Settings) -> Result<Option<Names>, AllocError>
     ensures { IfOk result (λ addresses. addresses
         ≡ option_and_then texts_of (value_at (codes "send_to") settings.now.list)) }
 {
-    let Some(value) = settings.get("send_to") else {
-        return Ok(None);
-    };
-    match read_texts(alloc, "send_to", value) {
-        Ok(addresses) => Ok(Some(addresses)),
+    match settings.get("send_to") {
+        Some(value) => unless_refused(read_texts(alloc, "send_to", value)),
+        None => Ok(None),
+    }
+}
+
+// What was read, and nothing where it was refused.
+fn unless_refused<T>(read: Result<T, FromFault>) -> Result<Option<T>, AllocError>
+where
+    T: Drop,
+    ensures { (name : List ℕ) (said : Option T) → Gives read (wanted name said)
+        → IfOk result (λ found. found ≡ said) }
+{
+    match read {
+        Ok(read) => Ok(Some(read)),
         Err(FromFault::Bad(_)) => Ok(None),
         Err(FromFault::Memory) => Err(AllocError),
     }
