@@ -7,8 +7,9 @@ ghost use Rattle.filters_shape.specs.Split as spec;
 
 use event_tree::{Event, Events, Items, Names, Path, Text, Value};
 use filter_settings::{
-    Applied, FromFault, Options, SetByName, SettingValue, Settings, add_tag, assign, assign_some,
-    one_event, read_path, read_settings, read_text, set_option, split_text, try_put,
+    Applied, FromFault, Options, SetByName, SettingValue, Settings, add_copies, add_tag, assign,
+    assign_some, field_named, one_applied, read_path, read_settings, read_text, set_option,
+    split_text, try_put,
 };
 use std::alloc::{AllocError, Global};
 
@@ -64,7 +65,7 @@ impl SplitFilter {
     fn new(alloc: Global) -> Result<SplitFilter, AllocError>
         ensures { IfOk result (λ filter. filter ≡ spec.split_start) }
     {
-        let field = message_path(alloc)?;
+        let field = field_named(alloc, "message")?;
         let terminator = Text::of(alloc, "\n")?;
         Ok(SplitFilter {
             field,
@@ -109,11 +110,10 @@ impl SplitFilter {
     fn split_into(&self, event: Event, pieces: Items<Value>) -> Result<Applied, AllocError>
         ensures { IfOk result (λ applied. applied ≡ spec.split_into self.now event pieces) }
     {
-        let events = if pieces.len() < 2 {
-            one_event(self.terminator.allocator(), event)?
-        } else {
-            self.events(event, pieces)?
-        };
+        if pieces.len() < 2 {
+            return one_applied(self.terminator.allocator(), event, true);
+        }
+        let events = self.events(event, pieces)?;
         Ok(Applied {
             events,
             matched: true,
@@ -204,19 +204,8 @@ impl SplitFilter {
         let alloc = self.terminator.allocator();
         let mut event = event;
         add_tag(&mut event, Text::of(alloc, "_split_type_failure")?)?;
-        Ok(Applied {
-            events: one_event(alloc, event)?,
-            matched: false,
-        })
+        one_applied(alloc, event, false)
     }
-}
-
-fn message_path(alloc: Global) -> Result<Path, AllocError>
-    ensures { IfOk result (λ path. path ≡ spec.message) }
-{
-    let mut parts = Names::new(alloc);
-    parts.push(Text::of(alloc, "message")?)?;
-    Ok(Path::of_parts(parts))
 }
 
 // The texts that are not empty, as values.
@@ -236,8 +225,6 @@ fn copies(values: &Items<Value>) -> Result<Items<Value>, AllocError>
     ensures { IfOk result (λ copies. copies ≡ values.now) }
 {
     let mut copies = Items::with_capacity(values.allocator(), values.len())?;
-    for value in values.as_slice() {
-        copies.push(value.copy()?)?;
-    }
+    add_copies(&mut copies, values.as_slice())?;
     Ok(copies)
 }
