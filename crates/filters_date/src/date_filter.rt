@@ -11,9 +11,9 @@ use event_text::{event_time, number_of, path_in};
 use event_times::{TimeItem, TimeParts, iso8601_parts, read_offset, read_time, year_of};
 use event_tree::{Event, Items, Names, Number, Path, Text, Value};
 use filter_settings::{
-    Applied, FromFault, Options, SetByName, SettingValue, Settings, assign, bad_pattern, finish,
-    one_event, put_at, read_path, read_settings, read_text, read_texts, require, set_option,
-    wanted,
+    Applied, FromFault, Options, SetByName, SettingValue, Settings, assign, bad_pattern,
+    field_named, finish, one_applied, put_at, read_path, read_settings, read_text, read_texts,
+    require, set_option, wanted,
 };
 use std::alloc::{AllocError, Global};
 use time_instant::Instant;
@@ -77,8 +77,8 @@ impl DateFilter {
     fn new(alloc: Global) -> Result<DateFilter, AllocError>
         ensures { IfOk result (λ filter. filter ≡ spec.date_start) }
     {
-        let source = timestamp_path(alloc)?;
-        let target = timestamp_path(alloc)?;
+        let source = field_named(alloc, "@timestamp")?;
+        let target = field_named(alloc, "@timestamp")?;
         let tag_on_failure = Text::of(alloc, "_dateparsefailure")?;
         Ok(DateFilter {
             source,
@@ -111,10 +111,7 @@ impl DateFilter {
         ensures { IfOk result (λ applied. applied ≡ spec.dated self.now event) }
     {
         match event.get(&self.source) {
-            None => Ok(Applied {
-                events: one_event(self.tag_on_failure.allocator(), event)?,
-                matched: false,
-            }),
+            None => one_applied(self.tag_on_failure.allocator(), event, false),
             Some(value) => {
                 let moment = self.moment(&event, value);
                 self.put(event, moment)
@@ -177,14 +174,6 @@ impl DateFilter {
     }
 }
 
-fn timestamp_path(alloc: Global) -> Result<Path, AllocError>
-    ensures { IfOk result (λ path. path ≡ spec.timestamp) }
-{
-    let mut parts = Names::new(alloc);
-    parts.push(Text::of(alloc, "@timestamp")?)?;
-    Ok(Path::of_parts(parts))
-}
-
 /// The text of a value that is one.
 fn text_in(value: &Value) -> Option<&str>
     ensures { option_map (λ text. text.now) result ≡ spec.text_of_value value.now }
@@ -237,7 +226,7 @@ fn read_formats(alloc: Global, name: &str, texts: &[Text]) -> Result<Items<DateF
     }
 }
 
-#[tactic(auto, using(event_text::proofs::Going::going))]
+#[tactic(auto, using(filter_settings::proofs::Steps::each))]
 fn formats(alloc: Global, texts: &[Text]) -> Result<Option<Items<DateFormat>>, AllocError>
     ensures { IfOk result (λ formats. formats ≡ each_in format_of texts.now) }
 {

@@ -18,6 +18,7 @@ use Rattle.filter_settings.specs.Readers.{text_of as setting_text, flag_of, path
 use Rattle.filter_settings.specs.Options.{option_set}
 use Rattle.kv_text.specs.Pairs.{pairs_in, trimmed}
 use Rattle.filters_text.specs.Targets.{under}
+use Rattle.kv_text.specs.declared.Splits.{Splits}
 use Rattle.filters_text.specs.declared.kv_filter.Kv.{Kv}
 
 -- a setting that is a set of characters
@@ -50,12 +51,16 @@ kv_set k x f =
     else (if bytes_eq k (codes "allow_duplicate_values") then with_made (λ b. record f { allow_duplicate_values = b }) (wanted k (flag_of x))
     else text_set k x f)))))
 
--- before any setting: pairs are split at blanks, and keys from values at `=`
+-- pairs are split at blanks, and keys from values at `=`
+abbrev pub default_splits : Splits
+default_splits = record { fields = codes " "; values = codes "="; keys = [] }
+
+-- before any setting
 abbrev pub kv_start : Kv
 kv_start = record {
   source = named (codes "message");
   target = None;
-  splits = record { fields = codes " "; values = codes "="; keys = [] };
+  splits = default_splits;
   prefix = [];
   include_keys = [];
   exclude_keys = [];

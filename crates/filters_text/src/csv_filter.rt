@@ -8,8 +8,9 @@ use decoded_fields::{field_path, text_in};
 use event_tree::{Event, Items, Names, Path, Text, Value};
 use filter_settings::{
     Applied, Change, Conversion, FromFault, Options, SetByName, SettingValue, Settings, assign,
-    assign_some, convert, finish, is_same, one_event, path_under, put_at, read_field_conversions,
-    read_flag, read_path, read_paths, read_settings, read_text, set_option, wanted,
+    assign_some, convert, field_named, finish, is_same, one_applied, path_under, put_at,
+    read_field_conversions, read_flag, read_path, read_paths, read_settings, read_text, set_option,
+    wanted,
 };
 use std::alloc::{AllocError, Global};
 
@@ -106,7 +107,7 @@ impl Csv {
     fn new(alloc: Global) -> Result<Csv, AllocError>
         ensures { IfOk result (λ filter. filter ≡ spec.csv_start) }
     {
-        let source = field_path(Text::of(alloc, "message")?)?;
+        let source = field_named(alloc, "message")?;
         let failure_tag = Text::of(alloc, "_csvparsefailure")?;
         Ok(Csv {
             source,
@@ -192,10 +193,7 @@ impl Csv {
         ensures { IfOk result (λ applied. applied ≡ spec.separated self.now event) }
     {
         match event.get(&self.source) {
-            None => Ok(Applied {
-                events: one_event(self.failure_tag.allocator(), event)?,
-                matched: false,
-            }),
+            None => one_applied(self.failure_tag.allocator(), event, false),
             Some(value) => {
                 let row = self.row_in(value)?;
                 self.put(event, row)

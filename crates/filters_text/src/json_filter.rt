@@ -4,11 +4,12 @@ ghost use Rattle.filter_settings.specs.Settings.{Gives};
 ghost use Rattle.filter_settings.specs.Trying.{tried};
 ghost use Rattle.filters_text.specs.Json as spec;
 
-use decoded_fields::{failure_tags, field_path, json_value, place, text_in};
+use decoded_fields::{failure_tags, json_value, place, text_in};
 use event_tree::{Event, Fields, Path, Text, Value};
 use filter_settings::{
     Applied, FromFault, Options, SetByName, SettingValue, Settings, add_tag, assign, assign_some,
-    finish, one_event, put_at, read_path, read_settings, read_text, require, set_option,
+    field_named, finish, one_applied, put_at, read_path, read_settings, read_text, require,
+    set_option,
 };
 use std::alloc::{AllocError, Global};
 
@@ -64,11 +65,12 @@ impl Json {
     fn new(alloc: Global) -> Result<Json, AllocError>
         ensures { IfOk result (λ filter. filter ≡ spec.json_start) }
     {
-        let source = field_path(Text::of(alloc, "message")?)?;
+        let source = field_named(alloc, "message")?;
+        let tag_on_failure = Text::of(alloc, "_jsonparsefailure")?;
         Ok(Json {
             source,
             target: None,
-            tag_on_failure: Text::of(alloc, "_jsonparsefailure")?,
+            tag_on_failure,
             options: Options::none(alloc),
         })
     }
@@ -85,10 +87,7 @@ impl Json {
     {
         let alloc = self.tag_on_failure.allocator();
         match event.get(&self.source) {
-            None => Ok(Applied {
-                events: one_event(alloc, event)?,
-                matched: false,
-            }),
+            None => one_applied(alloc, event, false),
             Some(value) => {
                 let found = value_in(alloc, value)?;
                 self.put(event, found)

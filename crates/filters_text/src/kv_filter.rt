@@ -10,11 +10,12 @@ ghost use Rattle.filters_text.specs.Kv as spec;
 ghost use Rattle.kv_text.specs.Views.{both_chars};
 
 use crate::target::field_under;
-use decoded_fields::{field_path, text_in};
+use decoded_fields::text_in;
 use event_tree::{Event, Fields, Items, Names, Path, Text, Value};
 use filter_settings::{
-    Applied, FromFault, Options, SetByName, SettingValue, Settings, assign, assign_some, one_event,
-    read_flag, read_path, read_settings, read_text, read_texts, set_option, try_put,
+    Applied, FromFault, Options, SetByName, SettingValue, Settings, assign, assign_some,
+    field_named, one_applied, read_flag, read_path, read_settings, read_text, read_texts,
+    set_option, try_put,
 };
 use kv_text::{Splits, trimmed};
 use std::alloc::{AllocError, Global};
@@ -96,18 +97,13 @@ impl Kv {
     fn new(alloc: Global) -> Result<Kv, AllocError>
         ensures { IfOk result (λ filter. filter ≡ spec.kv_start) }
     {
-        let source = field_path(Text::of(alloc, "message")?)?;
-        let fields = one_character(alloc, ' ')?;
-        let values = one_character(alloc, '=')?;
+        let source = field_named(alloc, "message")?;
+        let splits = default_splits(alloc)?;
         let prefix = Text::of(alloc, "")?;
         Ok(Kv {
             source,
             target: None,
-            splits: Splits {
-                fields,
-                values,
-                keys: Items::new(alloc),
-            },
+            splits,
             prefix,
             include_keys: Names::new(alloc),
             exclude_keys: Names::new(alloc),
@@ -152,10 +148,7 @@ impl Kv {
     {
         match self.groups(event.get(&self.source))? {
             Some(groups) => self.with_groups(event, groups),
-            None => Ok(Applied {
-                events: one_event(self.prefix.allocator(), event)?,
-                matched: false,
-            }),
+            None => one_applied(self.prefix.allocator(), event, false),
         }
     }
 
@@ -231,10 +224,7 @@ impl Kv {
         let mut event = event;
         self.put_groups(&mut event, groups)?;
         let event = self.options.apply(event)?;
-        Ok(Applied {
-            events: one_event(self.prefix.allocator(), event)?,
-            matched: true,
-        })
+        one_applied(self.prefix.allocator(), event, true)
     }
 
     fn put_groups(&self, event: &mut Event, groups: Fields<Names>) -> Result<(), AllocError>
@@ -353,6 +343,19 @@ fn characters(alloc: Global, text: &str) -> Result<Items<char>, AllocError>
         found.push(character)?;
     }
     Ok(found)
+}
+
+/// Blanks between two pairs, and `=` between a key and its value.
+fn default_splits(alloc: Global) -> Result<Splits, AllocError>
+    ensures { IfOk result (λ splits. splits ≡ spec.default_splits) }
+{
+    let fields = one_character(alloc, ' ')?;
+    let values = one_character(alloc, '=')?;
+    Ok(Splits {
+        fields,
+        values,
+        keys: Items::new(alloc),
+    })
 }
 
 fn one_character(alloc: Global, character: char) -> Result<Items<char>, AllocError>
