@@ -9,7 +9,7 @@ use Rattle.config_tree.specs.Readers.{value_at}
 use Rattle.config_tree.specs.declared.tree.SettingValue.{SettingValue}
 use Rattle.config_tree.specs.declared.fault.SettingFault.TheVariants as fault
 use Rattle.filter_settings.specs.Settings.{Made, wanted, next}
-use Rattle.filter_settings.specs.Readers.{text_item, texts_of, flag_of, path_of, paths_of, hash_of, at_field}
+use Rattle.filter_settings.specs.Readers.{text_item, flag_of, path_of, paths_of, hash_of, field_lists_of}
 use Rattle.grok_patterns.specs.Pieces.{pieces_of}
 use Rattle.grok_patterns.specs.Expansions.{known_patterns, expanded}
 use Rattle.grok_patterns.specs.declared.expansion.Expanded.{Expanded}
@@ -58,14 +58,10 @@ pattern_of r s = option_and_then if_pattern (expanded r (pieces_of r.all_kept s)
 abbrev pub field_patterns : Rules → Way × List (List ℕ) → Option (Way × List Expanded)
 field_patterns r f = option_map (λ ps. (f.0, ps)) (each_in (pattern_of r) f.1)
 
--- fields with a text or a list of texts each
-abbrev pub fields_of : SettingValue → Option (List (Way × List (List ℕ)))
-fields_of x = option_and_then (each_in (at_field texts_of)) (hash_of x)
-
 -- what was read of a setting; a text that is no pattern is a fault
 abbrev pub readable : {A : Type 0} → List ℕ → Option A → Made A
 readable k None = Err (fault.BadPattern k)
 readable k (Some x) = Ok x
 
 abbrev pub match_of : Rules → List ℕ → SettingValue → Made (List (Way × List Expanded))
-match_of r k x = next (λ fs. readable k (each_in (field_patterns r) fs)) (wanted k (fields_of x))
+match_of r k x = next (λ fs. readable k (each_in (field_patterns r) fs)) (wanted k (field_lists_of x))

@@ -9,8 +9,8 @@ use crate::searching::{Finds, How, put_all, search_value};
 use crate::settings::{FieldPatterns, read_definitions, read_match, rules_of};
 use event_tree::{Event, Items, Text};
 use filter_settings::{
-    Applied, FromFault, Options, SetByName, SettingValue, Settings, finish, read_flag, read_path,
-    read_paths, read_settings, read_text, require, set_option,
+    Applied, FromFault, Options, SetByName, SettingValue, Settings, assign, finish, not_kept,
+    read_flag, read_path, read_paths, read_settings, read_text, require, set_option,
 };
 use grok_patterns::Rules;
 use std::alloc::{AllocError, Global};
@@ -51,13 +51,18 @@ impl SetByName for Grok {
 
     fn set(&mut self, alloc: Global, name: &str, value: &SettingValue) -> Result<(), FromFault> {
         match name {
-            "match" => self.fields = read_match(alloc, &self.rules, name, value)?,
-            "break_on_match" => self.break_on_match = read_flag(alloc, name, value)?,
-            "keep_empty_captures" => self.keep_empty_captures = read_flag(alloc, name, value)?,
-            "tag_on_failure" => self.tag_on_failure = read_text(alloc, name, value)?,
-            _ => self.set_further(alloc, name, value)?,
+            "match" => {
+                let fields = read_match(alloc, &self.rules, name, value);
+                assign(&mut self.fields, fields)
+            }
+            "break_on_match" => assign(&mut self.break_on_match, read_flag(alloc, name, value)),
+            "keep_empty_captures" => assign(
+                &mut self.keep_empty_captures,
+                read_flag(alloc, name, value),
+            ),
+            "tag_on_failure" => assign(&mut self.tag_on_failure, read_text(alloc, name, value)),
+            _ => self.set_further(alloc, name, value),
         }
-        Ok(())
     }
 }
 
@@ -77,12 +82,13 @@ impl Grok {
     fn new(alloc: Global, rules: Rules) -> Result<Grok, AllocError>
         ensures { IfOk result (λ filter. filter ≡ spec.grok_start rules) }
     {
+        let tag_on_failure = Text::of(alloc, "_grokparsefailure")?;
         Ok(Grok {
             rules,
             fields: Items::new(alloc),
             break_on_match: true,
             keep_empty_captures: false,
-            tag_on_failure: Text::of(alloc, "_grokparsefailure")?,
+            tag_on_failure,
             options: Options::none(alloc),
         })
     }
@@ -97,21 +103,12 @@ impl Grok {
         ensures { Leaves result (spec.further_set name.now value.now self.old) self.new }
     {
         match name {
-            "pattern_definitions" => {
-                let _ = read_definitions(alloc, name, value)?;
-            }
-            "named_captures_only" => {
-                let _ = read_flag(alloc, name, value)?;
-            }
-            "overwrite" => {
-                let _ = read_paths(alloc, name, value)?;
-            }
-            "target" => {
-                let _ = read_path(alloc, name, value)?;
-            }
-            _ => set_option(&mut self.options, alloc, name, value)?,
+            "pattern_definitions" => not_kept(read_definitions(alloc, name, value)),
+            "named_captures_only" => not_kept(read_flag(alloc, name, value)),
+            "overwrite" => not_kept(read_paths(alloc, name, value)),
+            "target" => not_kept(read_path(alloc, name, value)),
+            _ => set_option(&mut self.options, alloc, name, value),
         }
-        Ok(())
     }
 
     /// The event with what the patterns find in its fields, and with the options. The patterns of a field

@@ -8,7 +8,7 @@ ghost use Rattle.grok_patterns.specs.declared.expansion.Expanded.{Expanded as Sa
 use crate::grok_pattern::{GrokPattern, Put};
 use event_text::values;
 use event_tree::{Event, Items, Value};
-use filter_settings::put_at;
+use filter_settings::{add_copies, put_at};
 use grok_patterns::Capture;
 use std::alloc::{AllocError, Global};
 
@@ -237,13 +237,4 @@ fn with_value(alloc: Global, old: &[Value], value: Value) -> Result<Items<Value>
     add_copies(&mut more, old)?;
     more.push(value)?;
     Ok(more)
-}
-
-fn add_copies(to: &mut Items<Value>, values: &[Value]) -> Result<(), AllocError>
-    ensures { OnOk result (to.new ≡ to.old ++ values.now) }
-{
-    for value in values {
-        to.push(value.copy()?)?;
-    }
-    Ok(())
 }

@@ -1,18 +1,17 @@
 // How the settings of the filter are read.
 ghost use Rattle.std.specs.Prelude.{◌≡◌, ◌<◌, ℕ, List, Option, IfOk};
 ghost use Rattle.event_text.specs.Options.{each_in};
-ghost use Rattle.filter_settings.specs.Readers as readers;
 ghost use Rattle.filter_settings.specs.Settings.{Gives, wanted};
 ghost use Rattle.filters_grok.specs.Settings as spec;
+ghost use Rattle.grok_patterns.specs.Expansions.{known_patterns};
 
 use crate::grok_pattern::GrokPattern;
-use event_text::path_in;
 use event_tree::{Items, Names, Pairs, Path, Text};
 use filter_settings::{
-    FromFault, SettingValue, Settings, bad_pattern, hash_of, read_flag, read_path, read_paths,
-    read_texts, text_item, wanted,
+    FromFault, SettingValue, Settings, bad_pattern, hash_of, read_field_lists, read_flag,
+    read_path, read_paths, text_item, wanted,
 };
-use grok_patterns::{Rules, expand, known_patterns, read_pieces};
+use grok_patterns::{Expanded, Known, Rules, expand, known_patterns, read_pieces};
 use pattern_box::PatternFault;
 use std::alloc::{AllocError, Global};
 
@@ -25,13 +24,23 @@ pub(crate) fn rules_of(settings: &Settings) -> Result<Rules, AllocError>
 {
     let alloc = settings.list.allocator();
     let all_kept = all_kept(alloc, settings)?;
-    let definitions = definitions_in(alloc, settings)?;
+    let known = known_in(alloc, all_kept, settings)?;
+    let target = target_in(alloc, settings)?;
+    let overwrite = overwrite_in(alloc, settings)?;
     Ok(Rules {
-        known: known_patterns(alloc, all_kept, definitions.as_slice())?,
+        known,
         all_kept,
-        target: target_in(alloc, settings)?,
-        overwrite: overwrite_in(alloc, settings)?,
+        target,
+        overwrite,
     })
+}
+
+fn known_in(alloc: Global, all_kept: bool, settings: &Settings) -> Result<Known, AllocError>
+    ensures { IfOk result (λ known. known
+        ≡ known_patterns all_kept (spec.definitions_in settings.now.list)) }
+{
+    let definitions = definitions_in(alloc, settings)?;
+    known_patterns(alloc, all_kept, definitions.as_slice())
 }
 
 fn all_kept(alloc: Global, settings: &Settings) -> Result<bool, AllocError>
@@ -100,7 +109,7 @@ fn definitions_of(alloc: Global, value: &SettingValue) -> Result<Option<Pairs>, 
     }
 }
 
-#[tactic(auto, using(event_text::proofs::Going::going))]
+#[tactic(auto, using(filter_settings::proofs::Steps::each))]
 fn definitions(alloc: Global, entries: &[(Text, SettingValue)]) -> Result<Option<Pairs>, AllocError>
     ensures { IfOk result (λ found. found ≡ each_in spec.definition entries.now) }
 {
@@ -127,12 +136,6 @@ fn definition(
     }
 }
 
-fn texts_of(alloc: Global, value: &SettingValue) -> Result<Option<Names>, AllocError>
-    ensures { IfOk result (λ texts. texts ≡ readers.texts_of value.now) }
-{
-    unless_refused(read_texts(alloc, "match", value))
-}
-
 /// The fields with their patterns.
 pub(crate) fn read_match(
     alloc: Global,
@@ -142,59 +145,14 @@ pub(crate) fn read_match(
 ) -> Result<Items<FieldPatterns>, FromFault>
     ensures { Gives result (spec.match_of rules.now name.now value.now) }
 {
-    let fields = wanted(alloc, name, fields_of(alloc, value)?)?;
+    let fields = read_field_lists(alloc, name, value)?;
     match compiled(alloc, rules, fields.as_slice())? {
         Some(fields) => Ok(fields),
         None => Err(bad_pattern(alloc, name)),
     }
 }
 
-fn fields_of(
-    alloc: Global,
-    value: &SettingValue,
-) -> Result<Option<Items<(Path, Names)>>, AllocError>
-    ensures { IfOk result (λ fields. fields ≡ spec.fields_of value.now) }
-{
-    match hash_of(value) {
-        Some(entries) => field_texts(alloc, entries),
-        None => Ok(None),
-    }
-}
-
-#[tactic(auto, using(event_text::proofs::Going::going))]
-fn field_texts(
-    alloc: Global,
-    entries: &[(Text, SettingValue)],
-) -> Result<Option<Items<(Path, Names)>>, AllocError>
-    ensures { IfOk result (λ fields. fields ≡ each_in (readers.at_field readers.texts_of) entries.now) }
-{
-    let mut found = Items::new(alloc);
-    for entry in entries {
-        let Some(field) = texts_at(alloc, entry.0.as_str(), &entry.1)? else {
-            return Ok(None);
-        };
-        found.push(field)?;
-    }
-    Ok(Some(found))
-}
-
-fn texts_at(
-    alloc: Global,
-    key: &str,
-    value: &SettingValue,
-) -> Result<Option<(Path, Names)>, AllocError>
-    ensures { IfOk result (λ field. field ≡ readers.at_field readers.texts_of (key.now, value.now)) }
-{
-    let Some(path) = path_in(alloc, key)? else {
-        return Ok(None);
-    };
-    match texts_of(alloc, value)? {
-        Some(texts) => Ok(Some((path, texts))),
-        None => Ok(None),
-    }
-}
-
-#[tactic(auto, using(event_text::proofs::Going::going))]
+#[tactic(auto, using(filter_settings::proofs::Steps::each))]
 fn compiled(
     alloc: Global,
     rules: &Rules,
@@ -226,7 +184,7 @@ fn field_patterns(
     }
 }
 
-#[tactic(auto, using(event_text::proofs::Going::going))]
+#[tactic(auto, using(filter_settings::proofs::Steps::each))]
 fn patterns(
     alloc: Global,
     rules: &Rules,
@@ -254,10 +212,17 @@ pub fn pattern_of(
     ensures { IfOk result (λ found. found ≡ spec.pattern_of rules.now text.now) }
 {
     let pieces = read_pieces(alloc, rules.all_kept, text)?;
-    let Some(expanded) = expand(alloc, rules, pieces.as_slice())? else {
-        return Ok(None);
-    };
-    match GrokPattern::new(alloc, expanded) {
+    match expand(alloc, rules, pieces.as_slice())? {
+        Some(expanded) => if_pattern(alloc, expanded),
+        None => Ok(None),
+    }
+}
+
+// The pattern of what a text stands for, where that is a regular expression.
+fn if_pattern(alloc: Global, says: Expanded) -> Result<Option<GrokPattern>, AllocError>
+    ensures { IfOk result (λ found. found ≡ spec.if_pattern says) }
+{
+    match GrokPattern::new(alloc, says) {
         Ok(pattern) => Ok(Some(pattern)),
         Err(PatternFault::BadPattern) => Ok(None),
         Err(PatternFault::Memory) => Err(AllocError),
