@@ -43,9 +43,13 @@ without_end (b ∷ bs) = before_end b (without_end bs)
 abbrev pub stripped : List ℕ → List ℕ
 stripped s = without_end (without_front s)
 
+-- a text, with the separator in front of a later one
+abbrev pub behind_separator : List ℕ → Bool → List ℕ → List ℕ
+behind_separator separator later t = (if later then separator else []) ++ t
+
 abbrev pub between : List ℕ → Bool → List (List ℕ) → List ℕ
 between separator later [] = []
-between separator later (t ∷ ts) = (if later then separator else []) ++ (t ++ between separator true ts)
+between separator later (t ∷ ts) = behind_separator separator later t ++ between separator true ts
 
 -- texts with a separator between them
 abbrev pub joined_by : List ℕ → List (List ℕ) → List ℕ

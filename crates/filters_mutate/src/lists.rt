@@ -1,5 +1,5 @@
 // The operations between a text and a list.
-ghost use Rattle.std.specs.Prelude.{◌≡◌, IfOk, map};
+ghost use Rattle.std.specs.Prelude.{◌≡◌, ◌++◌, IfOk, OnOk, map, string_bytes};
 ghost use Rattle.std.specs.Option.{option_copied};
 ghost use Rattle.event_text.specs.Shown.{shown};
 ghost use Rattle.event_tree.specs.Paths.{over};
@@ -7,7 +7,7 @@ ghost use Rattle.event_tree.specs.declared.value.Value.TheVariants as v;
 ghost use Rattle.filter_settings.specs.declared.trying.Change.TheVariants as c;
 ghost use Rattle.filter_settings.specs.Trying.{tried, all_tried};
 ghost use Rattle.filters_mutate.specs.Operations as spec;
-ghost use Rattle.filters_mutate.specs.Texts.{joined_by};
+ghost use Rattle.filters_mutate.specs.Texts.{behind_separator, joined_by};
 
 use event_text::value_text;
 use event_tree::{Event, Items, Names, Path, Text, Value};
@@ -99,11 +99,26 @@ fn joined(alloc: Global, items: &[Value], separator: &str) -> Result<Text, Alloc
     let mut text = String::new(alloc);
     let mut later = false;
     for item in items {
-        if later {
-            text.push_str(separator)?;
-        }
-        text.push_str(value_text(alloc, item)?.as_str())?;
+        add_shown(&mut text, later, separator, item)?;
         later = true;
     }
     Ok(Text::from_string(text))
+}
+
+// What an item is shown by, with the separator in front of a later one.
+fn add_shown(
+    text: &mut String,
+    later: bool,
+    separator: &str,
+    item: &Value,
+) -> Result<(), AllocError>
+    ensures { OnOk result (string_bytes text.new
+        ≡ string_bytes text.old ++ behind_separator separator.now later (shown item.now)) }
+{
+    if later {
+        text.push_str(separator)?;
+    }
+    let shown = value_text(*text.allocator(), item)?;
+    text.push_str(shown.as_str())?;
+    Ok(())
 }

@@ -1,12 +1,13 @@
 // The operations that bring the value of one field to another.
 ghost use Rattle.std.specs.Prelude.{◌≡◌, ◌++◌, IfOk, OnOk};
 ghost use Rattle.filter_settings.specs.Trying.{tried, all_tried};
+ghost use Rattle.plain_data.specs.Members.{insert_member};
 ghost use Rattle.filters_mutate.specs.Operations as spec;
 ghost use Rattle.filters_mutate.specs.declared.moves.Move.TheVariants as moves;
 
 use event_text::values;
 use event_tree::{Event, Fields, Items, Path, PutFault, Text, Value};
-use filter_settings::{Change, change_at, put_at};
+use filter_settings::{Change, add_copies, change_at, put_at};
 use std::alloc::{AllocError, Global};
 
 /// How a value is brought to another field.
@@ -109,9 +110,18 @@ fn with_members(fields: &Fields<Value>, more: &[(Text, Value)]) -> Result<Fields
 {
     let mut all = copied(fields)?;
     for member in more {
-        let _ = all.insert(member.0.copy()?, member.1.copy()?)?;
+        insert_copy(&mut all, &member.0, &member.1)?;
     }
     Ok(all)
+}
+
+fn insert_copy(to: &mut Fields<Value>, key: &Text, value: &Value) -> Result<(), AllocError>
+    ensures { OnOk result (to.new ≡ insert_member key.now value.now to.old) }
+{
+    let key = key.copy()?;
+    let value = value.copy()?;
+    to.insert(key, value)?;
+    Ok(())
 }
 
 fn copied(fields: &Fields<Value>) -> Result<Fields<Value>, AllocError>
@@ -133,13 +143,4 @@ fn joined(alloc: Global, values: &[Value], added: &[Value]) -> Result<Items<Valu
     add_copies(&mut all, values)?;
     add_copies(&mut all, added)?;
     Ok(all)
-}
-
-fn add_copies(to: &mut Items<Value>, values: &[Value]) -> Result<(), AllocError>
-    ensures { OnOk result (to.new ≡ to.old ++ values.now) }
-{
-    for value in values {
-        to.push(value.copy()?)?;
-    }
-    Ok(())
 }
