@@ -38,9 +38,13 @@ AreNotBuilt words = (orders : Orders) × (answer_of words ≡ Ok orders) × (com
 abbrev pub AreRefusedFor : List (List ℕ) → WordsFault → Type 0
 AreRefusedFor words fault = answer_of words ≡ Err fault
 
--- the call that words are for; `-t` comes before `--apart`
+-- the call that orders are for; `-t` comes before `--apart`
+abbrev pub call_of : Orders → Which
+call_of orders = if orders.test then Test else (if orders.apart then Apart else Run)
+
+-- the call that words are for
 abbrev pub which_of : Answer → Which
-which_of (Ok orders) = if orders.test then Test else (if orders.apart then Apart else Run)
+which_of (Ok orders) = call_of orders
 which_of (Err fault) = Run
 
 -- the workers of words, or the default

@@ -1,6 +1,6 @@
 //! What the words of the command line ask of the program.
 
-ghost use Rattle.std.specs.Prelude.{◌≡◌, ◌⊎◌, Ok, Err, IfOk, map, string_bytes};
+ghost use Rattle.std.specs.Prelude.{◌≡◌, ◌⊎◌, Err, IfOk, map, string_bytes};
 ghost use Rattle.logstash_settings.specs.Words.{answer_of};
 ghost use Rattle.logstash_top.specs.Answers.{asked};
 ghost use Rattle.logstash_top.specs.Words as spec;
@@ -24,15 +24,14 @@ pub(crate) struct Command {
 pub fn which(alloc: Global, words: &[String]) -> Result<Which, AllocError>
     ensures { IfOk result (λ which. which ≡ which_of (answer_of (map string_bytes words.now))) }
 {
-    Ok(match answered(alloc, words)? {
-        Ok(orders) => call_of(&orders),
-        Err(_) => Which::Run,
-    })
+    match answered(alloc, words)? {
+        Ok(orders) => Ok(call_of(&orders)),
+        Err(_) => Ok(Which::Run),
+    }
 }
 
-/// The call that orders are for.
 fn call_of(orders: &Orders) -> Which
-    ensures { result ≡ which_of (Ok orders.now) }
+    ensures { result ≡ spec.call_of orders.now }
 {
     if orders.test {
         Which::Test
@@ -74,7 +73,7 @@ pub(crate) fn ordered(alloc: Global, words: &[String]) -> Result<Command, Status
 fn built(orders: Orders) -> Option<Command>
     ensures { result ≡ spec.command_of orders }
 {
-    if orders.reload || orders.apart || orders.tool.is_some() {
+    if has_more(&orders) {
         return None;
     }
     let Orders {
@@ -89,6 +88,13 @@ fn built(orders: Orders) -> Option<Command>
         }),
         _ => None,
     }
+}
+
+/// Whether orders have what isn't built yet besides.
+fn has_more(orders: &Orders) -> bool
+    ensures { result ≡ spec.has_more orders.now }
+{
+    orders.reload || orders.apart || orders.tool.is_some()
 }
 
 /// What the words are answered. The outer error is want of memory.
