@@ -1,7 +1,8 @@
-ghost use Rattle.std.specs.Prelude.{◌≡◌, Some, OnErr};
-ghost use Rattle.filter_settings.specs.Settings.{Assigned, read_as};
+ghost use Rattle.std.specs.Prelude.{◌≡◌, ℕ, List, Option, Some, IfOk, OnErr};
+ghost use Rattle.filter_settings.specs.Settings.{Assigned, Gives, read_as, wanted};
 
 use config_tree::FromFault;
+use std::alloc::AllocError;
 
 /// Puts what was read in the place of what stood there, or hands the fault on, and then the place is as
 /// it was.
@@ -29,5 +30,17 @@ pub fn not_kept<T: Drop>(read: Result<T, FromFault>) -> Result<(), FromFault>
     match read {
         Ok(_) => Ok(()),
         Err(fault) => Err(fault),
+    }
+}
+
+/// What was read, and nothing where it was refused.
+pub fn unless_refused<T: Drop>(read: Result<T, FromFault>) -> Result<Option<T>, AllocError>
+    ensures { (name : List ℕ) (said : Option T) → Gives read (wanted name said)
+        → IfOk result (λ found. found ≡ said) }
+{
+    match read {
+        Ok(read) => Ok(Some(read)),
+        Err(FromFault::Bad(_)) => Ok(None),
+        Err(FromFault::Memory) => Err(AllocError),
     }
 }

@@ -29,7 +29,7 @@ pub use hashes::{
     read_field_texts,
 };
 pub use items::text_item;
-pub use keeping::{assign, assign_some, not_kept};
+pub use keeping::{assign, assign_some, not_kept, unless_refused};
 pub use lists::{read_paths, read_templates, read_texts};
 pub use options::set_option;
 pub use paths::{field_named, is_same, path_under, written};

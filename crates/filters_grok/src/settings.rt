@@ -1,5 +1,5 @@
 // How the settings of the filter are read.
-ghost use Rattle.std.specs.Prelude.{◌≡◌, ◌<◌, ℕ, List, Option, IfOk};
+ghost use Rattle.std.specs.Prelude.{◌≡◌, ◌<◌, IfOk};
 ghost use Rattle.event_text.specs.Options.{each_in};
 ghost use Rattle.filter_settings.specs.Settings.{Gives, wanted};
 ghost use Rattle.filters_grok.specs.Settings as spec;
@@ -9,7 +9,7 @@ use crate::grok_pattern::GrokPattern;
 use event_tree::{Items, Names, Pairs, Path, Text};
 use filter_settings::{
     FromFault, SettingValue, Settings, bad_pattern, hash_of, read_field_lists, read_flag,
-    read_path, read_paths, text_item, wanted,
+    read_path, read_paths, text_item, unless_refused, wanted,
 };
 use grok_patterns::{Expanded, Known, Rules, expand, known_patterns, read_pieces};
 use pattern_box::PatternFault;
@@ -226,18 +226,5 @@ fn if_pattern(alloc: Global, says: Expanded) -> Result<Option<GrokPattern>, Allo
         Ok(pattern) => Ok(Some(pattern)),
         Err(PatternFault::BadPattern) => Ok(None),
         Err(PatternFault::Memory) => Err(AllocError),
-    }
-}
-
-// What was read, and nothing where it was refused.
-fn unless_refused<T>(read: Result<T, FromFault>) -> Result<Option<T>, AllocError>
-where
-    T: Drop,
-    ensures { (name : List ℕ) (said : Option T) → Gives read (wanted name said) → IfOk result (λ found. found ≡ said) }
-{
-    match read {
-        Ok(read) => Ok(Some(read)),
-        Err(FromFault::Bad(_)) => Ok(None),
-        Err(FromFault::Memory) => Err(AllocError),
     }
 }
