@@ -55,6 +55,12 @@ input_line s pipeline input one two is same other =
     ap (λ t. codes "logstash: pipeline " ++ (t ++ (codes ": input fault " ++ (two ++ codes "\n")))) same ∙ ap (λ t. codes "logstash: pipeline " ++ (pipeline ++ (codes ": input fault " ++ (t ++ codes "\n")))) other ∙ sym (ap line_of is)
 
 -- the lines of refused texts, by their parts
+pub long_line : (pipeline : List ℕ) (fault : ConfigFault) → fault ≡ text_fault.Long → codes "logstash: pipeline " ++ (pipeline ++ codes ": long\n") ≡ config_line pipeline fault
+long_line pipeline fault is = sym (ap (config_line pipeline) is)
+
+pub syntax_line : (pipeline place : List ℕ) (fault : ConfigFault) (at : ℕ) → fault ≡ text_fault.Syntax at → place ≡ decimal at → placed_line pipeline (codes ": syntax at ") place ≡ config_line pipeline fault
+syntax_line pipeline place fault at is same = ap (placed_line pipeline (codes ": syntax at ")) same ∙ sym (ap (config_line pipeline) is)
+
 pub deep_line : (pipeline place : List ℕ) (fault : ConfigFault) (at : ℕ) → fault ≡ text_fault.Deep at → place ≡ decimal at → placed_line pipeline (codes ": deep at ") place ≡ config_line pipeline fault
 deep_line pipeline place fault at is same = ap (placed_line pipeline (codes ": deep at ")) same ∙ sym (ap (config_line pipeline) is)
 

@@ -1,5 +1,5 @@
 use Rattle.std.proofs.Common.{OnOk, sym, ap, subst}
-use Rattle.io_traits.specs.Telling.{Grows}
+use Rattle.io_traits.specs.Telling.{Grows, GrowsInPart}
 use Rattle.logstash_top.specs.Status.{line_of}
 use Rattle.logstash_top.proofs.Statuses.{config_lines, input_line, unbuilt_line}
 use Rattle.logstash_top.proofs.line.write_line.Goals as goal
@@ -22,3 +22,23 @@ pub returns-in-NotBuilt-clause-ok : goal.returns-in-NotBuilt-clause-ok
 returns-in-NotBuilt-clause-ok g c =
     subst (λ l. OnOk c.write_parts-in-NotBuilt.result (Grows (g.O.Sink.taken c.args.stderr.now) (g.O.Sink.taken c.write_parts-in-NotBuilt.new.sink) l))
     (unbuilt_line c.args.status.now c.in-NotBuilt.pipeline c.as_str-in-NotBuilt.result.now c.in-NotBuilt.is c.as_str-in-NotBuilt.ensures) c.write_parts-in-NotBuilt.ensures.ok
+
+pub returns-in-BadConfig-clause-part : goal.returns-in-BadConfig-clause-part
+returns-in-BadConfig-clause-part g c =
+    subst (λ l. GrowsInPart (g.O.Sink.taken c.args.stderr.now) (g.O.Sink.taken c.write_config_line.new.sink) l)
+    (config_lines c.args.status.now c.in-BadConfig.pipeline c.as_str.result.now c.in-BadConfig.fault c.in-BadConfig.is c.as_str.ensures) c.write_config_line.ensures.part
+
+pub returns-in-InputFault-clause-part : goal.returns-in-InputFault-clause-part
+returns-in-InputFault-clause-part g c =
+    subst (λ l. GrowsInPart (g.O.Sink.taken c.args.stderr.now) (g.O.Sink.taken c.write_parts-in-InputFault.new.sink) l)
+    (input_line c.args.status.now c.in-InputFault.pipeline c.in-InputFault.input c.as_str-in-InputFault.result.now c.as_str-in-InputFault-2.result.now c.in-InputFault.is c.as_str-in-InputFault.ensures c.as_str-in-InputFault-2.ensures) c.write_parts-in-InputFault.ensures.part
+
+pub returns-in-NoMemory-clause-part : goal.returns-in-NoMemory-clause-part
+returns-in-NoMemory-clause-part g c =
+    subst (λ l. GrowsInPart (g.O.Sink.taken c.args.stderr.now) (g.O.Sink.taken c.write_parts-in-NoMemory.new.sink) l)
+    (sym (ap line_of c.in-NoMemory.is)) c.write_parts-in-NoMemory.ensures.part
+
+pub returns-in-NotBuilt-clause-part : goal.returns-in-NotBuilt-clause-part
+returns-in-NotBuilt-clause-part g c =
+    subst (λ l. GrowsInPart (g.O.Sink.taken c.args.stderr.now) (g.O.Sink.taken c.write_parts-in-NotBuilt.new.sink) l)
+    (unbuilt_line c.args.status.now c.in-NotBuilt.pipeline c.as_str-in-NotBuilt.result.now c.in-NotBuilt.is c.as_str-in-NotBuilt.ensures) c.write_parts-in-NotBuilt.ensures.part
