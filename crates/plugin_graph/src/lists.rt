@@ -1,4 +1,4 @@
-ghost use Rattle.std.specs.Prelude.{◌≡◌, ◌+◌, ◌++◌, IfOk, OnOk};
+ghost use Rattle.std.specs.Prelude.{◌≡◌, ◌+◌, ◌++◌, ◌∷◌, [], IfOk, OnOk};
 ghost use Rattle.event_flow.specs.Ids as ids;
 ghost use Rattle.filter_settings.specs.Settings.{Gives};
 ghost use Rattle.plugin_graph.specs.Conditions.{compiled};
@@ -33,13 +33,26 @@ pub fn add_named(
 ) -> Result<(), AllocError>
     ensures { OnOk result (to.new ≡ to.old ++ spec.named section.now 1 conditions) }
 {
-    let mut number: u64 = 0;
+    let mut number: u64 = 1;
     for condition in conditions.into_vec() {
+        add_condition(alloc, section, number, condition, to)?;
         number = next_number(number)?;
-        let id = condition_id(alloc, section, number)?;
-        to.push(NamedCondition { condition, id })?;
     }
     Ok(())
+}
+
+fn add_condition(
+    alloc: Global,
+    section: &str,
+    number: u64,
+    condition: Condition,
+    to: &mut Items<NamedCondition>,
+) -> Result<(), AllocError>
+    ensures { OnOk result (to.new
+        ≡ to.old ++ spec.named section.now number (condition ∷ [])) }
+{
+    let id = condition_id(alloc, section, number)?;
+    to.push(NamedCondition { condition, id })
 }
 
 fn next_number(number: u64) -> Result<u64, AllocError>

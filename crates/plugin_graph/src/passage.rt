@@ -1,4 +1,5 @@
 ghost use Rattle.std.specs.Prelude.{◌≡◌, ◌++◌, ◌∷◌, [], IfOk, OnOk};
+ghost use Rattle.condition_eval.specs.Texts.{reason_text};
 ghost use Rattle.event_flow.specs.Flows.{To, Dead, wrong_letter};
 ghost use Rattle.event_flow.specs.Marks.{marks, marks_of, outcome_marks, sent_to};
 ghost use Rattle.plugin_graph.specs.KitParts.{contents_in};
@@ -185,10 +186,19 @@ fn letter<X: Drop>(
         return Err(AllocError);
     };
     let alloc = parts.targets.allocator();
+    let kind = Text::of(alloc, "if")?;
+    let id = condition.id().copy()?;
+    let reason = reason_text(alloc, reason)?;
     Ok(DeadPart {
-        kind: Text::of(alloc, "if")?,
-        id: condition.id().copy()?,
-        reason: Text::from_string(format!(in alloc; "{reason}")?),
+        kind,
+        id,
+        reason,
         event,
     })
+}
+
+fn reason_text(alloc: Global, reason: &Reason) -> Result<Text, AllocError>
+    ensures { IfOk result (λ text. text ≡ reason_text reason.now) }
+{
+    Ok(Text::from_string(format!(in alloc; "{reason}")?))
 }

@@ -1,15 +1,14 @@
-ghost use Rattle.std.specs.Prelude.{◌≡◌, ◌∷◌, [], ℕ, List, Option, IfOk, bytes_eq, codes, map, option_and_then};
+ghost use Rattle.std.specs.Prelude.{◌≡◌, ◌∷◌, [], IfOk, bytes_eq, codes, map, option_and_then};
 ghost use Rattle.config_tree.specs.Readers.{value_at};
 ghost use Rattle.filter_settings.specs.Readers.{text_of, texts_of};
-ghost use Rattle.filter_settings.specs.Settings.{Gives, wanted};
 ghost use Rattle.event_flow.specs.Ids as ids;
 ghost use Rattle.event_flow.specs.Places as spec;
 ghost use Rattle.foreign_parts.specs.declared.place.Place.TheVariants as place;
 ghost use Rattle.std.specs.List.{list_any};
 
-use config_tree::{FromFault, Plugin, Settings};
+use config_tree::{Plugin, Settings};
 use event_tree::Names;
-use filter_settings::{read_id, read_text, read_texts};
+use filter_settings::{read_id, read_text, read_texts, unless_refused};
 use foreign_parts::Place;
 use plain_data::{Items, Text};
 use std::alloc::{AllocError, Global};
@@ -94,20 +93,6 @@ fn given_addresses(alloc: Global, settings: &Settings) -> Result<Option<Names>, 
     match settings.get("send_to") {
         Some(value) => unless_refused(read_texts(alloc, "send_to", value)),
         None => Ok(None),
-    }
-}
-
-// What was read, and nothing where it was refused.
-fn unless_refused<T>(read: Result<T, FromFault>) -> Result<Option<T>, AllocError>
-where
-    T: Drop,
-    ensures { (name : List ℕ) (said : Option T) → Gives read (wanted name said)
-        → IfOk result (λ found. found ≡ said) }
-{
-    match read {
-        Ok(read) => Ok(Some(read)),
-        Err(FromFault::Bad(_)) => Ok(None),
-        Err(FromFault::Memory) => Err(AllocError),
     }
 }
 
