@@ -103,8 +103,7 @@ returns-in-Err-take_piece-clause-ran g c =
 
 pub returns-in-Err-take_piece-clause-read_cause : goal.returns-in-Err-take_piece-clause-read_cause
 returns-in-Err-take_piece-clause-read_cause g c =
-    let e = rw c.in-Ok-Bytes.field-0-is at c.in-Ok-Bytes.ensures in
-    no_cause (e.cause.same (λ is. cc) ∙ c.loop.invariant.read_same) c.in-Err-take_piece.ensures.not_input
+    no_cause (c.in-Ok-Bytes.ensures.cause.same (λ is. cc) ∙ c.loop.invariant.read_same) c.in-Err-take_piece.ensures.not_input
 
 pub returns-in-Err-take_piece-clause-write_cause : goal.returns-in-Err-take_piece-clause-write_cause
 returns-in-Err-take_piece-clause-write_cause g c = cause_from c.loop.invariant.write_same c.in-Err-take_piece.ensures.cause
@@ -122,8 +121,7 @@ returns-in-Ok-End-clause-ran g c =
 
 pub returns-in-Ok-End-clause-read_cause : goal.returns-in-Ok-End-clause-read_cause
 returns-in-Ok-End-clause-read_cause g c =
-    let e = rw c.in-Ok-End.field-0-is at c.in-Ok-End.ensures in
-    no_cause (e.cause.same (λ is. cc) ∙ c.loop.invariant.read_same) c.write_lines.ensures.not_input
+    no_cause (c.in-Ok-End.ensures.cause.same (λ is. cc) ∙ c.loop.invariant.read_same) c.write_lines.ensures.not_input
 
 pub returns-in-Ok-End-clause-write_cause : goal.returns-in-Ok-End-clause-write_cause
 returns-in-Ok-End-clause-write_cause g c = cause_from c.loop.invariant.write_same c.write_lines.ensures.cause
