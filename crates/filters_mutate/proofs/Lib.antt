@@ -1,3 +1,4 @@
 mod Strips
 mod Substitutions
 mod Firsts
+mod Rows
