@@ -4,7 +4,7 @@ use Rattle.std.proofs.lemmas.List.{map-append}
 use Rattle.std.proofs.lemmas.List.Concat.{flat_map-append}
 use Rattle.event_tree.specs.declared.value.Value.{Value}
 use Rattle.io_traits.specs.Telling.{Grows, GrowsInPart}
-use Rattle.io_traits.proofs.Growth.{grows_by, grows_then, in_part_of, in_part_then}
+use Rattle.io_traits.proofs.Growth.{grows_by, grows_then, in_part_of, in_part_then, in_part_whole}
 use Rattle.in_lines.specs.Polls.{received_at}
 use Rattle.in_lines.specs.Events.{event_of}
 use Rattle.in_lines.specs.Rows.{row_of, out_bytes}
@@ -33,3 +33,12 @@ pub rows_in_part : {a b c : Option (List ℕ)} (moment : ℤ) (all shown left : 
     → GrowsInPart b c (row_of (event_of (record { line = text; moment = moment }))) → GrowsInPart a c (rows_at moment all)
 rows_in_part {a = a} {c = c} moment all shown left line text is whole one other =
     subst (GrowsInPart a c) (ap (λ t. rows_at moment (shown ++ t ∷ left)) is ∙ sym (ap (rows_at moment) whole)) (subst (GrowsInPart a c) (sym (rows_at-append moment shown (text ∷ left))) (in_part_then one (in_part_of (rows_at moment left) other)))
+
+-- the rows so far are a part of all
+pub rows_so_far : {a b : Option (List ℕ)} (moment : ℤ) (all shown left : List (List ℕ)) → all ≡ shown ++ left → Grows a b (rows_at moment shown) → GrowsInPart a b (rows_at moment all)
+rows_so_far {a} {b} moment all shown left whole one =
+    subst (GrowsInPart a b) (sym (ap (rows_at moment) whole ∙ rows_at-append moment shown left)) (in_part_of (rows_at moment left) (in_part_whole one))
+
+-- and all of them, where none is left
+pub rows_done : {a b : Option (List ℕ)} (moment : ℤ) (all shown left : List (List ℕ)) → all ≡ shown ++ left → left ≡ [] → Grows a b (rows_at moment shown) → Grows a b (rows_at moment all)
+rows_done moment all shown left whole none one = grows_by (sym (ap (rows_at moment) (whole ∙ ap (λ t. shown ++ t) none ∙ append-nil shown))) one
