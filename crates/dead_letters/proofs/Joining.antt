@@ -26,7 +26,7 @@ use Rattle.dead_letters.proofs.Growing.{files_split, files_same, files_length, f
 
 -- ---- what a folder holds
 
-cut_is : (folder : List ℕ) (c d : Content) (n k : ℕ) → ((m : ℕ) → n ≤ m → m < n + k → bytes_in folder d m ≡ bytes_in folder c m) → (len : ℕ) → take len (bytes_in folder d (n + k)) ≡ bytes_in folder c (n + k)
+pub cut_is : (folder : List ℕ) (c d : Content) (n k : ℕ) → ((m : ℕ) → n ≤ m → m < n + k → bytes_in folder d m ≡ bytes_in folder c m) → (len : ℕ) → take len (bytes_in folder d (n + k)) ≡ bytes_in folder c (n + k)
     → cut_from folder d len n k ≡ files_from folder c n (suc k)
 cut_is folder c d n zero same len last = let e : n + 0 ≡ n = omega arith in ap (λ b. b ∷ []) (subst (λ m. take len (bytes_in folder d m) ≡ bytes_in folder c m) e last)
 cut_is folder c d n (suc k) same len last =

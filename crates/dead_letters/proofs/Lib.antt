@@ -11,3 +11,9 @@ pub mod Joining
 pub mod AppendRun
 pub mod Turns
 pub mod AppendedReads
+pub mod NumberTexts
+pub mod Cutting
+pub mod OpenedReads
+pub mod Listed
+pub mod OpeningRun
+pub mod FirstVersion

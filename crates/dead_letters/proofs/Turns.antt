@@ -38,6 +38,13 @@ pub one_named : (folder : List ℕ) (n k m j : ℕ) (made items whole : List (Li
 one_named folder n k m j made items whole name some next pushed is so_far =
     ap (λ l. l ++ names_from folder m j) pushed ∙ append_assoc made (name ∷ []) (names_from folder m j) ∙ ap₂ (λ x y. made ++ x ∷ names_from folder y j) is next ∙ sym (ap (λ i. made ++ names_from folder n i) some) ∙ so_far
 
+-- the bytes of one file more
+pub one_measured : (folder : List ℕ) (c : Content) (n k m j : ℕ) (made items whole : List ℕ) (size : ℕ) → k ≡ suc j → m ≡ suc n → items ≡ made ++ size ∷ [] → size ≡ length (bytes_in folder c n)
+    → made ++ map length (files_from folder c n k) ≡ whole → items ++ map length (files_from folder c m j) ≡ whole
+one_measured folder c n k m j made items whole size some next pushed is so_far =
+    ap (λ l. l ++ map length (files_from folder c m j)) pushed ∙ append_assoc made (size ∷ []) (map length (files_from folder c m j)) ∙ ap₂ (λ x y. made ++ x ∷ map length (files_from folder c y j)) is next
+    ∙ sym (ap (λ i. made ++ map length (files_from folder c n i)) some) ∙ so_far
+
 -- ---- segments
 
 in_front_both : (ls more : List DeadLetter) (r : Result (List DeadLetter) Damage) → in_front ls (in_front more r) ≡ in_front (ls ++ more) r

@@ -9,3 +9,5 @@ pub mod Appends
 pub mod Views
 pub mod Ready
 pub mod Plans
+pub mod Opening
+pub mod Trimming

@@ -60,6 +60,10 @@ counted_in file = said slot_says damaged_at_first Nothing 32 file
 abbrev pub OldOrNewSegments : ℕ → Segments → FileImage → FileImage → Type 0
 OldOrNewSegments turn s = OldOrNewSaid slot_says damaged_at_first Nothing 32 turn (Count turn s)
 
+-- where segments count, the first is not above the last
+abbrev pub AreOrdered : Counted → Type 0
+AreOrdered counted = (turn : ℕ) (s : Segments) → counted ≡ Count turn s → s.first ≤ s.last
+
 -- ---- laws
 
 -- where a file is damaged, what stands there differs from what ought to

@@ -1,7 +1,8 @@
 //! Dead letter queues: events that were not delivered, each with the kind and the id of the plugin where it
 //! failed, why, and when. A queue is a list of segments, which are files of records.
 //!
-//! - [`DeadLetters`] is a queue that is open: letters are appended by its policy, and its entries are read.
+//! - [`DeadLetters`] is the queue of a folder: it is opened, letters are appended by its policy, and its
+//!   entries are read.
 //! - [`DeadLetter`] is one letter; [`write_record`] writes it, and [`read_records`] reads those of a segment.
 //! - [`shed`] says which letters leave a queue, and which do not enter it, where there is no room for all.
 //! - [`segment_name`] names the file of a segment, and [`pieces`] says which segments new records join.
@@ -11,7 +12,8 @@
 //! being a letter, and `specs/Records` reads the records of a segment, with the place and the two numbers of each
 //! damage. `specs/Shedding` has what is shed, `specs/Queues` the names of a queue's files and the rule by which a
 //! record begins the next segment, and `specs/Segments` the slots. `specs/Found` has what a folder holds, `specs/Appends`
-//! what an append makes of it, and `specs/Ready` when a queue is ready for one, and what a stop leaves.
+//! what an append makes of it, `specs/Ready` when a queue is ready for one, and what a stop leaves, and `specs/Opening`
+//! what a stop leaves of an opening.
 #![tactic(auto)]
 
 mod appending;
@@ -21,15 +23,18 @@ mod faults;
 mod keeping;
 pub mod laws;
 mod letter;
+mod listing;
 mod moment;
 mod naming;
 mod opened;
+mod opening;
 mod planning;
 mod queue;
 mod reading;
 mod records;
 mod segment_slot;
 mod shedding;
+mod trimming;
 mod writing;
 
 pub use counting::{Counted, Segments};

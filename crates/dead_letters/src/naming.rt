@@ -7,7 +7,7 @@ ghost use Rattle.store_trait.specs.Calls.{ChangesNothing};
 ghost use Rattle.store_trait.specs.Moments.{EachMoment, ReadsBeside};
 ghost use Rattle.store_changes.specs.Changes.{AllRest, Alters};
 ghost use Rattle.store_changes.specs.Slots.{ComesNext};
-ghost use Rattle.dead_letters.specs.Segments.{OldOrNewSegments, counted_in, said_by};
+ghost use Rattle.dead_letters.specs.Segments.{AreOrdered, OldOrNewSegments, counted_in, said_by};
 ghost use Rattle.dead_letters.specs.declared.counting.Counted.TheVariants.{Count};
 
 use crate::counting::{Counted, Segments};
@@ -20,6 +20,7 @@ use store_disk::{Failed, Store};
 pub fn read_segments<S: Store>(store: &mut S, name: &str) -> Result<Counted, Failed>
     ensures counted { IfOk result (λ counted. IsTrue S.tells
         → counted ≡ counted_in (bytes_of (S.seen store.old name.now))) }
+    ensures order { IfOk result AreOrdered }
     ensures same { ChangesNothing S.tells S.seen S.moment S.may_leave store.old store.new }
     ensures cause { HasCause (S.faults store.old) (S.faults store.new) (IsErr result) }
 {

@@ -1,14 +1,17 @@
-ghost use Rattle.std.specs.Prelude.{◌≡◌, ◌≤◌, ◌<◌, ◌+◌, ◌^◌, ◌&&◌, ℕ, IsTrue, Err, length, map, nat_lt, IfOk, OnOk, OnErr};
+ghost use Rattle.std.specs.Prelude.{◌≡◌, ◌≤◌, ◌<◌, ◌+◌, ◌^◌, ◌&&◌, ℕ, IsTrue, Ok, Err, length, map, nat_lt, IfOk, OnOk, OnErr};
 ghost use Rattle.std.specs.List.{sum};
 ghost use Rattle.io_traits.specs.Counts.{HasCause};
+ghost use Rattle.io_traits.specs.Folders.{folder_start};
 ghost use Rattle.store_trait.specs.Calls.{ChangesNothing};
-ghost use Rattle.store_trait.specs.Moments.{ReadsBeside};
+ghost use Rattle.store_trait.specs.Moments.{EachMoment, ReadsBeside};
+ghost use Rattle.store_disk.specs.declared.faults.Damage.{Damage as DamageValue};
 ghost use Rattle.store_disk.specs.declared.faults.QueueFault.TheVariants as f;
 ghost use Rattle.dead_letters.specs.Appends.{AllFit, size_of};
 ghost use Rattle.dead_letters.specs.Views.{IsOwn, behind_append, holds_all, is_full, sheds};
 ghost use Rattle.dead_letters.specs.Plans.{IsJoining, IsPlan};
 ghost use Rattle.dead_letters.specs.Ready.{AppendLeaves, IsAppended, IsReady, held_now};
-ghost use Rattle.dead_letters.specs.Found.{Answers, letters_of};
+ghost use Rattle.dead_letters.specs.Opening.{LeavesHeld};
+ghost use Rattle.dead_letters.specs.Found.{Answers, found, letters_of};
 ghost use Rattle.dead_letters.specs.declared.faults.DeadFault.TheVariants as d;
 
 use crate::appending::carry_out;
@@ -16,12 +19,13 @@ use crate::entries::read_letters;
 use crate::faults::DeadFault;
 use crate::keeping::{added_by, kept_records, record_sizes};
 use crate::letter::{DeadLetter, Letters};
+use crate::opening::{Opened, open_folder};
 use crate::planning::{Joining, Plan, names_from, segments_of, sizes_with};
 use crate::queue::{pieces, slot_name};
 use crate::shedding::{Shedding, shed, total};
 use event_tree::{Items, Text};
 use settings_lines::Policy;
-use std::alloc::AllocError;
+use std::alloc::{AllocError, Global};
 use std::marker::Model;
 use store_disk::{QueueFault, Store};
 
@@ -59,6 +63,48 @@ impl Model for DeadLetters {
 }
 
 impl DeadLetters {
+    /// Opens the queue of a folder, whose path ends with a slash: syncs, removes the segments that its newest
+    /// slot doesn't name, cuts the last one to its length and syncs. A folder of the first version, or a new
+    /// one, has its one segment cut to its position and named before.
+    ///
+    /// It holds what the folder held, also whenever a stop comes. `Damaged` is a last segment that ends before
+    /// its length, or a file that says which segments count, or how much of a first version's one does, and
+    /// is damaged itself. Behind an error the folder can be opened again.
+    pub fn open_on<S: Store>(
+        alloc: Global,
+        store: &mut S,
+        folder: &str,
+        limit: u64,
+        policy: Policy,
+    ) -> Result<DeadLetters, QueueFault>
+        requires { folder_start folder.now ≡ folder.now }
+        ensures names { IfOk result (λ q. (q.folder ≡ folder.now) × (q.limit ≡ limit)
+            × (q.policy ≡ policy)) }
+        ensures ready { IfOk result (λ q. IsReady S.Store q store.new) }
+
+        // What it holds, or which damage there is, is told by what the store reads.
+        ensures held { IfOk result (λ q. IsTrue S.tells
+            → found folder.now (S.seen store.old) ≡ Ok (held_now q (S.seen store.new))) }
+        ensures damaged { (damage : DamageValue) → result ≡ Err (f.Damaged damage) → IsTrue S.tells
+            → found folder.now (S.seen store.old) ≡ Err damage }
+
+        ensures any_moment { EachMoment S.Store store.old store.new
+            (LeavesHeld S.Store folder.now store.old) }
+        ensures beside { ReadsBeside S.Store (IsOwn folder.now) store.old store.new }
+        ensures cause { HasCause (S.faults store.old) (S.faults store.new) (result ≡ Err f.Fault) }
+    {
+        let path = Text::of(alloc, folder)?;
+        let Opened { turn, first, sizes } = open_folder(alloc, store, folder)?;
+        Ok(DeadLetters {
+            folder: path,
+            limit,
+            policy,
+            turn,
+            first,
+            sizes,
+        })
+    }
+
     /// Appends letters, and gives up what its policy says where there is no room for all: writes their
     /// records behind the last segment and into new ones and syncs, then names the segments that count and
     /// syncs, and removes those that left.

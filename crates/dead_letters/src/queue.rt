@@ -1,7 +1,7 @@
 // The segments of a queue: their names, and which of them new records join.
 ghost use Rattle.std.specs.Prelude.{◌≡◌, ◌<◌, ◌^◌, ◌+◌, ◌-◌, ◌++◌, IsTrue, IfOk};
 ghost use Rattle.std.specs.List.{sum};
-ghost use Rattle.dead_letters.specs.Queues.{begins_next, name_in, names, pieces, segment};
+ghost use Rattle.dead_letters.specs.Queues.{begins_next, name_in, names, pieces, position, segment};
 
 use event_tree::{Items, Text};
 use itoa::Buffer;
@@ -24,6 +24,13 @@ pub(crate) fn slot_name(alloc: Global, folder: &str) -> Result<Text, AllocError>
     ensures { IfOk result (λ name. name ≡ name_in folder.now names) }
 {
     joined(alloc, folder, "dead.seg", "", "")
+}
+
+/// The name of the position file in a folder, which a queue of the first version has.
+pub(crate) fn position_name(alloc: Global, folder: &str) -> Result<Text, AllocError>
+    ensures { IfOk result (λ name. name ≡ name_in folder.now position) }
+{
+    joined(alloc, folder, "dead.pos", "", "")
 }
 
 fn joined(
