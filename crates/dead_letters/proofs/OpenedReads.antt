@@ -1,8 +1,9 @@
 -- A folder that was cut back holds what it held, at each moment, and is ready then.
-use Rattle.std.proofs.Common.{◌≡◌, ◌≢◌, inr, ⊎_elim, ℕ, zero, suc, ◌+◌, ◌-◌, ◌<◌, ◌≤◌, ◌^◌, false, List, [], ◌∷◌, length, map, take, get_or, Option, Some, None, IsSome, option_map, Ok, refl, sym, ap, ◌∙◌, subst, arith, length-take}
+use Rattle.std.proofs.Common.{◌≡◌, ◌≢◌, inl, inr, ⊎_elim, ℕ, zero, suc, ◌+◌, ◌-◌, ◌<◌, ◌≤◌, ◌^◌, false, List, [], ◌∷◌, ◌++◌, length, map, take, get_or, Option, Some, None, IsSome, option_map, Ok, refl, sym, ap, ◌∙◌, subst, arith, length-take}
 use Rattle.std.specs.Prelude.{Contains, All, nat_lt}
 use Rattle.std.proofs.Math.Path.{ap₂}
 use Rattle.std.proofs.lemmas.Bool.{cond-false}
+use Rattle.std.proofs.lemmas.List.{map-append}
 use Rattle.std.proofs.lemmas.Bool.Decides.{nat_tests}
 use Rattle.std.proofs.lemmas.List.Elements.{All-contains}
 use Rattle.io_traits.specs.Folders.{Content}
@@ -16,10 +17,11 @@ use Rattle.dead_letters.specs.Segments.{segments, counted_in}
 use Rattle.dead_letters.specs.Found.{bytes_in, cut_from, held_in, found_by, found}
 use Rattle.dead_letters.specs.Views.{DeadQueue, last_of, held_last}
 use Rattle.dead_letters.specs.Ready.{files_from, held_now, IsSaid}
-use Rattle.dead_letters.specs.Trimming.{IsOfOther, IsCut, AreAllOthers, Trims, StaysHeld, opened_queue}
+use Rattle.dead_letters.specs.Opening.{IsCleared}
+use Rattle.dead_letters.specs.Trimming.{IsOther, IsOfOther, IsCut, AreAllOthers, Trims, StaysHeld, sizes_cut, opened_queue}
 use Rattle.dead_letters.specs.declared.counting.Segments.{Segments}
 use Rattle.dead_letters.specs.declared.counting.Counted.TheVariants.{Count}
-use Rattle.dead_letters.proofs.Growing.{segment_apart}
+use Rattle.dead_letters.proofs.Growing.{segment_apart, files_same, files_split}
 use Rattle.dead_letters.proofs.Joining.{cut_is, last_size}
 use Rattle.dead_letters.proofs.AppendRun.{names_apart}
 
@@ -102,29 +104,49 @@ module _ (folder : List ℕ) (s : Segments) (low : s.last < 2 ^ 32) (gone : List
     before : (m : ℕ) → s.first ≤ m → m < s.last → bytes_in folder new m ≡ bytes_in folder old m
     before m above below = ap bytes_of (cut.stays (name_in folder (segment m)) (last_apart m (omega (arith, below, low)) (λ same. omega (arith, same, below))) (none_counted m above (omega (arith, below))))
 
-    module _ (limit : ℕ) (policy : Policy) (many : length sizes ≡ k + 1) (are : sizes ≡ map length (files_from folder new s.first (k + 1))) where
+    last_long : length (bytes_in folder new (s.first + k)) ≡ s.length
+    last_long = ap (λ n. length (bytes_in folder new n)) at ∙ ap length last_bytes ∙ omega (arith, length-take s.length (bytes_in folder old s.last), long)
+
+    -- the bytes of the segments as they are then
+    sizes_are : sizes_cut folder old s ≡ map length (files_from folder new s.first (k + 1))
+    sizes_are =
+        ap₂ (λ (l : List (List ℕ)) (n : ℕ). map length l ++ n ∷ []) (files_same folder old new s.first k (λ m above below. sym (before m above (omega (arith, below, at))))) (sym last_long)
+        ∙ sym (map-append length (files_from folder new s.first k) (bytes_in folder new (s.first + k) ∷ [])) ∙ ap (map length) (sym (files_split folder new s.first k 1))
+
+    module _ (limit : ℕ) (policy : Policy) (many : length sizes ≡ k + 1) (are_cut : sizes ≡ sizes_cut folder old s) where
+      are : sizes ≡ map length (files_from folder new s.first (k + 1))
+      are = are_cut ∙ sizes_are
+
       abbrev q : DeadQueue
       q = opened_queue folder limit policy turn s.first sizes
 
       size : held_last sizes ≡ s.length
       size =
           let one : length sizes - 1 ≡ k = omega (arith, many) in
-          ap (λ i. get_or sizes i 0) one ∙ ap (λ l. get_or l k 0) are ∙ last_size folder new s.first k ∙ ap (λ n. length (bytes_in folder new n)) at ∙ ap length last_bytes ∙ omega (arith, length-take s.length (bytes_in folder old s.last), long)
+          ap (λ i. get_or sizes i 0) one ∙ ap (λ l. get_or l k 0) are ∙ last_size folder new s.first k ∙ last_long
 
       last_is : last_of q ≡ s.last
       last_is = omega (arith, many, at)
+
+      pub cleared : AreAllOthers folder s old gone → IsCleared q new
+      cleared all n fits other = by (old (name_in folder (segment n))) refl
+        where
+          is_other : IsOther s n
+          is_other = (fits, ⊎_elim (λ under. inl under) (λ over. inr (omega (arith, over, last_is))) other)
+
+          apart : name_in folder (segment n) ≡ last → ⊥
+          apart same = last_apart n fits (λ e. ⊎_elim (λ under. omega (arith, under, e, order)) (λ over. omega (arith, over, e)) is_other.1) same
+
+          by : (o : Option (List ℕ)) → old (name_in folder (segment n)) ≡ o → new (name_in folder (segment n)) ≡ None
+          by (Some bytes) is = cut.gone_now (name_in folder (segment n)) apart (all n is_other (subst IsSome (sym is) refl))
+          by None is = cut.missing (name_in folder (segment n)) apart is
 
       pub said : AreAllOthers folder s old gone → IsSaid q new
       said all = record {
         counted = ap (λ o. counted_in (bytes_of o)) (cut.stays (name_in folder names) (names_apart folder s.last low) none_slot) ∙ counted ∙ ap (Count turn) (ap₂ (segments s.first) (sym last_is) (sym size));
         sizes = ap (λ n. map length (files_from folder new s.first n)) many ∙ sym are;
-        fresh = λ n above below. none n (omega (arith, above, last_is)) below (old (name_in folder (segment n))) refl;
+        fresh = λ n above below. ap bytes_of (cleared all n below (inr above));
       }
-        where
-          none : (n : ℕ) → s.last < n → n < 2 ^ 32 → (o : Option (List ℕ)) → old (name_in folder (segment n)) ≡ o → bytes_in folder new n ≡ []
-          none n above below (Some bytes) is =
-              ap bytes_of (cut.gone_now (name_in folder (segment n)) (last_apart n below (λ same. omega (arith, same, above))) (all n (below, inr above) (omega (arith, above)) (subst IsSome (sym is) refl)))
-          none n above below None is = ap bytes_of (cut.missing (name_in folder (segment n)) (last_apart n below (λ same. omega (arith, same, above))) is)
 
       pub held : found folder old ≡ Ok (held_now q new)
       held =

@@ -1,5 +1,5 @@
 -- Calls of an opening, one after the other, and what a stop leaves.
-use Rattle.std.proofs.Common.{◌≡◌, ◌⊎◌, inl, inr, ⊎_elim, ℕ, ◌+◌, ◌-◌, ◌<◌, ◌≤◌, ◌^◌, IsTrue, List, length, map, Result, Ok, Err, IfOk, refl, sym, ap, ◌∙◌, subst, arith}
+use Rattle.std.proofs.Common.{◌≡◌, ◌⊎◌, inl, inr, ⊎_elim, ℕ, ◌+◌, ◌-◌, ◌<◌, ◌≤◌, ◌^◌, IsTrue, List, length, Result, Ok, Err, IfOk, refl, sym, ap, ◌∙◌, subst, arith}
 use Rattle.std.specs.Prelude.{Contains}
 use Rattle.io_traits.specs.Folders.{Content}
 use Rattle.io_traits.specs.Reads.{bytes_of}
@@ -16,14 +16,13 @@ use Rattle.dead_letters.specs.Queues.{segment, names, name_in}
 use Rattle.dead_letters.specs.Segments.{counted_in}
 use Rattle.dead_letters.specs.Found.{bytes_in, found}
 use Rattle.dead_letters.specs.Views.{IsOwn}
-use Rattle.dead_letters.specs.Ready.{files_from}
 use Rattle.dead_letters.specs.Opening.{HoldsStill, LeavesHeld}
-use Rattle.dead_letters.specs.Trimming.{IsCut, IsExcess, IsOpened, StaysHeld, Trims}
+use Rattle.dead_letters.specs.Trimming.{IsCut, IsExcess, IsOpened, StaysHeld, Trims, sizes_cut}
 use Rattle.dead_letters.specs.declared.counting.Segments.{Segments}
 use Rattle.dead_letters.specs.declared.counting.Counted.TheVariants.{Count}
 use Rattle.dead_letters.specs.declared.opening.Opened.{Opened}
 use Rattle.dead_letters.specs.declared.trimming.Excess.{Excess}
-use Rattle.dead_letters.proofs.OpenedReads.{none_counted, other_own, trimmed, said, held}
+use Rattle.dead_letters.proofs.OpenedReads.{none_counted, other_own, trimmed, said, held, cleared}
 
 -- files at rest are left as they read
 pub left_same : (c : Content) (i : Image) → IsAtRest c i → left_in i ≡ c
@@ -73,7 +72,7 @@ module _ {S : Type 0} (store : StoreWords S) (tell : ImagesTell store) (folder :
   -- and is open then
   pub holds_opened : (old mid new : S) → (IsTrue store.tells → found folder (store.seen mid) ≡ found folder (store.seen old)) → (r : Result Opened QueueFault) → IfOk r (λ o. IsOpened store folder o mid new)
       → IfOk r (λ o. IsOpened store folder o old new)
-  holds_opened old mid new same (Ok o) is = record { ready = is.ready; held = λ limit policy told. sym (same told) ∙ is.held limit policy told }
+  holds_opened old mid new same (Ok o) is = record { ready = is.ready; held = λ limit policy told. sym (same told) ∙ is.held limit policy told; cleared = is.cleared }
   holds_opened old mid new same (Err _) is = tt
 
   -- ---- all is settled first
@@ -133,26 +132,21 @@ module _ {S : Type 0} (store : StoreWords S) (tell : ImagesTell store) (folder :
           front = subst (λ (c : Content). HasFirst s.length (c last) (i last)) (seen_then told) t.front;
         }))
 
-    module _ (two new : S) (settled : AllRest store two) (cut : IsTrue store.tells → IsCut e.gone.items last s.length (store.seen mid) (store.seen two)) (sizing : Nothing store two new) (sizes : List ℕ) (count : ℕ) (count_is : count ≡ s.last - s.first + 1)
-        (many : length sizes ≡ count) (are : IsTrue store.tells → sizes ≡ map length (files_from folder (store.seen two) s.first count)) where
-      cut_new : IsTrue store.tells → IsCut e.gone.items last s.length (store.seen old) (store.seen new)
-      cut_new told = subst (IsCut e.gone.items last s.length (store.seen old)) (sym (sizing.reads told)) (subst (λ c. IsCut e.gone.items last s.length c (store.seen two)) (seen_then told) (cut told))
-
-      are_new : IsTrue store.tells → sizes ≡ map length (files_from folder (store.seen new) s.first (s.last - s.first + 1))
-      are_new told = subst (λ (c : Content). sizes ≡ map length (files_from folder c s.first (s.last - s.first + 1))) (sym (sizing.reads told)) (are told ∙ ap (λ n. map length (files_from folder (store.seen two) s.first n)) count_is)
-
-      rests_new : AllRest store new
-      rests_new = rests_still two new settled sizing
+    module _ (new : S) (settled : AllRest store new) (cut : IsTrue store.tells → IsCut e.gone.items last s.length (store.seen mid) (store.seen new)) (sizes : List ℕ) (many : length sizes ≡ s.last - s.first + 1)
+        (are : IsTrue store.tells → sizes ≡ sizes_cut folder (store.seen old) s) where
+      cut_old : IsTrue store.tells → IsCut e.gone.items last s.length (store.seen old) (store.seen new)
+      cut_old told = subst (λ c. IsCut e.gone.items last s.length c (store.seen new)) (seen_then told) (cut told)
 
       pub opened : IsOpened store folder (record { turn = turn; first = s.first; sizes = sizes }) old new
       opened = record {
         ready = λ limit policy. record {
-          some = omega (arith, many, count_is);
-          numbers = omega (arith, many, count_is, order, low);
+          some = omega (arith, many);
+          numbers = omega (arith, many, order, low);
           turn_fits = turn_fits;
-          said = λ told. said folder s low e.gone.items x.from order turn (store.seen old) (store.seen new) (counted told) (x.long told) (cut_new told) sizes limit policy (many ∙ count_is) (are_new told) (x.all told);
-          names_rest = λ i left. rests_new i left (name_in folder names);
-          segments_rest = λ i left n from below. rests_new i left (name_in folder (segment n));
+          said = λ told. said folder s low e.gone.items x.from order turn (store.seen old) (store.seen new) (counted told) (x.long told) (cut_old told) sizes limit policy many (are told) (x.all told);
+          names_rest = λ i left. settled i left (name_in folder names);
+          segments_rest = λ i left n from below. settled i left (name_in folder (segment n));
         };
-        held = λ limit policy told. held folder s low e.gone.items x.from order turn (store.seen old) (store.seen new) (counted told) (x.long told) (cut_new told) sizes limit policy (many ∙ count_is) (are_new told);
+        held = λ limit policy told. held folder s low e.gone.items x.from order turn (store.seen old) (store.seen new) (counted told) (x.long told) (cut_old told) sizes limit policy many (are told);
+        cleared = λ limit policy told. cleared folder s low e.gone.items x.from order turn (store.seen old) (store.seen new) (counted told) (x.long told) (cut_old told) sizes limit policy many (are told) (x.all told);
       }

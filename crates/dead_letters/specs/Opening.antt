@@ -1,5 +1,5 @@
 -- What an opening leaves.
-use Rattle.std.specs.Prelude.{◌≡◌, ◌⊎◌, IsTrue, List, ℕ, Ok}
+use Rattle.std.specs.Prelude.{◌≡◌, ◌⊎◌, ◌<◌, ◌^◌, IsTrue, List, ℕ, None, Ok}
 use Rattle.io_traits.specs.Folders.{Content}
 use Rattle.crc_frame.specs.Slots.{is_slot}
 use Rattle.store_trait.specs.Images.{Image}
@@ -8,9 +8,9 @@ use Rattle.store_trait.specs.Tails.{passes}
 use Rattle.store_trait.specs.Moments.{MayLeaveNow, LeavesBeside}
 use Rattle.store_trait.specs.declared.stores.Store.{Ghosts as StoreWords}
 use Rattle.out_files.specs.Contents.{left_in}
-use Rattle.dead_letters.specs.Queues.{names, position, name_in}
+use Rattle.dead_letters.specs.Queues.{segment, names, position, name_in}
 use Rattle.dead_letters.specs.Found.{Held, found}
-use Rattle.dead_letters.specs.Views.{IsOwn}
+use Rattle.dead_letters.specs.Views.{DeadQueue, IsOwn, last_of}
 
 -- no slot stands by chance, of the file that names segments or of the position file
 abbrev pub NoChances : List ℕ → Image → Type 0
@@ -19,6 +19,10 @@ NoChances folder i = NoChance (passes (is_slot 32)) (i (name_in folder names)) �
 -- what a folder holds it holds still
 abbrev pub HoldsStill : List ℕ → Content → Image → Type 0
 HoldsStill folder content i = (h : Held) → found folder content ≡ Ok h → NoChances folder i → found folder (left_in i) ≡ Ok h
+
+-- no segment stands but those of the queue
+abbrev pub IsCleared : DeadQueue → Content → Type 0
+IsCleared q content = (n : ℕ) → n < 2 ^ 32 → (n < q.first) ⊎ (last_of q < n) → content (name_in q.folder (segment n)) ≡ None
 
 module _ {S : Type 0} (store : StoreWords S) where
   -- What a stop at any moment of an opening leaves: an image of the moment when it began, or a folder that holds what it held as it was read then, if no slot

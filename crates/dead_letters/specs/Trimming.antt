@@ -1,5 +1,5 @@
 -- A folder that is opened, part by part: what does not count of it is removed and cut, and what is open then.
-use Rattle.std.specs.Prelude.{◌≡◌, ◌≢◌, ◌⊎◌, ◌<◌, ◌≤◌, ◌^◌, ℕ, Bool, IsTrue, List, length, take, None, option_map, Contains, All, IsSome, Ok}
+use Rattle.std.specs.Prelude.{◌≡◌, ◌≢◌, ◌⊎◌, ◌<◌, ◌≤◌, ◌^◌, ◌-◌, ◌++◌, ℕ, Bool, IsTrue, List, [], ◌∷◌, length, map, take, None, option_map, Contains, All, IsSome, Ok}
 use Rattle.io_traits.specs.Folders.{Content}
 use Rattle.store_trait.specs.Images.{Image, at_rest}
 use Rattle.store_trait.specs.declared.stores.Store.{Ghosts as StoreWords}
@@ -9,8 +9,8 @@ use Rattle.settings_lines.specs.declared.settings.Policy.{Policy}
 use Rattle.dead_letters.specs.Queues.{segment, position, name_in}
 use Rattle.dead_letters.specs.Found.{bytes_in, found}
 use Rattle.dead_letters.specs.Views.{DeadQueue, IsOwn}
-use Rattle.dead_letters.specs.Ready.{IsReady, held_now}
-use Rattle.dead_letters.specs.Opening.{HoldsStill}
+use Rattle.dead_letters.specs.Ready.{files_from, IsReady, held_now}
+use Rattle.dead_letters.specs.Opening.{HoldsStill, IsCleared}
 use Rattle.dead_letters.specs.declared.counting.Segments.{Segments}
 use Rattle.dead_letters.specs.declared.opening.Opened.{Opened}
 use Rattle.dead_letters.specs.declared.trimming.Excess.{Excess}
@@ -32,13 +32,17 @@ IsOfOther folder s name = (n : ℕ) × IsOther s n × (name ≡ name_in folder (
 
 -- each other segment whose file stands is among these
 abbrev pub AreAllOthers : List ℕ → Segments → Content → List (List ℕ) → Type 0
-AreAllOthers folder s content gone = (n : ℕ) → IsOther s n → 0 < n → IsSome (content (name_in folder (segment n))) → Contains gone (name_in folder (segment n))
+AreAllOthers folder s content gone = (n : ℕ) → IsOther s n → IsSome (content (name_in folder (segment n))) → Contains gone (name_in folder (segment n))
 
 -- a queue that is open with these segments
 abbrev pub opened_queue : List ℕ → ℕ → Policy → ℕ → ℕ → List ℕ → DeadQueue
 opened_queue folder limit policy turn first sizes = record { folder = folder; limit = limit; policy = policy; turn = turn; first = first; sizes = sizes }
 
--- what does not count beside these segments: files of others, which are all that stand but the first segment's, and what is behind the last one's length
+-- how many bytes each of these segments has: the last one its length, the others to the end of their files
+abbrev pub sizes_cut : List ℕ → Content → Segments → List ℕ
+sizes_cut folder content s = map length (files_from folder content s.first (s.last - s.first)) ++ s.length ∷ []
+
+-- what does not count beside these segments: files of others, which are all that stand, and what is behind the last one's length
 pub record IsExcess (folder : List ℕ) (s : Segments) (tells : Bool) (content : Content) (e : Excess) : Type 0 where
   pub last : e.last ≡ name_in folder (segment s.last)
   pub from : All (IsOfOther folder s) e.gone.items
@@ -63,7 +67,8 @@ module _ {S : Type 0} (store : StoreWords S) where
     pub stays : (name : List ℕ) → name ≢ last → (Contains gone name → ⊥) → i name ≡ at_rest (store.seen s name)
     pub front : HasFirst len (store.seen s last) (i last)
 
-  -- a folder is open: each queue with these segments is ready, and holds what the folder held
+  -- a folder is open: each queue with these segments is ready, holds what the folder held, and has no other segment
   pub record IsOpened (folder : List ℕ) (o : Opened) (old new : S) : Type 0 where
     pub ready : (limit : ℕ) (policy : Policy) → IsReady store (opened_queue folder limit policy o.turn o.first o.sizes) new
     pub held : (limit : ℕ) (policy : Policy) → IsTrue store.tells → found folder (store.seen old) ≡ Ok (held_now (opened_queue folder limit policy o.turn o.first o.sizes) (store.seen new))
+    pub cleared : (limit : ℕ) (policy : Policy) → IsTrue store.tells → IsCleared (opened_queue folder limit policy o.turn o.first o.sizes) (store.seen new)

@@ -2,7 +2,7 @@
 ghost use Rattle.std.specs.Prelude.{◌≡◌, ◌<◌, ◌^◌, ◌++◌, ℕ, All, Contains, Some, IfOk, IfSome, codes};
 ghost use Rattle.std.specs.Fmt.{decimal};
 ghost use Rattle.dead_letters.specs.Trimming.{IsOfOther, IsOther};
-ghost use Rattle.dead_letters.specs.Queues.{name_in, segment};
+ghost use Rattle.dead_letters.specs.Queues.{name_in, segment, segment_name};
 
 use crate::counting::Segments;
 use crate::queue::segment_name;
@@ -18,9 +18,8 @@ pub(crate) fn others(
     segments: Segments,
 ) -> Result<Vec<Text>, AllocError>
     ensures from { IfOk result (λ gone. All (IsOfOther folder.now segments) gone.items) }
-    ensures all { IfOk result (λ gone. (n : ℕ) → 0 < n → IsOther segments n
-        → Contains parts.now (codes "dead." ++ (decimal n ++ codes ".log"))
-        → Contains gone.items (name_in folder.now (segment n))) }
+    ensures all { IfOk result (λ gone. (n : ℕ) → IsOther segments n
+        → Contains parts.now (segment_name n) → Contains gone.items (name_in folder.now (segment n))) }
 {
     let mut gone = Vec::new(alloc);
     for part in parts {
@@ -34,8 +33,7 @@ pub(crate) fn others(
 /// The number in the name of a segment that is none of these.
 fn other_in(part: &str, segments: Segments) -> Option<u32>
     ensures some { IfSome result (λ n. IsOther segments n) }
-    ensures all { (n : ℕ) → 0 < n → IsOther segments n
-        → part.now ≡ codes "dead." ++ (decimal n ++ codes ".log") → result ≡ Some n }
+    ensures all { (n : ℕ) → IsOther segments n → part.now ≡ segment_name n → result ≡ Some n }
 {
     let number = number_in(part)?;
     if number < segments.first {
@@ -47,8 +45,19 @@ fn other_in(part: &str, segments: Segments) -> Option<u32>
     None
 }
 
-/// The number in the name of a segment's file but the first one's.
+/// The number in the name of a segment's file.
 fn number_in(part: &str) -> Option<u32>
+    ensures some { IfSome result (λ n. (n < 2 ^ 32) × (part.now ≡ segment_name n)) }
+    ensures all { (n : ℕ) → n < 2 ^ 32 → part.now ≡ segment_name n → result ≡ Some n }
+{
+    if part == "dead.log" {
+        return Some(0);
+    }
+    later_number_in(part)
+}
+
+/// The number in the name of a segment's file but the first one's.
+fn later_number_in(part: &str) -> Option<u32>
     ensures some { IfSome result (λ n. (0 < n) × (n < 2 ^ 32)
         × (part.now ≡ codes "dead." ++ (decimal n ++ codes ".log"))) }
     ensures all { (n : ℕ) → 0 < n → n < 2 ^ 32

@@ -10,7 +10,7 @@ ghost use Rattle.dead_letters.specs.Appends.{AllFit, size_of};
 ghost use Rattle.dead_letters.specs.Views.{IsOwn, behind_append, holds_all, is_full, sheds};
 ghost use Rattle.dead_letters.specs.Plans.{IsJoining, IsPlan};
 ghost use Rattle.dead_letters.specs.Ready.{AppendLeaves, IsAppended, IsReady, held_now};
-ghost use Rattle.dead_letters.specs.Opening.{LeavesHeld};
+ghost use Rattle.dead_letters.specs.Opening.{IsCleared, LeavesHeld};
 ghost use Rattle.dead_letters.specs.Found.{Answers, found, letters_of};
 ghost use Rattle.dead_letters.specs.declared.faults.DeadFault.TheVariants as d;
 
@@ -67,9 +67,10 @@ impl DeadLetters {
     /// slot doesn't name, cuts the last one to its length and syncs. A folder of the first version, or a new
     /// one, has its one segment cut to its position and named before.
     ///
-    /// It holds what the folder held, also whenever a stop comes. `Damaged` is a last segment that ends before
-    /// its length, or a file that says which segments count, or how much of a first version's one does, and
-    /// is damaged itself. Behind an error the folder can be opened again.
+    /// It holds what the folder held, and so does the folder whenever a stop comes. `Damaged` is a last
+    /// segment that ends before its length, or a file without an intact slot, longer than a slot, of those
+    /// that say how much counts; or one that names a first segment above the last. Behind an error the folder
+    /// can be opened again, and where memory ran out, it reads as what it held.
     pub fn open_on<S: Store>(
         alloc: Global,
         store: &mut S,
@@ -85,12 +86,15 @@ impl DeadLetters {
         // What it holds, or which damage there is, is told by what the store reads.
         ensures held { IfOk result (λ q. IsTrue S.tells
             → found folder.now (S.seen store.old) ≡ Ok (held_now q (S.seen store.new))) }
+        ensures cleared { IfOk result (λ q. IsTrue S.tells → IsCleared q (S.seen store.new)) }
         ensures damaged { (damage : DamageValue) → result ≡ Err (f.Damaged damage) → IsTrue S.tells
             → found folder.now (S.seen store.old) ≡ Err damage }
 
         ensures any_moment { EachMoment S.Store store.old store.new
             (LeavesHeld S.Store folder.now store.old) }
         ensures beside { ReadsBeside S.Store (IsOwn folder.now) store.old store.new }
+        ensures memory { result ≡ Err f.Memory → IsTrue S.tells
+            → found folder.now (S.seen store.new) ≡ found folder.now (S.seen store.old) }
         ensures cause { HasCause (S.faults store.old) (S.faults store.new) (result ≡ Err f.Fault) }
     {
         let path = Text::of(alloc, folder)?;

@@ -49,6 +49,8 @@ pub(crate) fn open_folder<S: Store>(
     ensures any_moment { EachMoment S.Store store.old store.new
         (LeavesHeld S.Store folder.now store.old) }
     ensures beside { ReadsBeside S.Store (IsOwn folder.now) store.old store.new }
+    ensures memory { result ≡ Err f.Memory → IsTrue S.tells
+        → found folder.now (S.seen store.new) ≡ found folder.now (S.seen store.old) }
     ensures cause { HasCause (S.faults store.old) (S.faults store.new) (result ≡ Err f.Fault) }
 {
     let slot = slot_name(alloc, folder)?;
@@ -90,6 +92,8 @@ fn open_settled<S: Store>(
     ensures any_moment { EachMoment S.Store store.old store.new
         (StaysHeld S.Store folder.now store.old) }
     ensures beside { ReadsBeside S.Store (IsOwn folder.now) store.old store.new }
+    ensures memory { result ≡ Err f.Memory → IsTrue S.tells
+        → found folder.now (S.seen store.new) ≡ found folder.now (S.seen store.old) }
     ensures cause { HasCause (S.faults store.old) (S.faults store.new) (result ≡ Err f.Fault) }
 {
     match counted {
@@ -124,6 +128,8 @@ fn begin<S: Store>(
     ensures any_moment { EachMoment S.Store store.old store.new
         (StaysHeld S.Store folder.now store.old) }
     ensures beside { ReadsBeside S.Store (IsOwn folder.now) store.old store.new }
+    ensures memory { result ≡ Err f.Memory → IsTrue S.tells
+        → found folder.now (S.seen store.new) ≡ found folder.now (S.seen store.old) }
     ensures cause { HasCause (S.faults store.old) (S.faults store.new) (result ≡ Err f.Fault) }
 {
     let length = first_length(alloc, store, folder)?;
@@ -151,6 +157,7 @@ fn first_length<S: Store>(alloc: Global, store: &mut S, folder: &str) -> Result<
         (StaysHeld S.Store folder.now store.old) }
     ensures beside { ReadsBeside S.Store (λ n. (n ≡ name_in folder.now (segment 0))
         ⊎ (n ≡ name_in folder.now position)) store.old store.new }
+    ensures memory { result ≡ Err f.Memory → IsTrue S.tells → S.seen store.new ≡ S.seen store.old }
     ensures cause { HasCause (S.faults store.old) (S.faults store.new) (result ≡ Err f.Fault) }
 {
     let name = segment_name(alloc, folder, 0)?;

@@ -1,5 +1,5 @@
 // What does not count of a folder is removed and cut.
-ghost use Rattle.std.specs.Prelude.{◌≡◌, ◌≤◌, ◌⊎◌, ◌+◌, ◌^◌, IsTrue, IsErr, Err, Contains, length, map, IfErr, IfOk, OnOk};
+ghost use Rattle.std.specs.Prelude.{◌≡◌, ◌≤◌, ◌⊎◌, ◌+◌, ◌-◌, ◌^◌, IsTrue, IsErr, Err, Contains, length, map, IfErr, IfOk, OnOk};
 ghost use Rattle.io_traits.specs.Counts.{HasCause};
 ghost use Rattle.io_traits.specs.Folders.{folder_start};
 ghost use Rattle.io_traits.specs.Reads.{bytes_of, file_length};
@@ -13,7 +13,7 @@ ghost use Rattle.dead_letters.specs.Segments.{counted_in};
 ghost use Rattle.dead_letters.specs.Found.{IsNoDamage, bytes_in, found, held_by};
 ghost use Rattle.dead_letters.specs.Ready.{files_from};
 ghost use Rattle.dead_letters.specs.Views.{IsOwn};
-ghost use Rattle.dead_letters.specs.Trimming.{IsCut, IsExcess, IsOpened, StaysHeld, Trims};
+ghost use Rattle.dead_letters.specs.Trimming.{IsCut, IsExcess, IsOpened, StaysHeld, Trims, sizes_cut};
 ghost use Rattle.dead_letters.specs.declared.counting.Counted.TheVariants.{Count};
 
 use crate::counting::Segments;
@@ -53,12 +53,12 @@ pub(crate) fn cut_back<S: Store>(
     ensures any_moment { EachMoment S.Store store.old store.new
         (StaysHeld S.Store folder.now store.old) }
     ensures beside { ReadsBeside S.Store (IsOwn folder.now) store.old store.new }
+    ensures memory { result ≡ Err f.Memory → IsTrue S.tells → S.seen store.new ≡ S.seen store.old }
     ensures cause { HasCause (S.faults store.old) (S.faults store.new) (result ≡ Err f.Fault) }
 {
     let excess = excess_in(alloc, store, folder, segments)?;
+    let sizes = sizes_of(alloc, store, folder, segments)?;
     trim(store, &excess.gone, excess.last.as_str(), segments.length)?;
-    let count = u64::from(segments.last - segments.first) + 1;
-    let sizes = sizes_from(alloc, store, folder, segments.first, count)?;
     Ok(Opened {
         turn,
         first: segments.first,
@@ -105,6 +105,27 @@ fn trim<S: Store>(store: &mut S, gone: &[Text], last: &str, length: u64) -> Resu
 {
     remove_each(store, gone)?;
     cut_settled(store, last, length)
+}
+
+// How many bytes each of these segments has, the last one its length.
+fn sizes_of<S: Store>(
+    alloc: Global,
+    store: &mut S,
+    folder: &str,
+    segments: Segments,
+) -> Result<Items<u64>, QueueFault>
+    requires { segments.first ≤ segments.last }
+    ensures count { IfOk result (λ sizes. length sizes ≡ segments.last - segments.first + 1) }
+    ensures sizes { IfOk result (λ sizes. IsTrue S.tells
+        → sizes ≡ sizes_cut folder.now (S.seen store.old) segments) }
+    ensures fault { IfErr result IsNoDamage }
+    ensures same { ChangesNothing S.tells S.seen S.moment S.may_leave store.old store.new }
+    ensures cause { HasCause (S.faults store.old) (S.faults store.new) (result ≡ Err f.Fault) }
+{
+    let before = u64::from(segments.last - segments.first);
+    let mut sizes = sizes_from(alloc, store, folder, segments.first, before)?;
+    sizes.push(segments.length)?;
+    Ok(sizes)
 }
 
 // How many bytes so many segments have, from a number on.

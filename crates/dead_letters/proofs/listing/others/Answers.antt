@@ -1,16 +1,12 @@
-use Rattle.std.proofs.Common.{◌≡◌, ◌<◌, ◌++◌, ◌∷◌, [], ℕ, List, All, codes, refl, sym, ◌∙◌, ap, subst}
+use Rattle.std.proofs.Common.{◌≡◌, ◌++◌, ◌∷◌, [], ℕ, List, All, refl, sym, ◌∙◌, ap, subst}
 use Rattle.std.proofs.lemmas.List.{take_all}
 use Rattle.std.proofs.lemmas.List.Elements.{All-push, Contains-push, Contains-append_left}
 use Rattle.std.specs.Prelude.{Contains}
-use Rattle.std.specs.Fmt.{decimal}
 use Rattle.dead_letters.specs.Trimming.{IsOther, IsOfOther}
-use Rattle.dead_letters.specs.Queues.{name_in, segment}
+use Rattle.dead_letters.specs.Queues.{name_in, segment, segment_name}
 use Rattle.dead_letters.proofs.NumberTexts.{some_number, one_found}
 use Rattle.dead_letters.proofs.listing.others.Goals.{in-Some+in_ok-segment_name+in_ok-push, in_default}
 use Rattle.dead_letters.proofs.listing.others.Goals as goal
-
-abbrev text : ℕ → List ℕ
-text n = codes "dead." ++ (decimal n ++ codes ".log")
 
 pub loop-part-preserved : goal.loop-part-preserved
 loop-part-preserved c =
@@ -28,23 +24,23 @@ loop-part-preserved c =
           let is : c.match-other_in.gone.items ≡ old ++ name ∷ [] = ap (λ v. v.items) w.gone-is ∙ w.in_ok-push.ensures.items ∙ ap (λ (y : List ℕ). old ++ y ∷ []) w.in_ok-segment_name.ensures in
           record {
             from = subst (All (IsOfOther c.args.folder.now s)) (sym is) (All-push (IsOfOther c.args.folder.now s) old name inv.from (n, w.in-Some.ensures.some, refl));
-            all = λ m some other among. one_found parts text file (λ k. (0 < k) × IsOther s k) at x old c.match-other_in.gone.items c.loop-part-test.true c.part-item.is
+            all = λ m other among. one_found parts segment_name file (IsOther s) at x old c.match-other_in.gone.items c.loop-part-test.true c.part-item.is
                 (λ k has. subst (λ l. Contains l (file k)) (sym is) (Contains-append_left old (name ∷ []) (file k) has))
                 (λ k wanted same. subst (λ l. Contains l (file k)) (sym is)
-                (subst (λ j. Contains (old ++ name ∷ []) (file j)) (some_number n k (sym w.in-Some.is ∙ c.other_in.ensures.all k wanted.0 wanted.1 (c.as_str.ensures ∙ same))) (Contains-push old name)))
-                (λ k wanted has. inv.all k wanted.0 wanted.1 has) m (some, other) among;
+                (subst (λ j. Contains (old ++ name ∷ []) (file j)) (some_number n k (sym w.in-Some.is ∙ c.other_in.ensures.all k wanted (c.as_str.ensures ∙ same))) (Contains-push old name)))
+                (λ k wanted has. inv.all k wanted has) m other among;
           }
       | in_default w ↦
           let is : c.match-other_in.gone.items ≡ old = ap (λ v. v.items) w.gone-is in
           record {
             from = subst (All (IsOfOther c.args.folder.now s)) (sym is) inv.from;
-            all = λ m some other among. one_found parts text file (λ k. (0 < k) × IsOther s k) at x old c.match-other_in.gone.items c.loop-part-test.true c.part-item.is
+            all = λ m other among. one_found parts segment_name file (IsOther s) at x old c.match-other_in.gone.items c.loop-part-test.true c.part-item.is
                 (λ k has. subst (λ l. Contains l (file k)) (sym is) has)
-                (λ k wanted same. absurd (w.in_default.not-Some k (c.other_in.ensures.all k wanted.0 wanted.1 (c.as_str.ensures ∙ same))))
-                (λ k wanted has. inv.all k wanted.0 wanted.1 has) m (some, other) among;
+                (λ k wanted same. absurd (w.in_default.not-Some k (c.other_in.ensures.all k wanted (c.as_str.ensures ∙ same))))
+                (λ k wanted has. inv.all k wanted has) m other among;
           }
     ]
 
 pub returns-clause-all : goal.returns-clause-all
-returns-clause-all c n some other among =
-    c.loop-part.invariant.all n some other (subst (λ l. Contains l (text n)) (sym (take_all c.loop-part.part-index c.args.parts.now c.loop-part-test.false)) among)
+returns-clause-all c n other among =
+    c.loop-part.invariant.all n other (subst (λ l. Contains l (segment_name n)) (sym (take_all c.loop-part.part-index c.args.parts.now c.loop-part-test.false)) among)

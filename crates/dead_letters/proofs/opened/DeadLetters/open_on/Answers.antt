@@ -1,6 +1,7 @@
 use Rattle.std.proofs.Common.{◌≡◌, IsTrue, Ok, sym, subst}
 use Rattle.dead_letters.specs.Found.{found}
 use Rattle.dead_letters.specs.Ready.{IsReady, held_now}
+use Rattle.dead_letters.specs.Opening.{IsCleared}
 use Rattle.dead_letters.specs.Trimming.{opened_queue}
 use Rattle.dead_letters.proofs.OpeningRun.{not_begun}
 use Rattle.dead_letters.proofs.opened.DeadLetters.open_on.Goals as goal
@@ -18,3 +19,8 @@ returns-clause-held g c =
     let o = c.in_ok-turn.field-0 in
     subst (λ f. IsTrue g.S.Store.tells → found c.args.folder.now (g.S.Store.seen c.args.store.now) ≡ Ok (held_now (opened_queue f c.args.limit c.args.policy o.turn o.first o.sizes) (g.S.Store.seen c.open_folder.new.store)))
     (sym c.in_ok-path.ensures) (c.in_ok-turn.ensures.opened.held c.args.limit c.args.policy)
+
+pub returns-clause-cleared : goal.returns-clause-cleared
+returns-clause-cleared g c =
+    let o = c.in_ok-turn.field-0 in
+    subst (λ f. IsTrue g.S.Store.tells → IsCleared (opened_queue f c.args.limit c.args.policy o.turn o.first o.sizes) (g.S.Store.seen c.open_folder.new.store)) (sym c.in_ok-path.ensures) (c.in_ok-turn.ensures.opened.cleared c.args.limit c.args.policy)
