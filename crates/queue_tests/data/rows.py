@@ -6,7 +6,7 @@ which is that of `zlib`, and for what stops leave of an output, which is worked 
 
 from zlib import crc32
 
-TABLES = ["pages", "prefixes", "heads", "failing", "appends", "slots", "turns", "names", "positions", "outputs", "batches", "images", "letters", "sheds", "segments", "counts", "frames"]
+TABLES = ["pages", "prefixes", "heads", "failing", "appends", "slots", "turns", "names", "positions", "outputs", "batches", "images", "letters", "sheds", "segments", "counts", "queues", "stops", "frames"]
 ROWS = {name: [] for name in TABLES}
 LAST = 2**63 - 1
 
@@ -577,6 +577,101 @@ counts(2, 7, W, MOST, Z + named_segments(1, 0, 2, 9), f"{(named_segments(2, 7, W
 counts(0, 1, 1, 4, Z[:9], f"{named_segments(0, 1, 1, 4).hex()} | 1 to 1, 4 bytes, in turn 0")
 counts(1, 0, 0, 0, b"", "not done")
 counts(2, 3, 2, 0, Z, "not done")
+
+# ---- queues of dead letters
+
+
+def queue(table, policy, limit, files, batches, answer):
+    named = " | ".join(f"{part} {digits(data)}" for part, data in files)
+    words = " ; ".join([f"{policy} {limit} {named}", *map(digits, batches)])
+    ROWS[table].append((words.rstrip(), answer))
+
+
+def case(policy, limit, files, batches, told, held, said, there):
+    lengths = "".join(f", {part} {length}" for part, length in there)
+    queue("queues", policy, limit, files, batches, "".join(f"{answer}; " for answer in told) + f"[{held}] {said}{lengths}")
+
+
+def stops(policy, limit, files, batches, *held):
+    queue("stops", policy, limit, files, batches, "".join(f"[{ids}]" for ids in held))
+
+
+LETTERS = [record(letter(b"if", str(id).encode(), b"x")) for id in range(10)]
+SIZE = 44  # of each
+_, A, B, C, D, E, *_ = LETTERS
+POS, SEG, LOG = "dead.pos", "dead.seg", "dead.log"
+ALL = "older 0, newer"
+NEW = [(POS, 24), (SEG, 64)]
+PAIR = [(SEG, named_segments(0, 0, 1, SIZE)), (LOG, A), ("dead.1.log", B)]
+PAIR_NOW = [("dead.1.log", SIZE), (LOG, SIZE), (SEG, 32)]
+BEHIND = [("dead.1.log", SIZE), ("dead.2.log", SIZE), (SEG, 64)]
+
+# what each policy does with a third letter, and with letters that never fit
+both = [("dead.1.log", SIZE), (LOG, SIZE), *NEW]
+case("hold", 88, [], [A, B, C], [ALL, ALL, "full, 88 and 44 over 88"], "1 2", "0 to 1, 44 bytes, in turn 2", both)
+case("drop_newer", 88, [], [A, B, C], [ALL, ALL, "older 0, newer 0"], "1 2", "0 to 1, 44 bytes, in turn 3", both)
+older = [("dead.1.log", SIZE), ("dead.2.log", SIZE), *NEW]
+case("drop_older", 88, [], [A, B, C], [ALL, ALL, "older 1, newer"], "2 3", "1 to 2, 44 bytes, in turn 3", older)
+for limit in [0, 7, 40]:
+    case("hold", limit, [], [A], [f"full, 0 and 44 over {limit}"], "", "0 to 0, 0 bytes, in turn 0", [(POS, 24), (SEG, 32)])
+    for policy in ["drop_newer", "drop_older"]:
+        case(policy, limit, [], [A], ["older 0, newer 0"], "", "0 to 0, 0 bytes, in turn 1", [(LOG, 0), *NEW])
+case("drop_older", 88, PAIR, [C + D], ["older 1, newer 1"], "2 3", "1 to 2, 44 bytes, in turn 1", BEHIND)
+case("hold", 352, [], [A + B], [ALL], "1 2", "0 to 1, 44 bytes, in turn 1", both)
+case("hold", 703, [], [A + B], [ALL], "1 2", "0 to 1, 44 bytes, in turn 1", both)
+case("hold", 704, [], [A + B], [ALL], "1 2", "0 to 0, 88 bytes, in turn 1", [(LOG, 88), *NEW])
+eight = [*[(f"dead.{k}.log", SIZE) for k in range(1, 9)], *NEW]
+case("drop_older", 352, [], [b"".join(LETTERS[1:9]), LETTERS[9]], [ALL, "older 1, newer"], "2 3 4 5 6 7 8 9", "1 to 8, 44 bytes, in turn 2", eight)
+long = record(letter(b"k", b"i", b"x" * 65536)) + record(letter(b"", b"", b""))
+size = len(long)
+case("hold", 2**20, [], [long], [ALL], "i ", f"0 to 0, {size} bytes, in turn 1", [(LOG, size), *NEW])
+last = [(SEG, named_segments(MOST - 1, W, W, 0) + named_segments(MOST, W, W, SIZE)), (f"dead.{W}.log", A)]
+case("hold", 88, last, [B, C], [ALL, "full, 88 and 44 over 88"], "1 2", f"{W} to {W}, 88 bytes, in turn 0", [(f"dead.{W}.log", 88), (SEG, 64)])
+
+# an opening: a new folder, those of the first version, and what doesn't count
+case("hold", 88, [], [], [], "", "0 to 0, 0 bytes, in turn 0", [(POS, 24), (SEG, 32)])
+first = [(LOG, 88), (POS, 24), (SEG, 32)]
+case("hold", 88, [(LOG, A + B), (POS, place(0, 88))], [], [], "1 2", "0 to 0, 88 bytes, in turn 0", first)
+case("hold", 88, [(LOG, A + B + b"more"), (POS, place(0, 88))], [], [], "1 2", "0 to 0, 88 bytes, in turn 0", first)
+case("hold", 88, [(LOG, A + B)], [], [], "1 2", "0 to 0, 88 bytes, in turn 0", first)
+case("hold", 88, [(LOG, A + B), (POS, place(0, 44))], [], [], "1", "0 to 0, 44 bytes, in turn 0", [(LOG, 44), (POS, 24), (SEG, 32)])
+case("hold", 88, [(LOG, A), ("dead.1.log", B)], [], [], "1", "0 to 0, 44 bytes, in turn 0", [(LOG, 44), (POS, 24), (SEG, 32)])
+case("hold", 88, [(SEG, Z[:-1]), (LOG, A)], [], [], "1", "0 to 0, 44 bytes, in turn 0", [(LOG, 44), (POS, 24), (SEG, 32)])
+case("hold", 88, PAIR, [], [], "1 2", "0 to 1, 44 bytes, in turn 0", PAIR_NOW)
+case("hold", 88, [*PAIR[:2], ("dead.1.log", B + C)], [], [], "1 2", "0 to 1, 44 bytes, in turn 0", PAIR_NOW)
+case("hold", 88, [PAIR[0], (LOG, A + C), PAIR[2]], [], [], "1 3 2", "0 to 1, 44 bytes, in turn 0", [PAIR_NOW[0], (LOG, 88), (SEG, 32)])
+case("hold", 88, [*PAIR, (POS, bytes(25))], [], [], "1 2", "0 to 1, 44 bytes, in turn 0", [*PAIR_NOW[:2], (POS, 25), (SEG, 32)])
+others = [(part, E) for part in ["dead.03.log", "dead.4294967296.log", "dead.log.old", "out.log"]]
+gone = [(part, E) for part in [LOG, "dead.3.log", "dead.10.log", f"dead.{W}.log"]]
+stay = [("dead.03.log", 44), ("dead.1.log", 44), ("dead.2.log", 44), ("dead.4294967296.log", 44), ("dead.log.old", 44), (SEG, 32), ("out.log", 44)]
+case("hold", 88, [(SEG, named_segments(0, 1, 2, SIZE)), ("dead.1.log", B), ("dead.2.log", C + D), *others, *gone], [], [], "2 3", "1 to 2, 44 bytes, in turn 0", stay)
+
+# each damage
+case("hold", 88, [(LOG, A[:-1]), (POS, place(0, 44))], [], [], "q/dead.log at 43: 43, not 44", "nothing", [(LOG, 43), (POS, 24)])
+case("hold", 88, [(LOG, A), (POS, bytes(25))], [], [], f"q/dead.pos at 0: 0, not {crc32(bytes(20))}", "nothing", [(LOG, 44), (POS, 25)])
+broken = changed(Z, 30, b"\0\0") + b"\0"
+numbers = f"{int.from_bytes(broken[28:32], 'big')}, not {crc32(Z[:28])}"
+case("hold", 88, [(SEG, broken), (LOG, A + B)], [A], [f"q/dead.seg at 0: {numbers}"], f"q/dead.seg at 0: {numbers}", numbers, [(LOG, 88), (SEG, 33)])
+case("hold", 88, [(SEG, named_segments(2, 4, 3, 6)), (LOG, A)], [], [], "q/dead.seg at 0: 4, not 3", "4, not 3", [(LOG, 44), (SEG, 32)])
+case("hold", 88, [*PAIR[:2], ("dead.1.log", B[:-1])], [], [], "q/dead.1.log at 43: 43, not 44", "0 to 1, 44 bytes, in turn 0", [("dead.1.log", 43), *PAIR_NOW[1:]])
+case("hold", 88, PAIR[:2], [], [], "q/dead.1.log at 0: 0, not 44", "0 to 1, 44 bytes, in turn 0", PAIR_NOW[1:])
+other = changed(B, 9, b"g")
+numbers = f"{int.from_bytes(B[-4:], 'big')}, not {crc32(other[:-4])}"
+case("hold", 88, [*PAIR[:2], ("dead.1.log", other)], [], [], f"q/dead.1.log at 0: {numbers}", "0 to 1, 44 bytes, in turn 0", PAIR_NOW)
+case("hold", 88, [PAIR[0], (LOG, A[:-1]), PAIR[2]], [], [], "q/dead.log at 0: 44, not 43", "0 to 1, 44 bytes, in turn 0", [PAIR_NOW[0], (LOG, 43), (SEG, 32)])
+
+# a stop at each moment, or a call that fails
+stops("hold", 88, [], [A], "", "1")
+stops("hold", 1000, [], [A + B], "", "1 2")
+stops("hold", 88, PAIR, [C], "1 2")
+stops("drop_newer", 88, PAIR, [C], "1 2")
+stops("drop_older", 88, PAIR, [C], "1 2", "2 3")
+stops("drop_older", 88, PAIR, [C + D], "1 2", "2 3")
+stops("drop_older", 1000, PAIR, [C + D], "1 2", "1 2 3 4")
+stops("hold", 1000, [(LOG, A + b"more"), (POS, place(0, 44))], [B], "1", "1 2")
+stops("hold", 88, [(LOG, A)], [B], "1", "1 2")
+stops("hold", 1000, [(SEG, named_segments(0, 1, 1, SIZE)), (LOG, C), ("dead.1.log", A + b"more"), ("dead.2.log", D)], [B], "1", "1 2")
+stops("drop_older", 88, [], [A, B, C], "", "1", "1 2", "2 3", "1 3")
 
 # ---- frames
 

@@ -91,7 +91,8 @@ pub fn add_shed(to: &mut String, row: &str) -> Result<(), AllocError> {
     Ok(())
 }
 
-fn policy_of(word: &str) -> Policy {
+/// The policy of a word.
+pub fn policy_of(word: &str) -> Policy {
     match word {
         "drop_newer" => Policy::DropNewer,
         "drop_older" => Policy::DropOlder,
@@ -111,7 +112,7 @@ fn numbers_of(alloc: Global, words: &str) -> Result<Vec<u64>, AllocError> {
 pub fn add_counted(to: &mut String, row: &str) -> Result<(), AllocError> {
     let bytes = bytes_of(*to.allocator(), row)?;
     let mut store = store_with(*to.allocator(), u64::MAX, NAME, &bytes)?;
-    add_said(to, &mut store)
+    add_said(to, &mut store, NAME)
 }
 
 /// Writes the slot that a row says, and adds the file and what it says then.
@@ -132,7 +133,7 @@ pub fn add_written(to: &mut String, row: &str) -> Result<(), AllocError> {
     }
     add_bytes(to, store.bytes(NAME).unwrap_or(&[]))?;
     to.push_str(" | ")?;
-    add_said(to, &mut store)
+    add_said(to, &mut store, NAME)
 }
 
 /// Whether a slot was written; a place behind the end of the file is none.
@@ -146,8 +147,9 @@ fn write(store: &mut MemoryStore, turn: u64, segments: Segments) -> bool {
     count_segments(store, NAME, turn, segments).is_ok()
 }
 
-fn add_said(to: &mut String, store: &mut MemoryStore) -> Result<(), AllocError> {
-    match read_segments(store, NAME) {
+/// Adds what the file of a name says of segments.
+pub fn add_said(to: &mut String, store: &mut MemoryStore, name: &str) -> Result<(), AllocError> {
+    match read_segments(store, name) {
         Ok(Counted::Nothing) => to.push_str("nothing"),
         Ok(Counted::Count(turn, segments)) => {
             let (first, last, length) = (segments.first, segments.last, segments.length);

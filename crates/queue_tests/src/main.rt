@@ -23,6 +23,11 @@
 //! - `segments`: the bytes of a file that names the segments of dead letters.
 //! - `counts`: a turn, a first segment, a last one, its length, and the bytes of such a file, into which the slot that says
 //!   this is written.
+//! - `queues`: a policy, a limit, the files of a folder between bars, each with its name in front, and behind semicolons
+//!   batches of letters, as the bytes of a segment. They are appended, with an opening before each. The answer tells what
+//!   comes of each, the ids of the letters that the queue holds then, or its damage, and the files.
+//! - `stops`: such a row. The answer is all that its queue may hold where a stop comes at any moment, with any choice, or
+//!   where one call of the store fails.
 //! - `frames`: bytes, of which the CRC-32 is computed, and which are read as a frame.
 //!
 //! `data/rows.py` made the tables and `stdout`, by the tables of the formats and with the CRC-32 of Python's `zlib`.
@@ -33,6 +38,7 @@ mod frames;
 mod letters;
 mod outputs;
 mod pages;
+mod queues;
 mod slots;
 mod words;
 
@@ -56,10 +62,12 @@ enum Table {
     Sheds,
     Segments,
     Counts,
+    Queues,
+    Stops,
     Frames,
 }
 
-const TABLES: [(&str, Table); 17] = [
+const TABLES: [(&str, Table); 19] = [
     ("pages", Table::Pages),
     ("prefixes", Table::Pages),
     ("heads", Table::Pages),
@@ -76,6 +84,8 @@ const TABLES: [(&str, Table); 17] = [
     ("sheds", Table::Sheds),
     ("segments", Table::Segments),
     ("counts", Table::Counts),
+    ("queues", Table::Queues),
+    ("stops", Table::Stops),
     ("frames", Table::Frames),
 ];
 
@@ -108,6 +118,8 @@ fn add_answer(to: &mut String, table: Table, row: &str) -> Result<(), AllocError
         Table::Sheds => letters::add_shed(to, row),
         Table::Segments => letters::add_counted(to, row),
         Table::Counts => letters::add_written(to, row),
+        Table::Queues => queues::add_run(to, row),
+        Table::Stops => queues::add_stops(to, row),
         Table::Frames => frames::add_read(to, row),
     }
 }
