@@ -17,3 +17,5 @@ pub mod OpenedReads
 pub mod Listed
 pub mod OpeningRun
 pub mod FirstVersion
+pub mod FoundDamages
+pub mod Staying

@@ -1,5 +1,5 @@
 -- What a folder holds, as a queue of dead letters: the number of its oldest segment, and the bytes of each one, or how it is damaged.
-use Rattle.std.specs.Prelude.{◌≡◌, ℕ, zero, suc, ◌-◌, nat_lt, List, [], ◌∷◌, ◌++◌, length, take, Result, Ok, Err, if◌then◌else◌, ⊤}
+use Rattle.std.specs.Prelude.{◌≡◌, ◌≢◌, ℕ, zero, suc, ◌-◌, nat_lt, List, [], ◌∷◌, ◌++◌, length, take, Result, Ok, Err, if◌then◌else◌, ⊤}
 use Rattle.io_traits.specs.Folders.{Content}
 use Rattle.io_traits.specs.Reads.{bytes_of}
 use Rattle.store_disk.specs.declared.faults.Damage.{Damage}
@@ -97,3 +97,9 @@ abbrev pub IsNoDamage : QueueFault → Type 0
 IsNoDamage (f.Damaged d) = ⊥
 IsNoDamage f.Fault = ⊤
 IsNoDamage f.Memory = ⊤
+
+-- ---- laws
+
+-- where a folder is damaged, what was found differs from what was expected
+abbrev pub FoundDamagesDiffer : Type 0
+FoundDamagesDiffer = (folder : List ℕ) (content : Content) (d : Damage) → found folder content ≡ Err d → d.found ≢ d.expected

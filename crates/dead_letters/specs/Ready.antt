@@ -1,12 +1,12 @@
 -- A queue of dead letters that is open on a store: when it is ready for an append, and what a stop leaves.
-use Rattle.std.specs.Prelude.{◌≡◌, ◌⊎◌, ◌<◌, ◌≤◌, ◌^◌, ℕ, zero, suc, ◌+◌, IsTrue, List, [], ◌∷◌, length, map, Ok}
+use Rattle.std.specs.Prelude.{◌≡◌, ◌⊎◌, ◌<◌, ◌≤◌, ◌^◌, Bool, ℕ, zero, suc, ◌+◌, IsTrue, List, [], ◌∷◌, length, map, Ok}
 use Rattle.io_traits.specs.Folders.{Content}
 use Rattle.io_traits.specs.Reads.{bytes_of}
 use Rattle.crc_frame.specs.Slots.{is_slot}
 use Rattle.store_trait.specs.Images.{Image, at_rest}
 use Rattle.store_trait.specs.Chance.{NoChance}
 use Rattle.store_trait.specs.Tails.{passes}
-use Rattle.store_trait.specs.Moments.{MayLeaveNow, EachMoment, LeavesBeside}
+use Rattle.store_trait.specs.Moments.{MayLeaveNow, EachMoment, LeavesBeside, ReadsBeside}
 use Rattle.store_trait.specs.declared.stores.Store.{Ghosts as StoreWords}
 use Rattle.out_files.specs.Contents.{left_in}
 use Rattle.dead_letters.specs.Queues.{segment, names, name_in}
@@ -56,3 +56,21 @@ module _ {S : Type 0} (store : StoreWords S) where
   pub record IsAppended (q : DeadQueue) (letters : List DeadLetter) (old : S) (grown : DeadQueue) (new : S) : Type 0 where
     pub ready : IsReady grown new
     pub held : IsTrue store.tells → held_now grown (store.seen new) ≡ append_to q.limit (held_now q (store.seen old)) (sheds q letters) letters
+
+  -- ---- laws
+
+  -- files of others, by a test
+  abbrev pub IsApart : (List ℕ → Bool) → DeadQueue → Type 0
+  IsApart others q = (name : List ℕ) → IsOwn q.folder name → IsTrue (others name) → ⊥
+
+  -- whatever a stop leaves while others change their files, a queue that was ready holds what it held
+  abbrev pub HoldsBeside : Type 0
+  HoldsBeside =
+      (others : List ℕ → Bool) (q : DeadQueue) (s : S) (i : Image) → IsReady q s → IsApart others q → IsTrue store.tells → LeavesBeside store (λ name. IsTrue (others name)) s i
+      → found q.folder (left_in i) ≡ Ok (held_now q (store.seen s))
+
+  -- and it is ready when they are done
+  abbrev pub StaysReady : Type 0
+  StaysReady =
+      (others : List ℕ → Bool) (q : DeadQueue) (old new : S) → IsReady q old → IsApart others q → ((i : Image) → MayLeaveNow store new i → LeavesBeside store (λ name. IsTrue (others name)) old i)
+      → ReadsBeside store (λ name. IsTrue (others name)) old new → IsReady q new

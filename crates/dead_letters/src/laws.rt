@@ -1,11 +1,15 @@
-//! What holds of letters, of records and of what is shed. Each function here does nothing: its clauses are
-//! theorems.
+//! What holds of letters, of records, of what is shed and of folders of queues. Each function here does
+//! nothing: its clauses are theorems.
 ghost use Rattle.dead_letters.specs.Appends.{AppendedAreRead};
+ghost use Rattle.dead_letters.specs.Found.{FoundDamagesDiffer};
 ghost use Rattle.dead_letters.specs.Places.{PlacesAreExact};
 ghost use Rattle.dead_letters.specs.Queues.{NamesDiffer, PiecesMakeSegments};
+ghost use Rattle.dead_letters.specs.Ready.{HoldsBeside, StaysReady};
 ghost use Rattle.dead_letters.specs.Records.{RecordsAreReadBack, RecordsAreSpelled};
 ghost use Rattle.dead_letters.specs.Segments.{CountedHaveRoom, DamagesDiffer};
 ghost use Rattle.dead_letters.specs.Shedding.{FewestSegmentsLeave};
+
+use store_disk::Store;
 
 /// The letters of a segment have one spelling, and bytes are the records of at most one list of letters.
 pub fn records_have_one_spelling()
@@ -22,6 +26,11 @@ pub fn fewest_segments_leave()
 /// expected.
 pub fn damages_differ()
     ensures { DamagesDiffer }
+{}
+
+/// Where the folder of a queue is damaged, what was found differs from what was expected.
+pub fn damages_of_folders_differ()
+    ensures { FoundDamagesDiffer }
 {}
 
 /// Segments that count are in order, and the file that names them is long enough for each slot that comes
@@ -50,4 +59,11 @@ pub fn pieces_make_segments()
 /// that are not shed.
 pub fn appended_letters_are_read()
     ensures { AppendedAreRead }
+{}
+
+/// Whatever a stop leaves while others change files of their own, a queue that was ready holds what it held;
+/// and it is ready when they are done.
+pub fn others_change_nothing<S: Store>()
+    ensures holds { HoldsBeside S.Store }
+    ensures ready { StaysReady S.Store }
 {}
