@@ -14,9 +14,9 @@ use Rattle.store_changes.specs.Changes.{AllRest, HasFirst}
 use Rattle.out_files.specs.Contents.{left_in}
 use Rattle.dead_letters.specs.Queues.{segment, names, name_in}
 use Rattle.dead_letters.specs.Segments.{counted_in}
-use Rattle.dead_letters.specs.Found.{bytes_in, found}
+use Rattle.dead_letters.specs.Found.{Held, bytes_in, found}
 use Rattle.dead_letters.specs.Views.{IsOwn}
-use Rattle.dead_letters.specs.Opening.{HoldsStill, LeavesHeld}
+use Rattle.dead_letters.specs.Opening.{NoChances, HoldsStill, LeavesHeld}
 use Rattle.dead_letters.specs.Trimming.{IsCut, IsExcess, IsOpened, StaysHeld, Trims, sizes_cut}
 use Rattle.dead_letters.specs.declared.counting.Segments.{Segments}
 use Rattle.dead_letters.specs.declared.counting.Counted.TheVariants.{Count}
@@ -27,6 +27,10 @@ use Rattle.dead_letters.proofs.OpenedReads.{none_counted, other_own, trimmed, sa
 -- files at rest are left as they read
 pub left_same : (c : Content) (i : Image) → IsAtRest c i → left_in i ≡ c
 left_same c i rests = λ k name. ap (λ (f : FileImage). f.file) (rests name) k
+
+-- and no slot stands in them that was not settled
+rested_chances : (folder : List ℕ) (c : Content) → NoChances folder (resting c)
+rested_chances folder c = (record { each = λ place frame is stands. inl stands }, record { each = λ place frame is stands. inl stands })
 
 rested_holds : (folder : List ℕ) (c : Content) (i : Image) → IsAtRest c i → HoldsStill folder c i
 rested_holds folder c i rests h is chances = ap (found folder) (left_same c i rests) ∙ is
@@ -97,6 +101,17 @@ module _ {S : Type 0} (store : StoreWords S) (tell : ImagesTell store) (folder :
         own = inr (told, subst (λ c. HoldsStill folder c i) (reads told) a.own);
         beside = (resting (store.seen old), inr (told, λ n. refl), λ name outside. a.beside name outside ∙ ap (λ (c : Content). at_rest (c name)) (reads told));
       })
+
+  -- what all images hold is kept
+  pub kept_held : (h : Held) (old new : S) → EachMoment store old new (LeavesHeld store folder old) → ((i : Image) → NowOrSynced store old i → NoChances folder i → found folder (left_in i) ≡ Ok h)
+      → EachMoment store old new (λ i. NoChances folder i → found folder (left_in i) ≡ Ok h)
+  kept_held h old new run holds =
+      let c = store.seen old in
+      weaker store tell old new (LeavesHeld store folder old) (λ i. NoChances folder i → found folder (left_in i) ≡ Ok h) run
+      (λ i told a chances. ⊎_elim
+      (λ left. holds i (inl left) chances)
+      (λ still. still.1 h (holds (resting c) (inr (told, λ n. refl)) (rested_chances folder c)) chances)
+      a.own)
 
   -- ---- a folder is cut back to these segments
 

@@ -5,7 +5,7 @@ use Rattle.crc_frame.specs.Slots.{is_slot}
 use Rattle.store_trait.specs.Images.{Image}
 use Rattle.store_trait.specs.Chance.{NoChance}
 use Rattle.store_trait.specs.Tails.{passes}
-use Rattle.store_trait.specs.Moments.{MayLeaveNow, LeavesBeside}
+use Rattle.store_trait.specs.Moments.{MayLeaveNow, NowOrSynced, EachMoment, LeavesBeside}
 use Rattle.store_trait.specs.declared.stores.Store.{Ghosts as StoreWords}
 use Rattle.out_files.specs.Contents.{left_in}
 use Rattle.dead_letters.specs.Queues.{segment, names, position, name_in}
@@ -30,3 +30,11 @@ module _ {S : Type 0} (store : StoreWords S) where
   pub record LeavesHeld (folder : List ℕ) (s : S) (i : Image) : Type 0 where
     pub own : MayLeaveNow store s i ⊎ (IsTrue store.tells × HoldsStill folder (store.seen s) i)
     pub beside : LeavesBeside store (IsOwn folder) s i
+
+  -- ---- laws
+
+  -- what the folder holds whatever a stop leaves before an opening, and as it is read then, it holds at each moment of it, if no slot stands by chance
+  abbrev pub OpeningKeeps : Type 0
+  OpeningKeeps =
+      (folder : List ℕ) (h : Held) (old new : S) → EachMoment store old new (LeavesHeld folder old) → ((i : Image) → NowOrSynced store old i → NoChances folder i → found folder (left_in i) ≡ Ok h)
+      → EachMoment store old new (λ i. NoChances folder i → found folder (left_in i) ≡ Ok h)

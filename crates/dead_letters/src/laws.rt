@@ -2,6 +2,7 @@
 //! nothing: its clauses are theorems.
 ghost use Rattle.dead_letters.specs.Appends.{AppendedAreRead};
 ghost use Rattle.dead_letters.specs.Found.{FoundDamagesDiffer};
+ghost use Rattle.dead_letters.specs.Opening.{OpeningKeeps};
 ghost use Rattle.dead_letters.specs.Places.{PlacesAreExact};
 ghost use Rattle.dead_letters.specs.Queues.{NamesDiffer, PiecesMakeSegments};
 ghost use Rattle.dead_letters.specs.Ready.{HoldsBeside, StaysReady};
@@ -66,4 +67,10 @@ pub fn appended_letters_are_read()
 pub fn others_change_nothing<S: Store>()
     ensures holds { HoldsBeside S.Store }
     ensures ready { StaysReady S.Store }
+{}
+
+/// What a folder holds whatever a stop leaves before it is opened, and as it is read then, it holds at each
+/// moment of the opening.
+pub fn an_opening_keeps_what_is_held<S: Store>()
+    ensures { OpeningKeeps S.Store }
 {}
