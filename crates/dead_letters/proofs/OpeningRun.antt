@@ -129,23 +129,28 @@ module _ {S : Type 0} (store : StoreWords S) (tell : ImagesTell store) (folder :
     pub long : IsTrue store.tells → s.length ≤ length (bytes_in folder (store.seen mid) s.last)
     long told = subst (λ (c : Content). s.length ≤ length (bytes_in folder c s.last)) (sym (seen_then told)) (x.long told)
 
-    pub was_trimmed : (two : S) (removed : List (List ℕ)) (name : List ℕ) → removed ≡ e.gone.items → name ≡ e.last → (AllRest store mid → EachMoment store mid two (Trims store removed name s.length mid))
+    was_trimmed : (two : S) (removed : List (List ℕ)) (name : List ℕ) → removed ≡ e.gone.items → name ≡ e.last → (AllRest store mid → EachMoment store mid two (Trims store removed name s.length mid))
         → ReadsBeside store (λ n. (Contains removed n) ⊎ (n ≡ name)) mid two → WasTrimmed store e.gone.items s.length mid two last
     was_trimmed two removed name gone_is name_is moments beside =
         subst (WasTrimmed store e.gone.items s.length mid two) (name_is ∙ x.last) (subst (λ l. WasTrimmed store l s.length mid two name) gone_is (record { moments = moments; beside = beside }))
 
-    pub trim_beside : (new : S) → WasTrimmed store e.gone.items s.length mid new last → ReadsBeside store (IsOwn folder) old new
+    trim_beside : (new : S) → WasTrimmed store e.gone.items s.length mid new last → ReadsBeside store (IsOwn folder) old new
     trim_beside new was told name outside =
         was.beside told name (λ mine. ⊎_elim (λ has. outside (let o = other_own folder s low e.gone.items x.from name has in (segment o.0, o.1.0, o.2))) (λ is. outside (segment s.last, low, is)) mine)
         ∙ ap (λ (c : Content). c name) (seen_then told)
 
-    pub trimming : (new : S) → WasTrimmed store e.gone.items s.length mid new last → EachMoment store old new (StaysHeld store folder old)
+    trimming : (new : S) → WasTrimmed store e.gone.items s.length mid new last → EachMoment store old new (StaysHeld store folder old)
     trimming new was =
         one_then_other store tell old mid new (StaysHeld store folder old) (Trims store e.gone.items last s.length mid) (StaysHeld store folder old) (looked old mid rests nothing) (was.moments (rests_still old mid rests nothing)) (λ i told a. a)
         (λ i told t. trimmed folder s low e.gone.items x.from store old turn order (counted told) (x.long told) i (record {
           stays = λ name other none. t.stays name other none ∙ ap (λ (c : Content). at_rest (c name)) (seen_then told);
           front = subst (λ (c : Content). HasFirst s.length (c last) (i last)) (seen_then told) t.front;
         }))
+
+    -- by other words for the names of the files
+    pub cut_run : (two : S) (removed : List (List ℕ)) (name : List ℕ) → removed ≡ e.gone.items → name ≡ e.last → (AllRest store mid → EachMoment store mid two (Trims store removed name s.length mid))
+        → ReadsBeside store (λ n. (Contains removed n) ⊎ (n ≡ name)) mid two → EachMoment store old two (StaysHeld store folder old) × ReadsBeside store (IsOwn folder) old two
+    cut_run two removed name gone_is name_is moments beside = let was = was_trimmed two removed name gone_is name_is moments beside in (trimming two was, trim_beside two was)
 
     module _ (new : S) (settled : AllRest store new) (cut : IsTrue store.tells → IsCut e.gone.items last s.length (store.seen mid) (store.seen new)) (sizes : List ℕ) (many : length sizes ≡ s.last - s.first + 1)
         (are : IsTrue store.tells → sizes ≡ sizes_cut folder (store.seen old) s) where

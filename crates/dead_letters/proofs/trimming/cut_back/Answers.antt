@@ -3,7 +3,7 @@ use Rattle.std.specs.Prelude.{Contains}
 use Rattle.io_traits.specs.Reads.{file_length}
 use Rattle.store_disk.proofs.Looking.{nothing_then}
 use Rattle.dead_letters.specs.Trimming.{IsCut, sizes_cut}
-use Rattle.dead_letters.proofs.OpeningRun.{was_trimmed, looked, beside_looked, apart, long, trimming, trim_beside, opened}
+use Rattle.dead_letters.proofs.OpeningRun.{looked, beside_looked, apart, long, cut_run, opened}
 use Rattle.dead_letters.proofs.trimming.cut_back.Goals as goal
 
 pub returns-in_err-excess-clause-any_moment : goal.returns-in_err-excess-clause-any_moment
@@ -44,47 +44,27 @@ trim-requires-clause-long g c = λ told.
 
 pub returns-in_err-trim-clause-any_moment : goal.returns-in_err-trim-clause-any_moment
 returns-in_err-trim-clause-any_moment g c =
-    let s = c.args.segments in
-    let mid = c.sizes_of.new.store in
-    let new = c.trim.new.store in
-    let e = c.in_ok-excess.excess in
-    let x = c.in_ok-excess.ensures.excess in
-    let nothing = nothing_then g.S.Store c.args.store.now c.excess_in.new.store mid c.excess_in.ensures.same c.sizes_of.ensures.same in
-    let was = was_trimmed g.S.Store g.met.S.Store.images_tell c.args.folder.now c.args.turn (omega arith) s (omega arith) c.requires.order c.args.store.now c.requires.rests c.requires.counted mid nothing e x new c.deref.result.now c.as_str.result.now c.deref.ensures.value c.as_str.ensures c.trim.ensures.any_moment c.trim.ensures.beside in
-    trimming g.S.Store g.met.S.Store.images_tell c.args.folder.now c.args.turn (omega arith) s (omega arith) c.requires.order c.args.store.now c.requires.rests c.requires.counted mid nothing e x new was
+    let nothing = nothing_then g.S.Store c.args.store.now c.excess_in.new.store c.sizes_of.new.store c.excess_in.ensures.same c.sizes_of.ensures.same in
+    (cut_run g.S.Store g.met.S.Store.images_tell c.args.folder.now c.args.turn (omega arith) c.args.segments (omega arith) c.requires.order c.args.store.now c.requires.rests c.requires.counted c.sizes_of.new.store nothing
+    c.in_ok-excess.excess c.in_ok-excess.ensures.excess c.trim.new.store c.deref.result.now c.as_str.result.now c.deref.ensures.value c.as_str.ensures c.trim.ensures.any_moment c.trim.ensures.beside).0
 
 pub returns-in_err-trim-clause-beside : goal.returns-in_err-trim-clause-beside
 returns-in_err-trim-clause-beside g c =
-    let s = c.args.segments in
-    let mid = c.sizes_of.new.store in
-    let new = c.trim.new.store in
-    let e = c.in_ok-excess.excess in
-    let x = c.in_ok-excess.ensures.excess in
-    let nothing = nothing_then g.S.Store c.args.store.now c.excess_in.new.store mid c.excess_in.ensures.same c.sizes_of.ensures.same in
-    let was = was_trimmed g.S.Store g.met.S.Store.images_tell c.args.folder.now c.args.turn (omega arith) s (omega arith) c.requires.order c.args.store.now c.requires.rests c.requires.counted mid nothing e x new c.deref.result.now c.as_str.result.now c.deref.ensures.value c.as_str.ensures c.trim.ensures.any_moment c.trim.ensures.beside in
-    trim_beside g.S.Store g.met.S.Store.images_tell c.args.folder.now c.args.turn (omega arith) s (omega arith) c.requires.order c.args.store.now c.requires.rests c.requires.counted mid nothing e x new was
+    let nothing = nothing_then g.S.Store c.args.store.now c.excess_in.new.store c.sizes_of.new.store c.excess_in.ensures.same c.sizes_of.ensures.same in
+    (cut_run g.S.Store g.met.S.Store.images_tell c.args.folder.now c.args.turn (omega arith) c.args.segments (omega arith) c.requires.order c.args.store.now c.requires.rests c.requires.counted c.sizes_of.new.store nothing
+    c.in_ok-excess.excess c.in_ok-excess.ensures.excess c.trim.new.store c.deref.result.now c.as_str.result.now c.deref.ensures.value c.as_str.ensures c.trim.ensures.any_moment c.trim.ensures.beside).1
 
 pub returns-clause-any_moment : goal.returns-clause-any_moment
 returns-clause-any_moment g c =
-    let s = c.args.segments in
-    let mid = c.sizes_of.new.store in
-    let new = c.trim.new.store in
-    let e = c.in_ok-excess.excess in
-    let x = c.in_ok-excess.ensures.excess in
-    let nothing = nothing_then g.S.Store c.args.store.now c.excess_in.new.store mid c.excess_in.ensures.same c.sizes_of.ensures.same in
-    let was = was_trimmed g.S.Store g.met.S.Store.images_tell c.args.folder.now c.args.turn (omega arith) s (omega arith) c.requires.order c.args.store.now c.requires.rests c.requires.counted mid nothing e x new c.deref.result.now c.as_str.result.now c.deref.ensures.value c.as_str.ensures c.trim.ensures.any_moment c.trim.ensures.beside in
-    trimming g.S.Store g.met.S.Store.images_tell c.args.folder.now c.args.turn (omega arith) s (omega arith) c.requires.order c.args.store.now c.requires.rests c.requires.counted mid nothing e x new was
+    let nothing = nothing_then g.S.Store c.args.store.now c.excess_in.new.store c.sizes_of.new.store c.excess_in.ensures.same c.sizes_of.ensures.same in
+    (cut_run g.S.Store g.met.S.Store.images_tell c.args.folder.now c.args.turn (omega arith) c.args.segments (omega arith) c.requires.order c.args.store.now c.requires.rests c.requires.counted c.sizes_of.new.store nothing
+    c.in_ok-excess.excess c.in_ok-excess.ensures.excess c.trim.new.store c.deref.result.now c.as_str.result.now c.deref.ensures.value c.as_str.ensures c.trim.ensures.any_moment c.trim.ensures.beside).0
 
 pub returns-clause-beside : goal.returns-clause-beside
 returns-clause-beside g c =
-    let s = c.args.segments in
-    let mid = c.sizes_of.new.store in
-    let new = c.trim.new.store in
-    let e = c.in_ok-excess.excess in
-    let x = c.in_ok-excess.ensures.excess in
-    let nothing = nothing_then g.S.Store c.args.store.now c.excess_in.new.store mid c.excess_in.ensures.same c.sizes_of.ensures.same in
-    let was = was_trimmed g.S.Store g.met.S.Store.images_tell c.args.folder.now c.args.turn (omega arith) s (omega arith) c.requires.order c.args.store.now c.requires.rests c.requires.counted mid nothing e x new c.deref.result.now c.as_str.result.now c.deref.ensures.value c.as_str.ensures c.trim.ensures.any_moment c.trim.ensures.beside in
-    trim_beside g.S.Store g.met.S.Store.images_tell c.args.folder.now c.args.turn (omega arith) s (omega arith) c.requires.order c.args.store.now c.requires.rests c.requires.counted mid nothing e x new was
+    let nothing = nothing_then g.S.Store c.args.store.now c.excess_in.new.store c.sizes_of.new.store c.excess_in.ensures.same c.sizes_of.ensures.same in
+    (cut_run g.S.Store g.met.S.Store.images_tell c.args.folder.now c.args.turn (omega arith) c.args.segments (omega arith) c.requires.order c.args.store.now c.requires.rests c.requires.counted c.sizes_of.new.store nothing
+    c.in_ok-excess.excess c.in_ok-excess.ensures.excess c.trim.new.store c.deref.result.now c.as_str.result.now c.deref.ensures.value c.as_str.ensures c.trim.ensures.any_moment c.trim.ensures.beside).1
 
 pub returns-clause-opened : goal.returns-clause-opened
 returns-clause-opened g c =
