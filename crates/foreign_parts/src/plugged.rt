@@ -23,6 +23,10 @@ pub trait Plugged: Drop {
         ensures answers { Answers result (refusal self.old settings.now.list) }
         ensures refusal { refusal self.new ≡ refusal self.old }
         ensures number { number self.new ≡ number self.old };
+
+    /// Tells its number.
+    fn own_number(&self) -> u64
+        ensures { result ≡ number self.now };
 }
 
 /// What a boxed filter is to a kit: it answers to an event with a verdict.
@@ -60,6 +64,10 @@ impl Plugged for PluggedFilter {
     fn configure(&mut self, settings: &Settings) -> Result<(), FromFault> {
         self.filter.configure(settings)
     }
+
+    fn own_number(&self) -> u64 {
+        self.number
+    }
 }
 
 impl Asked for PluggedFilter {
@@ -77,5 +85,9 @@ impl Plugged for PluggedOutput {
 
     fn configure(&mut self, settings: &Settings) -> Result<(), FromFault> {
         self.output.configure(settings)
+    }
+
+    fn own_number(&self) -> u64 {
+        self.number
     }
 }

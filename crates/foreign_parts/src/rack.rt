@@ -1,4 +1,4 @@
-ghost use Rattle.std.specs.Prelude.{◌≡◌, ◌<◌, ◌≤◌, ◌+◌, ◌-◌, ◌^◌, [], length, min, IfOk, IfSome, IfNone, OnOk, OnErr};
+ghost use Rattle.std.specs.Prelude.{◌≡◌, ◌<◌, ◌≤◌, ◌+◌, ◌-◌, ◌^◌, [], length, min, slice_get, Some, IfOk, IfSome, IfNone, OnOk, OnErr};
 ghost use Rattle.foreign_parts.specs.Stocks as spec;
 ghost use Rattle.foreign_parts.specs.Stocks.{AnswersAt, AreNumbered, IsLast, IsOut, refusals_of};
 ghost use Rattle.foreign_parts.specs.Shelves.{stocks};
@@ -7,7 +7,7 @@ use crate::filter::ForeignFilter;
 use crate::output::ForeignOutput;
 use crate::plugged::{PluggedFilter, PluggedOutput};
 use crate::shelf::Shelf;
-use crate::shelves::{add, configure, count_left, draw, give_back, is_known};
+use crate::shelves::{add, configure, count_left, draw, give_back, is_known, number_at};
 use config_tree::{FromFault, Settings};
 use std::alloc::{AllocError, Global};
 
@@ -202,6 +202,14 @@ impl Rack {
         ensures given { given_of self.new ≡ given_of self.old }
     {
         give_back(&mut self.filters, name, filter);
+    }
+
+    /// The number of an output of a name that is left, by its place; the last is drawn next.
+    pub fn output_number_at(&self, name: &str, at: usize) -> u64
+        requires { at < length (spec.left_of name.now (outputs_of self.now)) }
+        ensures { slice_get (spec.left_of name.now (outputs_of self.now)) at ≡ Some result }
+    {
+        number_at(self.outputs.as_slice(), name, at)
     }
 
     /// Takes the last output of a name. None exactly where none is left.

@@ -1,4 +1,4 @@
-ghost use Rattle.std.specs.Prelude.{◌≡◌, ◌≤◌, ◌<◌, ◌+◌, [], ◌++◌, ◌∷◌, length, vec_capacity, bytes_eq, IfSome, IfNone, OnOk, OnErr, IfOk};
+ghost use Rattle.std.specs.Prelude.{◌≡◌, ◌≤◌, ◌<◌, ◌+◌, [], ◌++◌, ◌∷◌, length, vec_capacity, slice_get, bytes_eq, Some, IfSome, IfNone, OnOk, OnErr, IfOk};
 ghost use Rattle.foreign_parts.specs.Stocks as spec;
 ghost use Rattle.foreign_parts.specs.Stocks.{AnswersAt, IsLast};
 
@@ -46,6 +46,14 @@ impl<T: Plugged> Shelf<T> {
         ensures { result ≡ length (stock_of T.number self.now).left }
     {
         self.left.len()
+    }
+
+    /// The number of the box at a place.
+    pub(crate) fn number_at(&self, at: usize) -> u64
+        requires { at < length (stock_of T.number self.now).left }
+        ensures { slice_get (stock_of T.number self.now).left at ≡ Some result }
+    {
+        self.left[at].own_number()
     }
 
     /// Adds a box, and keeps room for those that are out.

@@ -1,4 +1,4 @@
-ghost use Rattle.std.specs.Prelude.{◌≡◌, ◌<◌, [], length, IfSome, IfNone, OnOk, OnErr};
+ghost use Rattle.std.specs.Prelude.{◌≡◌, ◌<◌, [], length, slice_get, Some, IfSome, IfNone, OnOk, OnErr};
 ghost use Rattle.foreign_parts.specs.Stocks as spec;
 ghost use Rattle.foreign_parts.specs.Stocks.{AnswersAt, IsLast, place, refusals_of};
 ghost use Rattle.foreign_parts.specs.Shelves.{stocks, refusals};
@@ -33,6 +33,19 @@ pub(crate) fn count_left<T: Plugged>(shelves: &[Shelf<T>], name: &str) -> usize
     let at = place_of(shelves, name);
     if at < shelves.len() {
         shelves[at].len()
+    } else {
+        0
+    }
+}
+
+/// The number of a box of a name that is left, by its place.
+pub(crate) fn number_at<T: Plugged>(shelves: &[Shelf<T>], name: &str, at: usize) -> u64
+    requires { at < length (spec.left_of name.now (stocks T.number shelves.now)) }
+    ensures { slice_get (spec.left_of name.now (stocks T.number shelves.now)) at ≡ Some result }
+{
+    let shelf = place_of(shelves, name);
+    if shelf < shelves.len() {
+        shelves[shelf].number_at(at)
     } else {
         0
     }

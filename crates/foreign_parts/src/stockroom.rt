@@ -4,7 +4,7 @@ use crate::rack::Rack;
 
 /// A rack that boxes are drawn from, and that they may go back to.
 pub trait Stockroom: Boxes {
-    ghost use Rattle.std.specs.Prelude.{◌≡◌, ◌<◌, ℕ, [], IfSome, IfNone};
+    ghost use Rattle.std.specs.Prelude.{◌≡◌, ◌<◌, ℕ, [], length, slice_get, Some, IfSome, IfNone};
     ghost use Rattle.foreign_parts.specs.Stocks.{IsLast, IsOut, drawn, given_back, left_of, out_of};
     ghost use Rattle.foreign_parts.specs.declared.boxes.Kind.TheVariants as kind;
 
@@ -48,6 +48,12 @@ pub trait Stockroom: Boxes {
         ensures outputs { (Self.stand self.new kind.Output).stocks
             ≡ (Self.stand self.old kind.Output).stocks }
         ensures given { given self.new ≡ given self.old };
+
+    /// The number of an output of a name that is left, by its place; the last is drawn next.
+    fn output_number_at(&self, name: &str, at: usize) -> u64
+        requires { at < length (left_of name.now (Self.stand self.now kind.Output).stocks) }
+        ensures { slice_get (left_of name.now (Self.stand self.now kind.Output).stocks) at
+            ≡ Some result };
 
     /// Takes the last output of a name. None exactly where none is left.
     fn take_output(&mut self, name: &str) -> Option<Self::Output>
@@ -96,6 +102,10 @@ impl Stockroom for Rack {
 
     fn return_filter(&mut self, name: &str, filter: PluggedFilter) {
         self.give_back_filter(name, filter);
+    }
+
+    fn output_number_at(&self, name: &str, at: usize) -> u64 {
+        Rack::output_number_at(self, name, at)
     }
 
     fn take_output(&mut self, name: &str) -> Option<PluggedOutput> {
