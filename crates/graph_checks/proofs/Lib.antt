@@ -14,3 +14,7 @@ pub mod Handing
 pub mod Wholes
 pub mod Restoring
 pub mod Turning
+pub mod Numbers
+pub mod Loadings
+pub mod Fillings
+pub mod Planning

@@ -81,7 +81,7 @@ other_case true true j k s ss is here apart more = absurd (false≢true (sym apa
 other_case true false j k s ss is here apart more = ap (λ t. if t then (one_drawn s).left else left_of j ss) here ∙ ap (λ t. if t then s.left else left_of j ss) (sym here)
 other_case false c j k s ss is here apart more = ap (λ xs. if bytes_eq s.name j then s.left else xs) more
 
-others_same : (j k : List ℕ) (ss : List Stock) → bytes_eq k j ≡ false → left_of j (drawn k ss) ≡ left_of j ss
+pub others_same : (j k : List ℕ) (ss : List Stock) → bytes_eq k j ≡ false → left_of j (drawn k ss) ≡ left_of j ss
 others_same j k [] apart = refl
 others_same j k (s ∷ ss) apart = other_case (bytes_eq s.name k) (bytes_eq s.name j) j k s ss refl refl apart (others_same j k ss apart)
 

@@ -70,3 +70,9 @@ all_drawn {n} {n1} {n2} {fs} {fs1} {fs2} {new_fs} {os} {os1} {os2} {new_os} filt
       (subst (λ xs. AreDrawn (λ ss k. IsOut n fs2 ss k) outputs xs new_os) (c ∙ b)
       (subst (λ m. AreDrawn (λ ss k. IsOut m fs2 ss k) outputs os2 new_os) (f ∙ sym e) second));
 }
+
+-- the same of a rack that stood so before
+pub drawn_before : {n : ℕ} {fs before_fs new_fs os before_os new_os : List Stock} (filters outputs : Numbered) → fs ≡ before_fs → os ≡ before_os
+    → AllDrawn n filters outputs fs os new_fs new_os → AllDrawn n filters outputs before_fs before_os new_fs new_os
+drawn_before {n} {fs} {before_fs} {new_fs} {os} {before_os} {new_os} filters outputs a b drew =
+    subst (λ xs. AllDrawn n filters outputs xs before_os new_fs new_os) a (subst (λ ys. AllDrawn n filters outputs fs ys new_fs new_os) b drew)

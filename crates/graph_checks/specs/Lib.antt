@@ -9,3 +9,7 @@ pub mod Wants
 pub mod Readings
 pub mod Drawings
 pub mod Drawns
+pub mod Numbering
+pub mod Plans
+pub mod Filling
+pub mod Ready

@@ -41,13 +41,67 @@ pub fn draw_boxes<B: Stockroom>(
         (B.stand rack.new kind.Filter).stocks (B.stand rack.new kind.Output).stocks) }
 {
     let wants = find_wants(alloc, config, rack, workers)?;
-    let each = repeated(alloc, wants.filters.as_slice(), workers)?;
-    let filter_room = Vec::with_capacity(alloc, each.len())?;
-    let output_room = Vec::with_capacity(alloc, wants.outputs.len())?;
-    let Wants { outputs, .. } = wants;
-    let filters = draw_filters(rack, each, filter_room);
+    let room = reserve_boxes(alloc, wants, workers)?;
+    Ok(draw_into(room, rack))
+}
+
+/// Room for boxes, with the plugins for which they are to be drawn.
+#[derive(Drop)]
+pub(crate) struct BoxRoom<F, O> {
+    pub filters: Items<Want>,
+    pub outputs: Items<Want>,
+    filter_room: Vec<Drawn<F>>,
+    output_room: Vec<Drawn<O>>,
+    ghost no_filter: { filter_room.items ≡ [] },
+    ghost filters_fit: { length filters ≤ vec_capacity filter_room },
+    ghost no_output: { output_room.items ≡ [] },
+    ghost outputs_fit: { length outputs ≤ vec_capacity output_room },
+}
+
+/// Takes the memory for these boxes: of each filter so many, and of each output one.
+pub(crate) fn reserve_boxes<F: Drop, O: Drop>(
+    alloc: Global,
+    wants: Wants,
+    workers: u32,
+) -> Result<BoxRoom<F, O>, AllocError>
+    ensures filters { IfOk result (λ room. room.filters ≡ so_often workers wants.filters) }
+    ensures outputs { IfOk result (λ room. room.outputs ≡ wants.outputs) }
+{
+    let Wants { filters, outputs } = wants;
+    let filters = repeated(alloc, filters.as_slice(), workers)?;
+    let filter_room = Vec::with_capacity(alloc, filters.len())?;
+    let output_room = Vec::with_capacity(alloc, outputs.len())?;
+    Ok(BoxRoom {
+        filters,
+        outputs,
+        filter_room,
+        output_room,
+    })
+}
+
+/// Draws the boxes for which there is room: first the filters, and then the outputs.
+pub(crate) fn draw_into<B: Stockroom>(
+    room: BoxRoom<B::Filter, B::Output>,
+    rack: &mut B,
+) -> DrawnBoxes<B::Filter, B::Output>
+    requires filters { AreLeft (names_of room.filters) (B.stand rack.old kind.Filter).stocks }
+    requires outputs { AreLeft (names_of room.outputs) (B.stand rack.old kind.Output).stocks }
+    ensures filters { map (λ d. d.want) result.filters.items ≡ room.filters }
+    ensures outputs { map (λ d. d.want) result.outputs.items ≡ room.outputs }
+    ensures drawn { AllDrawn (B.given rack.new)
+        (filter_boxes B.filter_number result) (output_boxes B.output_number result)
+        (B.stand rack.old kind.Filter).stocks (B.stand rack.old kind.Output).stocks
+        (B.stand rack.new kind.Filter).stocks (B.stand rack.new kind.Output).stocks }
+{
+    let BoxRoom {
+        filters,
+        outputs,
+        filter_room,
+        output_room,
+    } = room;
+    let filters = draw_filters(rack, filters, filter_room);
     let outputs = draw_outputs(rack, outputs, output_room);
-    Ok(DrawnBoxes { filters, outputs })
+    DrawnBoxes { filters, outputs }
 }
 
 // Each of them so often.

@@ -1,10 +1,24 @@
+ghost use Rattle.std.specs.Prelude.{IfOk};
+
 use crate::want::Want;
+use event_tree::Event;
+use foreign_parts::{Asked, Verdict};
+use std::alloc::AllocError;
 
 /// A box that was drawn from a rack for a plugin.
 #[derive(Drop)]
 pub struct Drawn<P> {
     pub want: Want,
     pub plugged: P,
+}
+
+// It answers as its box does.
+impl<F: Asked> Asked for Drawn<F> {
+    ghost may = { λ drawn. F.may drawn.plugged };
+
+    fn ask(&self, event: &Event) -> Result<Verdict, AllocError> {
+        self.plugged.ask(event)
+    }
 }
 
 /// The boxes of a configuration, drawn from a rack: filters and outputs.

@@ -3,12 +3,12 @@ ghost use Rattle.graph_checks.specs.Answers.{Gives, Leaves, all_checked};
 ghost use Rattle.graph_checks.specs.Inputs as spec;
 
 use crate::fault::GraphFault;
-use crate::ids::plugin_id;
 use crate::plugins::{meet_id, meet_path, meet_path_once, setting_fault};
 use crate::texts::MetTexts;
 use config_tree::Plugin;
 use event_tree::Names;
 use plain_data::Text;
+use plugin_graph::plugin_id;
 use plugin_settings::{Input, read_input};
 use position_file::PositionOf;
 use std::alloc::{AllocError, Global};

@@ -6,13 +6,13 @@ ghost use Rattle.graph_checks.specs.Plugins as spec;
 use crate::asking::read_box;
 use crate::built_in::read_built_in;
 use crate::fault::GraphFault;
-use crate::ids::plugin_id;
 use crate::texts::MetTexts;
 use crate::walk::Walk;
 use crate::want::Want;
 use config_tree::{FromFault, Plugin};
 use foreign_parts::{Boxes, Kind};
 use plain_data::Text;
+use plugin_graph::plugin_id;
 use position_file::{PositionOf, position_name};
 use std::alloc::{AllocError, Global};
 

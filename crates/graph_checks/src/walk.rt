@@ -6,13 +6,13 @@ ghost use Rattle.graph_checks.specs.Points.{points_of, points_in, points_of_arms
 use crate::conditions::test_patterns;
 use crate::counts::Counts;
 use crate::fault::GraphFault;
-use crate::ids::condition_id;
 use crate::plugins::{section_name, setting_fault};
 use crate::texts::MetTexts;
 use crate::want::Want;
 use config_tree::{Arm, Condition, Statement};
 use foreign_parts::{Boxes, Kind};
 use plain_data::Items;
+use plugin_graph::condition_id;
 use std::alloc::{AllocError, Global};
 
 /// What was met so far of a section.

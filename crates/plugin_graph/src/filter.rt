@@ -1,5 +1,6 @@
 ghost use Rattle.std.specs.Prelude.{◌≡◌};
 ghost use Rattle.filter_settings.specs.Settings.{Gives};
+ghost use Rattle.plugin_graph.specs.Kits.{is_boxed};
 ghost use Rattle.plugin_graph.specs.Makes as spec;
 
 use crate::boxed::BoxedFilter;
@@ -32,6 +33,16 @@ impl Filter {
         match BuiltFilter::from_plugin(plugin)? {
             Some(filter) => Ok(Filter::Built(filter)),
             None => Ok(Filter::Boxed(BoxedFilter::from_settings(&plugin.settings)?)),
+        }
+    }
+
+    /// Whether it is a boxed one.
+    pub fn is_boxed(&self) -> bool
+        ensures { result ≡ is_boxed self.now }
+    {
+        match self {
+            Filter::Built(_) => false,
+            Filter::Boxed(_) => true,
         }
     }
 }

@@ -1,9 +1,10 @@
-ghost use Rattle.std.specs.Prelude.{◌≡◌, ◌<◌, length, slice_get, slice_set, IfOk, IfErr, Ok, Some};
+ghost use Rattle.std.specs.Prelude.{◌≡◌, ◌<◌, length, slice_get, slice_set, IfOk, IfErr, Ok, Some, false};
+ghost use Rattle.event_tree.specs.Paths.{over};
 ghost use Rattle.event_flow.specs.Laying.{IsTableOf};
 ghost use Rattle.filter_settings.specs.Settings.{Refuses};
 ghost use Rattle.plugin_graph.specs.Counts.{patterns_in};
 ghost use Rattle.plugin_graph.specs.Graphs.{contents_of, boxes_in, built_in};
-ghost use Rattle.plugin_graph.specs.Kits.{table_of, no_boxes};
+ghost use Rattle.plugin_graph.specs.Kits.{is_boxed, table_of, no_boxes};
 ghost use Rattle.plugin_graph.specs.Loads.{loaded};
 ghost use Rattle.plugin_graph.specs.Makes.{makes};
 
@@ -55,6 +56,23 @@ impl<X: Drop> Kit<X> {
         match self.parts.filters.get_mut(at) {
             Some(filter) => mem::replace(&mut filter.plugged, plugged),
             None => plugged,
+        }
+    }
+
+    /// How many filters it has.
+    pub fn filters(&self) -> usize
+        ensures { result ≡ length (contents_of self.now).filters }
+    {
+        self.parts.filters.len()
+    }
+
+    /// Whether the filter of a number, from 0 on, is a boxed one.
+    pub fn wants_box(&self, at: usize) -> bool
+        ensures { result ≡ over is_boxed false (slice_get (contents_of self.now).filters at) }
+    {
+        match self.parts.filters.get(at) {
+            Some(filter) => filter.filter.is_boxed(),
+            None => false,
         }
     }
 

@@ -1,5 +1,4 @@
 ghost use Rattle.std.specs.Prelude.{◌≡◌, ◌+◌, ◌++◌, ◌∷◌, [], IfOk, OnOk};
-ghost use Rattle.event_flow.specs.Ids as ids;
 ghost use Rattle.filter_settings.specs.Settings.{Gives};
 ghost use Rattle.plugin_graph.specs.Conditions.{compiled};
 ghost use Rattle.plugin_graph.specs.Each as spec;
@@ -7,8 +6,9 @@ ghost use Rattle.plugin_graph.specs.Makes.{filter_of};
 
 use crate::condition::{CompiledCondition, NamedCondition};
 use crate::filter::Filter;
+use crate::ids::condition_id;
 use config_tree::{Condition, FromFault, Plugin};
-use plain_data::{Items, Text};
+use plain_data::Items;
 use std::alloc::{AllocError, Global};
 
 /// The filters that plugins are. The fault is that of the first setting that is refused, in the order
@@ -62,13 +62,6 @@ fn next_number(number: u64) -> Result<u64, AllocError>
         Some(next) => Ok(next),
         None => Err(AllocError),
     }
-}
-
-// The id of the condition with this number in a section.
-fn condition_id(alloc: Global, section: &str, number: u64) -> Result<Text, AllocError>
-    ensures { IfOk result (λ id. id ≡ ids.condition_id section.now number) }
-{
-    Ok(Text::from_string(format!(in alloc; "{section}_if_{number}")?))
 }
 
 /// Conditions with their patterns. It is refused where a text of one of them is no pattern.

@@ -2,7 +2,8 @@ ghost use Rattle.std.specs.Prelude.{◌≡◌, ◌++◌, ◌∷◌, [], IfOk, On
 ghost use Rattle.event_flow.specs.declared.cell.Cell.TheVariants as cell;
 ghost use Rattle.plugin_graph.specs.Numbering as spec;
 
-use crate::places::{places_of, plugin_id};
+use crate::ids::plugin_id;
+use crate::places::places_of;
 use config_tree::Plugin;
 use event_flow::{Cell, Targets};
 use event_tree::Event;
@@ -82,7 +83,7 @@ impl Outputs {
             targets: Items::new(alloc),
         };
         for at in 0..plugins.len() {
-            let id = plugin_id(alloc, "output", at + 1, &plugins[at])?;
+            let id = plugin_id(alloc, "output", at as u64 + 1, &plugins[at])?;
             let places = places_of(alloc, draws, id.as_str(), &plugins[at])?;
             outputs.add(id, places)?;
         }

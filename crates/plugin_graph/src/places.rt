@@ -1,43 +1,16 @@
 ghost use Rattle.std.specs.Prelude.{◌≡◌, ◌∷◌, [], IfOk, bytes_eq, codes, map, option_and_then};
 ghost use Rattle.config_tree.specs.Readers.{value_at};
 ghost use Rattle.filter_settings.specs.Readers.{text_of, texts_of};
-ghost use Rattle.event_flow.specs.Ids as ids;
 ghost use Rattle.event_flow.specs.Places as spec;
 ghost use Rattle.foreign_parts.specs.declared.place.Place.TheVariants as place;
 ghost use Rattle.std.specs.List.{list_any};
 
 use config_tree::{Plugin, Settings};
 use event_tree::Names;
-use filter_settings::{read_id, read_text, read_texts, unless_refused};
+use filter_settings::{read_text, read_texts, unless_refused};
 use foreign_parts::Place;
 use plain_data::{Items, Text};
 use std::alloc::{AllocError, Global};
-
-/// The id of the k-th plugin of a section, counted from 1: the one that its settings give, and else
-/// the section's name and the number.
-pub(crate) fn plugin_id(
-    alloc: Global,
-    section: &str,
-    number: usize,
-    plugin: &Plugin,
-) -> Result<Text, AllocError>
-    ensures { IfOk result (λ id. id ≡ ids.plugin_id section.now number plugin.now) }
-{
-    match given_id(alloc, &plugin.settings)? {
-        Some(id) => Ok(id),
-        None => Ok(Text::from_string(format!(in alloc; "{section}_{number}")?)),
-    }
-}
-
-// The id that settings give.
-fn given_id(alloc: Global, settings: &Settings) -> Result<Option<Text>, AllocError>
-    ensures { IfOk result (λ id. id ≡ ids.given_id settings.now.list) }
-{
-    match settings.get("id") {
-        Some(value) => unless_refused(read_id(alloc, "id", value)),
-        None => Ok(None),
-    }
-}
 
 /// The places of an output by its name.
 pub(crate) fn places_of(

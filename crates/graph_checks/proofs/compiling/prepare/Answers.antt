@@ -1,0 +1,16 @@
+use Rattle.std.proofs.Common.{[], All, ap, subst, ◌∙◌}
+use Rattle.foreign_parts.specs.declared.boxes.Kind.TheVariants as kind
+use Rattle.graph_checks.specs.Numbering.{draws_behind}
+use Rattle.graph_checks.specs.Plans.{IsKitOf}
+use Rattle.graph_checks.proofs.compiling.prepare.Goals as goal
+
+pub returns : goal.returns
+returns g c = record {
+  graph = c.in_ok-graph.ensures;
+  draws = c.in_ok-draws.ensures ∙ ap (λ ws. draws_behind [] ws (g.B.Boxes.stand c.args.rack.now kind.Output).stocks) c.as_slice.ensures;
+  kits = subst (λ ds. All (IsKitOf ds c.args.config.now) c.in_ok-kits.kits.items) c.as_slice-2.ensures c.in_ok-kits.ensures.kits;
+  no_boxes = c.in_ok-kits.ensures.boxes;
+  workers_are = c.in_ok-kits.ensures.count;
+  filters_wanted = c.in_ok-room.ensures.filters;
+  outputs_wanted = c.in_ok-room.ensures.outputs;
+}

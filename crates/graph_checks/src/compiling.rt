@@ -1,0 +1,103 @@
+ghost use Rattle.std.specs.Prelude.{IfOk, IfErr};
+ghost use Rattle.foreign_parts.specs.declared.boxes.Kind.TheVariants as kind;
+ghost use Rattle.graph_checks.specs.Answers.{Passes};
+ghost use Rattle.graph_checks.specs.Boxes.{Keeps};
+ghost use Rattle.graph_checks.specs.Drawings.{AllDrawn};
+ghost use Rattle.graph_checks.specs.Drawns.{boxes_of};
+ghost use Rattle.graph_checks.specs.Plans.{IsPlanOf, boxes_of_kits};
+ghost use Rattle.graph_checks.specs.Readings.{IsRead};
+ghost use Rattle.graph_checks.specs.Ready.{IsReadyFor};
+ghost use Rattle.graph_checks.specs.Wants.{AreLeft, names_of};
+ghost use Rattle.graph_checks.specs.Whole.{checked};
+
+use crate::checking::find_wants;
+use crate::drawing::{BoxRoom, draw_into, reserve_boxes};
+use crate::drawn::{Drawn, DrawnBoxes};
+use crate::draws::find_draws;
+use crate::fault::GraphFault;
+use crate::filling::hand_out;
+use crate::making::make_kits;
+use crate::plan::Plan;
+use crate::want::Wants;
+use config_tree::Config;
+use foreign_parts::Stockroom;
+use plain_data::{Items, Text};
+use plugin_graph::{Graph, Kit};
+use std::alloc::{AllocError, Global};
+
+/// Makes a configuration ready to be run by so many workers, each of which has a kit of its own, with
+/// boxes from the rack. The refusal is the first fault that `check` finds. `Memory` comes where memory
+/// runs out, also in the place of another answer. All memory is taken before the first box is drawn, so a
+/// refusal leaves the rack as it was.
+///
+/// A filter that is a box has one for each worker. They are drawn in the order of the text, of each
+/// filter those of all workers, and behind the filters the outputs.
+pub fn compile<B: Stockroom>(
+    alloc: Global,
+    config: Config,
+    rack: &mut B,
+    workers: u32,
+) -> Result<Plan<B::Filter, B::Output>, GraphFault>
+    ensures fault { Passes result (checked
+        (record { stand = B.stand rack.old; links = B.links rack.old; workers = workers })
+        config) }
+    ensures keeps { IfErr result (λ _. Keeps B.stand B.links rack.old rack.new) }
+    ensures plan { IfOk result (IsPlanOf B.output_number config workers) }
+    ensures drawn { IfOk result (λ plan. AllDrawn (B.given rack.new)
+        (boxes_of B.filter_number (boxes_of_kits plan.kits.items))
+        (boxes_of B.output_number plan.outputs.items)
+        (B.stand rack.old kind.Filter).stocks (B.stand rack.old kind.Output).stocks
+        (B.stand rack.new kind.Filter).stocks (B.stand rack.new kind.Output).stocks) }
+{
+    let wants = find_wants(alloc, &config, rack, workers)?;
+    let ready = prepare(alloc, &config, rack, wants, workers)?;
+    let Ready {
+        graph,
+        mut kits,
+        draws,
+        room,
+    } = ready;
+    let DrawnBoxes { filters, outputs } = draw_into(room, rack);
+    hand_out(&mut kits, filters);
+    Ok(Plan {
+        config,
+        graph,
+        kits,
+        outputs,
+        draws,
+    })
+}
+
+/// All of a plan but for its boxes, and room for these.
+#[derive(Drop)]
+pub(crate) struct Ready<F, O> {
+    pub graph: Graph,
+    pub kits: Vec<Kit<Drawn<F>>>,
+    pub draws: Items<(Text, u64)>,
+    pub room: BoxRoom<F, O>,
+}
+
+// Takes all memory that a plan takes. No box is drawn.
+fn prepare<B: Stockroom>(
+    alloc: Global,
+    config: &Config,
+    rack: &B,
+    wants: Wants,
+    workers: u32,
+) -> Result<Ready<B::Filter, B::Output>, AllocError>
+    requires read { IsRead config.now }
+    requires left { AreLeft (names_of wants.outputs) (B.stand rack.now kind.Output).stocks }
+    ensures { IfOk result (IsReadyFor config.now workers
+        (B.stand rack.now kind.Output).stocks wants) }
+{
+    let draws = find_draws(alloc, rack, wants.outputs.as_slice())?;
+    let graph = Graph::new(alloc, config)?;
+    let kits = make_kits(alloc, config, draws.as_slice(), workers)?;
+    let room = reserve_boxes(alloc, wants, workers)?;
+    Ok(Ready {
+        graph,
+        kits,
+        draws,
+        room,
+    })
+}
