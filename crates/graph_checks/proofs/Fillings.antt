@@ -1,10 +1,9 @@
 -- Kits that are given boxes, one after another.
 use Rattle.std.specs.Prelude.{if◌then◌else◌, nat_lt}
 use Rattle.std.proofs.lemmas.Bool.{false≢true, ltb-true, ltb-false}
-use Rattle.std.proofs.lemmas.List.{length-append, length-map, length-take-le, take_all, drop_more, map-append}
-use Rattle.std.proofs.lemmas.Option.{none-some, slice_get-map, slice_get_past}
+use Rattle.std.proofs.lemmas.List.{length-append, length-map, take_all, map-append}
+use Rattle.std.proofs.lemmas.Option.{slice_get-map, slice_get_past}
 use Rattle.std.proofs.Math.ListN.{get_or-map}
-use Rattle.std.proofs.Math.Seq.{set-append_seam}
 use Rattle.std.proofs.Common.{◌≡◌, ◌<◌, ◌≤◌, ℕ, zero, suc, ◌+◌, ◌-◌, List, [], ◌∷◌, ◌++◌, length, map, take, drop, get_or, refl, sym, ap, ap₂, subst, ◌∙◌, arith, append_assoc, append-nil, All, Bool, true, false, Option, Some, None, IsSome, option_map, option_to_list, slice_get, slice_set}
 use Rattle.event_tree.specs.Paths.{over}
 use Rattle.event_text.proofs.ItemPlaces.{get_set}
@@ -15,6 +14,7 @@ use Rattle.plugin_graph.specs.declared.filter.Filter.{Filter}
 use Rattle.plugin_graph.specs.declared.filter.Filter.TheVariants as f
 use Rattle.plugin_graph.specs.declared.kit.Kit.{Kit}
 use Rattle.graph_checks.specs.Filling.{StandsFrom, one_if, wanted, wanted_at}
+use Rattle.graph_checks.proofs.Tails.{changed, drop_end, dropped, is_old, taken}
 use Rattle.graph_checks.specs.Plans.{HasItsBoxes, HasNoBox, IsIts, boxes_of_kits, column, columns, held, most, rows, width}
 
 pub get_other : {X : Type 0} (xs : List X) (i j : ℕ) (y : X) → (i ≡ j → ⊥) → slice_get (slice_set xs i y) j ≡ slice_get xs j
@@ -113,10 +113,6 @@ all_cons : {A : Type 0} (P : A → Type 0) (x : A) (xs : List A) → P x → All
 all_cons P x xs first others zero d less = first
 all_cons P x xs first others (suc k) d less = others k d (omega (arith, less))
 
-drop_end : {A : Type 0} (xs : List A) → drop (length xs) xs ≡ []
-drop_end [] = refl
-drop_end (x ∷ xs) = drop_end xs
-
 wanted_behind : (k : ℕ) (cs : List Contents) (c : Contents) → wanted_at k (cs ++ c ∷ []) ≡ wanted_at k cs + one_if (over is_boxed false (slice_get c.filters k))
 wanted_behind k [] c = omega arith
 wanted_behind k (d ∷ cs) c = omega (arith, wanted_behind k cs c)
@@ -128,15 +124,6 @@ column_count at (kit ∷ kits) all =
     let s = all 0 kit (omega arith) in
     length-append (held (slice_get (boxes_in kit) at)) (column at (rows kits))
     ∙ ap₂ (λ a b. a + b) (held_count (slice_get (contents_of kit).filters at) (slice_get (boxes_in kit) at) (s.behind at (omega arith))) (column_count at kits (λ k d less. all (suc k) d (omega (arith, less))))
-
-at_seam : {A : Type 0} (xs ys : List A) (y d : A) → get_or (xs ++ y ∷ ys) (length xs) d ≡ y
-at_seam [] ys y d = refl
-at_seam (x ∷ xs) ys y d = at_seam xs ys y d
-
-take_one : {A : Type 0} (xs : List A) (n : ℕ) (d : A) → n < length xs → take (suc n) xs ≡ take n xs ++ get_or xs n d ∷ []
-take_one [] n d less = absurd (omega (arith, less))
-take_one (x ∷ xs) zero d less = refl
-take_one (x ∷ xs) (suc n) d less = ap (λ ys. x ∷ ys) (take_one xs n d (omega (arith, less)))
 
 module _ {X : Type 0} (at : ℕ) (old : List (Kit X)) (boxes : List X) where
   -- boxes were handed out to the kits from this one on
@@ -165,20 +152,8 @@ module _ {X : Type 0} (at : ℕ) (old : List (Kit X)) (boxes : List X) where
   }
 
   module _ (n : ℕ) (now : List (Kit X)) (left : List X) (s : SoFar (suc n) now left) (x : Kit X) (found : x ≡ get_or now n x) where
-    abbrev z : Kit X
-    z = get_or old n x
-
-    front : now ≡ take n old ++ z ∷ s.tail
-    front = s.is ∙ ap (λ ks. ks ++ s.tail) (take_one old n x s.within) ∙ append_assoc (take n old) (z ∷ []) s.tail
-
-    size : length (take n old) ≡ n
-    size = let w = s.within in length-take-le n old (omega (arith, w))
-
-    pub x_is : x ≡ z
-    x_is = found ∙ ap (λ ks. get_or ks n x) front ∙ ap (λ i. get_or (take n old ++ z ∷ s.tail) i x) (sym size) ∙ at_seam (take n old) s.tail z x
-
     pub x_stands : All (StandsFrom (at + 1)) old → StandsFrom (at + 1) x
-    x_stands all = subst (StandsFrom (at + 1)) (sym x_is) (all n x s.within)
+    x_stands all = subst (StandsFrom (at + 1)) (sym (is_old old now s.tail n s.is s.within x found)) (all n x s.within)
 
     abbrev wanted_of : ℕ
     wanted_of = one_if (over is_boxed false (slice_get (contents_of x).filters at))
@@ -186,8 +161,7 @@ module _ {X : Type 0} (at : ℕ) (old : List (Kit X)) (boxes : List X) where
     both : wanted_at at (map contents_of (take n old)) + wanted_of ≤ length left
     both =
         let e : wanted_at at (map contents_of (take (suc n) old)) ≡ wanted_at at (map contents_of (take n old)) + wanted_of =
-        ap (λ ks. wanted_at at (map contents_of ks)) (take_one old n x s.within) ∙ ap (wanted_at at) (map-append contents_of (take n old) (z ∷ [])) ∙ wanted_behind at (map contents_of (take n old)) (contents_of z)
-        ∙ ap (λ y. wanted_at at (map contents_of (take n old)) + one_if (over is_boxed false (slice_get (contents_of y).filters at))) (sym x_is) in
+        ap (λ ks. wanted_at at (map contents_of ks)) (taken old now s.tail n s.is s.within x found) ∙ ap (wanted_at at) (map-append contents_of (take n old) (x ∷ [])) ∙ wanted_behind at (map contents_of (take n old)) (contents_of x) in
         subst (λ m. m ≤ length left) e s.enough
 
     pub x_enough : wanted_of ≤ length left
@@ -195,26 +169,21 @@ module _ {X : Type 0} (at : ℕ) (old : List (Kit X)) (boxes : List X) where
 
     module _ (y : Kit X) (rest : List X) (stands : StandsFrom at y) (gave : rest ++ held (slice_get (boxes_in y) at) ≡ left) (others : (k : ℕ) → at < k → slice_get (boxes_in y) k ≡ slice_get (boxes_in x) k)
         (same : contents_of y ≡ contents_of x) (read : built_in y ≡ built_in x) where
-      dropped : drop n old ≡ x ∷ drop (suc n) old
-      dropped = drop_more old n x s.within ∙ ap (λ k. k ∷ drop (n + 1) old) (sym x_is) ∙ ap (λ m. x ∷ drop m old) more
-        where
-          more : n + 1 ≡ suc n
-          more = omega arith
-
       pub so_far_next : SoFar n (slice_set now n y) rest
       so_far_next =
           let w = s.within in
+          let next = dropped old now s.tail n s.is s.within x found in
           let count : length (held (slice_get (boxes_in y) at)) ≡ wanted_of = held_count (slice_get (contents_of y).filters at) (slice_get (boxes_in y) at) (stands.behind at (omega arith)) ∙ ap (λ c. one_if (over is_boxed false (slice_get c.filters at))) same in
           let sum = sym (length-append rest (held (slice_get (boxes_in y) at))) ∙ ap length gave in
           record {
             tail = y ∷ s.tail;
-            is = ap (λ ks. slice_set ks n y) front ∙ ap (λ i. slice_set (take n old ++ z ∷ s.tail) i y) (sym size) ∙ set-append_seam (take n old) z s.tail y;
+            is = changed old now s.tail n s.is s.within x found y;
             within = omega (arith, w);
             stand = all_cons (StandsFrom at) y s.tail stands s.stand;
             boxes_are = sym (append_assoc rest (held (slice_get (boxes_in y) at)) (column at (rows s.tail))) ∙ ap (λ bs. bs ++ column at (rows s.tail)) gave ∙ s.boxes_are;
-            behind = λ k less. ap₂ (λ b bs. held b ++ bs) (others k less) (s.behind k less) ∙ ap (λ ks. column k (rows ks)) (sym dropped);
-            contents = ap₂ (λ c cs. c ∷ cs) same s.contents ∙ ap (map contents_of) (sym dropped);
-            built = ap₂ (λ b bs. b ∷ bs) read s.built ∙ ap (map built_in) (sym dropped);
+            behind = λ k less. ap₂ (λ b bs. held b ++ bs) (others k less) (s.behind k less) ∙ ap (λ ks. column k (rows ks)) (sym next);
+            contents = ap₂ (λ c cs. c ∷ cs) same s.contents ∙ ap (map contents_of) (sym next);
+            built = ap₂ (λ b bs. b ∷ bs) read s.built ∙ ap (map built_in) (sym next);
             enough = omega (arith, both, count, sum);
           }
 

@@ -18,3 +18,5 @@ pub mod Numbers
 pub mod Loadings
 pub mod Fillings
 pub mod Planning
+pub mod Tails
+pub mod Returnings

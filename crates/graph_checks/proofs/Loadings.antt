@@ -1,5 +1,5 @@
 -- A configuration that passed its checks is loaded into a kit.
-use Rattle.std.proofs.Common.{◌≡◌, ℕ, List, [], ◌∷◌, ◌++◌, sym, ap, subst, ◌∙◌, Ok, Err}
+use Rattle.std.proofs.Common.{◌≡◌, List, [], ◌∷◌, ◌++◌, sym, ap, subst, ◌∙◌, Ok, Err}
 use Rattle.config_tree.specs.declared.tree.Config.{Config}
 use Rattle.config_tree.specs.declared.fault.SettingFault.{SettingFault}
 use Rattle.event_flow.specs.Parts.{parts_of}
@@ -8,7 +8,6 @@ use Rattle.filter_settings.specs.Settings.{Made, next, with_made}
 use Rattle.plugin_graph.specs.Conditions.{compiled}
 use Rattle.plugin_graph.specs.Each.{each_made}
 use Rattle.plugin_graph.specs.Loads.{Contents, contents, conditions_of, loaded}
-use Rattle.plugin_graph.specs.Makes.{filter_of}
 use Rattle.plugin_graph.specs.Numbering.{outputs_of}
 use Rattle.plugin_graph.specs.declared.condition.NamedCondition.{NamedCondition}
 use Rattle.plugin_graph.specs.declared.filter.Filter.{Filter}

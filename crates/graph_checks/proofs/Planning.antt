@@ -1,10 +1,10 @@
 -- What a plan has, by what it was made of.
-use Rattle.std.specs.Prelude.{if◌then◌else◌, nat_lt, flat_map}
+use Rattle.std.specs.Prelude.{if◌then◌else◌, nat_lt}
 use Rattle.std.proofs.lemmas.Bool.{ltb-false}
 use Rattle.std.proofs.lemmas.List.{length-append, length-map, length-replicate}
 use Rattle.std.proofs.Math.ListN.{get_or-map}
 use Rattle.std.proofs.Math.Nat.{mul_comm}
-use Rattle.std.proofs.Common.{◌≡◌, ◌<◌, ℕ, zero, suc, ◌+◌, ◌*◌, List, [], ◌∷◌, ◌++◌, length, map, replicate, get_or, refl, sym, ap, ap₂, subst, ◌∙◌, arith, All, Bool, true, false, codes, Option, Some, None, option_map, slice_get, Ok, Err}
+use Rattle.std.proofs.Common.{◌≡◌, ◌<◌, ℕ, zero, suc, ◌+◌, ◌*◌, List, [], ◌∷◌, length, map, replicate, get_or, refl, sym, ap, ap₂, subst, ◌∙◌, arith, All, Bool, true, false, Option, Some, None, option_map, slice_get, Ok, Err}
 use Rattle.event_tree.specs.Paths.{over}
 use Rattle.config_tree.specs.declared.tree.Config.{Config}
 use Rattle.config_tree.specs.declared.tree.Plugin.{Plugin}

@@ -14,7 +14,6 @@ use Rattle.plugin_graph.specs.declared.filter.Filter.{Filter}
 use Rattle.plugin_graph.specs.declared.filter.Filter.TheVariants as f
 use Rattle.plugin_graph.specs.declared.kit.Kit.{Kit}
 use Rattle.graph_checks.specs.Wants.{so_often, wants_of}
-use Rattle.graph_checks.specs.declared.drawn.Drawn.{Drawn}
 use Rattle.graph_checks.specs.declared.plan.Plan.{Plan}
 
 -- a kit is that of a configuration, with the numbers that were drawn for its boxed outputs

@@ -34,5 +34,5 @@ pub use drawn::{Drawn, DrawnBoxes};
 pub use fault::GraphFault;
 pub use foreign_parts::{Boxes, Kind, Stockroom};
 pub use plan::Plan;
-pub use returning::give_back_boxes;
+pub use returning::{give_back, give_back_boxes};
 pub use want::Want;

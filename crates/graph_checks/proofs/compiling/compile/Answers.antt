@@ -1,5 +1,5 @@
 use Rattle.std.proofs.lemmas.List.{length-map}
-use Rattle.std.proofs.Common.{◌≡◌, [], length, map, refl, sym, ap, subst, ◌∙◌, Ok}
+use Rattle.std.proofs.Common.{[], length, map, refl, sym, ap, subst, ◌∙◌}
 use Rattle.foreign_parts.specs.declared.boxes.Kind.TheVariants as kind
 use Rattle.foreign_parts.specs.Stocks.{IsOut}
 use Rattle.plugin_graph.specs.Graphs.{contents_of}
@@ -7,7 +7,7 @@ use Rattle.graph_checks.specs.Drawings.{AllDrawn}
 use Rattle.graph_checks.specs.Drawns.{boxes_of}
 use Rattle.graph_checks.specs.Numbering.{draws_behind}
 use Rattle.graph_checks.specs.Wants.{AreLeft, names_of, so_often}
-use Rattle.graph_checks.specs.Whole.{Given, checked}
+use Rattle.graph_checks.specs.Whole.{Given}
 use Rattle.graph_checks.proofs.Configured.{checked_reads}
 use Rattle.graph_checks.proofs.Numbers.{drawn_as, nothing_drawn}
 use Rattle.graph_checks.proofs.Planning.{enough, still_kits}

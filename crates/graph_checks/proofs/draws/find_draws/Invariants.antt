@@ -1,4 +1,4 @@
-use Rattle.std.proofs.Common.{◌≡◌, ℕ, List, [], ◌++◌, drop}
+use Rattle.std.proofs.Common.{◌≡◌, [], ◌++◌, drop}
 use Rattle.foreign_parts.specs.declared.boxes.Kind.TheVariants as kind
 use Rattle.graph_checks.specs.Numbering.{draws_behind}
 use Rattle.graph_checks.proofs.Numbers.{Suffice}

@@ -1,4 +1,4 @@
-use Rattle.std.proofs.Common.{◌≡◌, ◌<◌, ap, sym, ◌∙◌, subst, rules, arith, slice_get, slice_set, true, false, Option, Some, length}
+use Rattle.std.proofs.Common.{◌≡◌, ap, sym, ◌∙◌, arith, slice_get, slice_set, true, false}
 use Rattle.event_tree.specs.Paths.{over}
 use Rattle.plugin_graph.specs.Graphs.{boxes_in, contents_of}
 use Rattle.plugin_graph.specs.Kits.{is_boxed}

@@ -1,4 +1,3 @@
-use Rattle.std.proofs.Common.{◌≡◌}
 use Rattle.graph_checks.proofs.Fillings.{SoFar}
 use Rattle.graph_checks.proofs.filling.fill_column.Given as goal
 

@@ -1,0 +1,15 @@
+use Rattle.std.proofs.Common.{◌≡◌}
+use Rattle.foreign_parts.specs.declared.boxes.Kind.TheVariants as kind
+use Rattle.foreign_parts.specs.Stocks.{IsOut}
+use Rattle.graph_checks.proofs.Returnings.{WentBack}
+use Rattle.graph_checks.proofs.returning.give_back_column.Given as goal
+
+abbrev pub invariant-loop-next : goal.invariant-loop-next
+invariant-loop-next g l = record {
+  went : WentBack g.B.Stockroom.filter_number (λ ss n. IsOut (g.B.Stockroom.given l.fn.rack) ss (g.B.Boxes.stand l.fn.rack kind.Output).stocks n) l.at l.fn.kits.items (g.B.Boxes.stand l.fn.rack kind.Filter).stocks l.next l.kits.items (g.B.Boxes.stand l.rack kind.Filter).stocks;
+  others : (g.B.Boxes.stand l.rack kind.Output).stocks ≡ (g.B.Boxes.stand l.fn.rack kind.Output).stocks;
+  given : g.B.Stockroom.given l.rack ≡ g.B.Stockroom.given l.fn.rack;
+}
+
+abbrev pub decreases-loop-next : goal.decreases-loop-next
+decreases-loop-next g l = l.next
