@@ -154,6 +154,18 @@ TABLES = {
         ("none: input { tcp { codec => nope } } output { sink { } }", "input_1: the setting codec has a value of another kind"),
         ("none: input { tcp { codec => nope { x => 1 } port => 1 } } output { sink { } }", "input_1: the setting codec has a value of another kind"),
     ],
+    "plans": [
+        ("filter tagger: input { stdin { } } filter { tagger { } } output { stdout { } }", "of tagger 2 are wanted, and 1 are left; 1 left"),
+        ("none: input { stdin { } } filter { nope { } } output { stdout { } }", "there is no plugin nope; 0 left"),
+        ("filter tagger: input { stdin { } } filter { grok { match => { \"message\" => \"(\" } } } output { stdout { } }", "filter_1: the setting match has a bad pattern; 1 left"),
+        ("filter tagger, filter tagger: input { stdin { } } filter { tagger { } } output { stdout { } }", "2 left; 1 sent, 1 asked; 1 sent, 1 asked"),
+        ("filter tagger, filter tagger, filter tagger: input { stdin { } } filter { tagger { } } output { sink { } }", "3 left; 1 sent, 1 asked; 1 sent, 1 asked"),
+        ("filter tagger, filter tagger, filter tagger, filter tagger: input { stdin { } } filter { tagger { } tagger { } } output { sink { } stdout { } }", "4 left; 2 sent, 2 asked; 2 sent, 2 asked"),
+        ("filter tagger, filter tagger, output tagger, output tagger: input { stdin { } } filter { if [message] == \"a\" { tagger { } } else { drop { } } } output { tagger { } tagger { } }", "4 left; 2 sent, 1 asked; 2 sent, 1 asked"),
+        ("filter tagger, filter tagger, filter tagger and 3: input { stdin { } } filter { if [message] == \"b\" { tagger { } } } output { sink { } }", "3 left; 1 sent, 0 asked; 1 sent, 0 asked; 1 sent, 0 asked"),
+        ("filter tagger and 1: input { stdin { } } filter { mutate { add_field => { \"x\" => \"1\" } } tagger { } drop { } } output { sink { } }", "1 left; 0 sent, 1 asked"),
+        ("filter tagger and 0: input { stdin { } } filter { tagger { } } output { sink { } }", "1 left"),
+    ],
 }
 
 if __name__ == "__main__":

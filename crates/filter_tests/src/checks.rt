@@ -38,7 +38,7 @@ fn add_checked(to: &mut String, given: &str, config: &Config) -> Result<(), Allo
 }
 
 /// What a box is, its name, and the setting that it refuses.
-fn words_of(one: &str) -> (&str, &str, &str) {
+pub fn words_of(one: &str) -> (&str, &str, &str) {
     let (kind, rest) = one.split_once(' ').unwrap_or((one, ""));
     let (name, refuses) = rest.split_once(' ').unwrap_or((rest, ""));
     (kind, name, refuses)

@@ -10,6 +10,8 @@
 //! - `BOXES: CONFIGURATION` or `BOXES and WORKERS: CONFIGURATION`, in the tables of `CHECKS`. The boxes that are handed
 //!   in are written `filter NAME REFUSES` or `output NAME REFUSES`, with commas between them, or as `none`: a box
 //!   refuses the setting of the one name, if one is written. There are two workers where no number stands.
+//! - The same in the table `plans`, where the configuration is compiled to a plan, which is given back, and then compiled
+//!   again and run.
 //!
 //! The answers in `stdout` were worked out by hand from the tables of the plugins and of faults: whether the filter
 //! matched, and the events that stand in the event's place. Those of `json`, `csv` and `kv` were made with Python's
@@ -22,6 +24,7 @@
 mod boxes;
 mod checks;
 mod events;
+mod plans;
 mod racks;
 mod rows;
 mod timing;
@@ -65,6 +68,14 @@ const FILTERS: [&str; 29] = [
 /// Tables of configurations.
 const CHECKS: [&str; 5] = ["worked_checks", "inputs", "statements", "boxes", "orders"];
 
+/// What the rows of a table are.
+#[derive(Clone, Copy)]
+enum Table {
+    Filters,
+    Checks,
+    Plans,
+}
+
 fn main(rt: HostRuntime) -> io::Result<()> {
     let words: Vec<String> = env::args(&rt)?.skip(1).collect(rt.alloc())?;
     if words.is_empty() {
@@ -85,31 +96,32 @@ fn print_timed(rt: &HostRuntime, words: &[String]) -> io::Result<()> {
 
 fn print_tables(rt: &HostRuntime) -> io::Result<()> {
     for name in &FILTERS {
-        print_table(rt, name, false)?;
+        print_table(rt, name, Table::Filters)?;
     }
     for name in &CHECKS {
-        print_table(rt, name, true)?;
+        print_table(rt, name, Table::Checks)?;
     }
+    print_table(rt, "plans", Table::Plans)?;
     let answer = racks::answer(rt.alloc())?;
     println!(rt; "# rack\n{answer}")
 }
 
-fn print_table(rt: &HostRuntime, name: &str, is_checked: bool) -> io::Result<()> {
+fn print_table(rt: &HostRuntime, name: &str, of: Table) -> io::Result<()> {
     let table = fs::read_to_string(rt, name)?;
     println!(rt; "# {name}")?;
     for row in table.lines() {
-        let answer = answer(rt.alloc(), row, is_checked)?;
+        let answer = answer(rt.alloc(), row, of)?;
         println!(rt; "{answer}")?;
     }
     Ok(())
 }
 
-fn answer(alloc: Global, row: &str, is_checked: bool) -> Result<String, AllocError> {
+fn answer(alloc: Global, row: &str, of: Table) -> Result<String, AllocError> {
     let mut answer = String::new(alloc);
-    if is_checked {
-        checks::add_answer(&mut answer, row)?;
-    } else {
-        rows::add_answer(&mut answer, row)?;
+    match of {
+        Table::Filters => rows::add_answer(&mut answer, row)?,
+        Table::Checks => checks::add_answer(&mut answer, row)?,
+        Table::Plans => plans::add_answer(&mut answer, row)?,
     }
     Ok(answer)
 }
