@@ -7,7 +7,6 @@ pub mod Sparing
 pub mod Passing
 pub mod Configured
 pub mod Counting
-pub mod Matching
 pub mod Telling
 pub mod Refusing
 pub mod Handing

@@ -1,20 +1,17 @@
 -- The checks of the filters and of the outputs, in the order of the text.
 use Rattle.std.specs.Prelude.{◌≡◌, ℕ, ◌+◌, List, [], ◌∷◌, ◌++◌, length, nat_lt, Bool, if◌then◌else◌, bytes_eq, codes, Option, Some, None, Ok, Err}
-use Rattle.std.specs.List.{list_any, list_all}
+use Rattle.std.specs.List.{list_any}
 use Rattle.config_tree.specs.declared.tree.Plugin.{Plugin}
 use Rattle.config_tree.specs.declared.tree.Condition.{Condition}
 use Rattle.config_tree.specs.declared.tree.Statement.{Statement}
 use Rattle.config_tree.specs.declared.fault.FromFault.{FromFault}
 use Rattle.config_tree.specs.declared.fault.FromFault.TheVariants as from
-use Rattle.config_tree.specs.declared.fault.SettingFault.TheVariants as setting
-use Rattle.condition_eval.specs.Made.{texts}
-use Rattle.pattern_box.specs.Patterns.{is_pattern}
 use Rattle.position_file.specs.Names.{position_name}
 use Rattle.position_file.specs.declared.name.PositionOf.{PositionOf}
 use Rattle.position_file.specs.declared.name.PositionOf.TheVariants as position
-use Rattle.filter_settings.specs.Settings.{Made}
 use Rattle.foreign_parts.specs.Stocks.{is_known}
 use Rattle.event_flow.specs.Ids as ids
+pub use Rattle.plugin_graph.specs.Conditions.{patterns_read}
 use Rattle.graph_checks.specs.Answers.{Checked, next, of_plugin, all_checked}
 use Rattle.graph_checks.specs.Boxes.{Stand, count_of, one_more, box_read}
 use Rattle.graph_checks.specs.BuiltIn.{built_in}
@@ -94,10 +91,6 @@ plugin_read which stand id p w (Some b) = plugin_met id b.path w
 
 unfoldable pub plugin_checked : Kind → Stand → Plugin → Walk → Checked Walk
 plugin_checked which stand p w = next (plugin_read which stand (id_next which w p) p w) (of_plugin (id_next which w p) (built_in which p.name p.settings.list))
-
--- each pattern of a condition has to be one
-abbrev pub patterns_read : Condition → Made (Unit {0})
-patterns_read c = if list_all is_pattern (texts c) then Ok tt else Err (setting.BadPattern (codes "condition"))
 
 -- one condition, and the one in front of the block of an arm, where it has one
 abbrev pub condition_checked : Kind → Condition → Walk → Checked Walk

@@ -2,10 +2,15 @@
 use Rattle.std.specs.Prelude.{ℕ, length, Bool, if◌then◌else◌, codes, Ok, Err}
 use Rattle.std.specs.List.{list_all}
 use Rattle.config_tree.specs.declared.fault.SettingFault.TheVariants as fault
+use Rattle.config_tree.specs.declared.tree.Condition.{Condition}
 use Rattle.condition_eval.specs.Made.{texts}
 use Rattle.pattern_box.specs.Patterns.{is_pattern}
 use Rattle.filter_settings.specs.Settings.{Made}
 use Rattle.plugin_graph.specs.declared.condition.NamedCondition.{NamedCondition}
+
+-- each pattern of a condition has to be one
+abbrev pub patterns_read : Condition → Made (Unit {0})
+patterns_read c = if list_all is_pattern (texts c) then Ok tt else Err (fault.BadPattern (codes "condition"))
 
 abbrev pub has_patterns : NamedCondition → Bool
 has_patterns c = list_all is_pattern (texts c.condition)

@@ -1,6 +1,7 @@
-ghost use Rattle.std.specs.Prelude.{◌≡◌, IfOk};
+ghost use Rattle.std.specs.Prelude.{◌≡◌, IfOk, IfErr, Ok};
+ghost use Rattle.condition_eval.specs.Made.{AreMadeOf};
 ghost use Rattle.condition_eval.specs.Truths.{truth};
-ghost use Rattle.filter_settings.specs.Settings.{Gives};
+ghost use Rattle.filter_settings.specs.Settings.{Gives, Refuses};
 ghost use Rattle.plugin_graph.specs.Conditions as spec;
 
 use condition_eval::{Truth, eval, patterns_of};
@@ -11,6 +12,19 @@ use pattern_box::{PatternFault, Patterns};
 use plain_data::Text;
 use std::alloc::{AllocError, Global};
 use std::marker::Model;
+
+/// The patterns of a condition. A text that is no pattern is `BadPattern` of `condition`.
+pub fn read_patterns(alloc: Global, condition: &Condition) -> Result<Patterns, FromFault>
+    ensures made { IfOk result (AreMadeOf condition.now) }
+    ensures read { IfOk result (λ _. spec.patterns_read condition.now ≡ Ok tt) }
+    ensures refused { IfErr result (λ fault. Refuses fault (spec.patterns_read condition.now)) }
+{
+    match patterns_of(alloc, condition) {
+        Ok(patterns) => Ok(patterns),
+        Err(PatternFault::BadPattern) => Err(bad_pattern(alloc, "condition")),
+        Err(PatternFault::Memory) => Err(FromFault::Memory),
+    }
+}
 
 /// A condition with its id.
 pub struct NamedCondition {
@@ -64,10 +78,9 @@ impl CompiledCondition {
     pub fn new(alloc: Global, says: NamedCondition) -> Result<CompiledCondition, FromFault>
         ensures { Gives result (spec.compiled says) }
     {
-        match patterns_of(alloc, &says.condition) {
+        match read_patterns(alloc, &says.condition) {
             Ok(patterns) => Ok(CompiledCondition { says, patterns }),
-            Err(PatternFault::BadPattern) => Err(bad_pattern(alloc, "condition")),
-            Err(PatternFault::Memory) => Err(FromFault::Memory),
+            Err(fault) => Err(fault),
         }
     }
 

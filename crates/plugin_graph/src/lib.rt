@@ -24,7 +24,7 @@ mod places;
 
 pub use boxed::BoxedFilter;
 pub use built::BuiltFilter;
-pub use condition::{CompiledCondition, NamedCondition};
+pub use condition::{CompiledCondition, NamedCondition, read_patterns};
 pub use filter::Filter;
 pub use flat::Flat;
 pub use graph::{Graph, run};
