@@ -1,24 +1,33 @@
-//! First faults of configurations, with boxes that are handed in.
+//! First faults of configurations, and plans of them, with boxes that are handed in.
 
 use crate::boxes::refusing;
+use crate::plans::add_run;
 use config_parse::parse;
 use config_tree::Config;
 use foreign_parts::Rack;
-use graph_checks::check;
+use graph_checks::{check, compile, give_back};
 use std::alloc::AllocError;
 
 /// Adds the answer of a row: `BOXES and WORKERS: CONFIGURATION`. The boxes are written `filter NAME REFUSES` or
 /// `output NAME REFUSES`, with commas between them.
-pub fn add_answer(to: &mut String, row: &str) -> Result<(), AllocError> {
+pub fn add_answer(to: &mut String, row: &str, is_compiled: bool) -> Result<(), AllocError> {
     let (given, text) = row.split_once(": ").unwrap_or(("", row));
     match parse(*to.allocator(), text) {
-        Ok(config) => add_checked(to, given, &config),
+        Ok(config) => add_checked(to, given, &config, is_compiled),
         Err(_) => to.push_str("no configuration"),
     }
 }
 
+/// Adds the first fault. Where the configuration is to be compiled, it adds too how many boxes named `tagger` are left
+/// behind a refusal, or once the plan was given back, and what comes of an event in each kit of a plan that is made then.
+///
 /// The rack is made where it is used: what hands on boxes that it makes itself has no contract that says something.
-fn add_checked(to: &mut String, given: &str, config: &Config) -> Result<(), AllocError> {
+fn add_checked(
+    to: &mut String,
+    given: &str,
+    config: &Config,
+    is_compiled: bool,
+) -> Result<(), AllocError> {
     let alloc = *to.allocator();
     let (boxes, workers) = given.split_once(" and ").unwrap_or((given, "2"));
     let mut rack = Rack::new(alloc);
@@ -31,14 +40,25 @@ fn add_checked(to: &mut String, given: &str, config: &Config) -> Result<(), Allo
         }
     }
     let workers = workers.parse::<u32>().unwrap_or(2);
-    match check(alloc, config, &mut rack, workers) {
-        Ok(()) => to.push_str("fine"),
-        Err(fault) => write!(to, "{fault}"),
+    if !is_compiled {
+        return match check(alloc, config, &mut rack, workers) {
+            Ok(()) => to.push_str("fine"),
+            Err(fault) => write!(to, "{fault}"),
+        };
+    }
+    match compile(alloc, config.copy()?, &mut rack, workers) {
+        Ok(plan) => give_back(plan, &mut rack),
+        Err(fault) => write!(to, "{fault}; ")?,
+    }
+    write!(to, "{} left", rack.left("tagger"))?;
+    match compile(alloc, config.copy()?, &mut rack, workers) {
+        Ok(plan) => add_run(to, plan),
+        Err(_) => Ok(()),
     }
 }
 
 /// What a box is, its name, and the setting that it refuses.
-pub fn words_of(one: &str) -> (&str, &str, &str) {
+fn words_of(one: &str) -> (&str, &str, &str) {
     let (kind, rest) = one.split_once(' ').unwrap_or((one, ""));
     let (name, refuses) = rest.split_once(' ').unwrap_or((rest, ""));
     (kind, name, refuses)

@@ -120,8 +120,8 @@ fn answer(alloc: Global, row: &str, of: Table) -> Result<String, AllocError> {
     let mut answer = String::new(alloc);
     match of {
         Table::Filters => rows::add_answer(&mut answer, row)?,
-        Table::Checks => checks::add_answer(&mut answer, row)?,
-        Table::Plans => plans::add_answer(&mut answer, row)?,
+        Table::Checks => checks::add_answer(&mut answer, row, false)?,
+        Table::Plans => checks::add_answer(&mut answer, row, true)?,
     }
     Ok(answer)
 }
