@@ -1,4 +1,5 @@
-ghost use Rattle.std.specs.Prelude.{◌≡◌, IfOk, string_bytes, [], ◌∷◌, codes};
+ghost use Rattle.std.specs.Prelude.{◌≡◌, IfOk, OnOk, [], ◌∷◌, ◌++◌, codes};
+ghost use Rattle.plain_data.specs.Members.{AllBelow};
 ghost use Rattle.event_tree.specs.declared.value.Value.TheVariants as v;
 ghost use Rattle.in_lines.specs.Events.{event_of};
 
@@ -16,27 +17,44 @@ pub fn line_event(alloc: Global, line: &str, moment: Instant) -> Result<Value, A
         (λ event. event ≡ event_of (record { line = line.now; moment = moment })) }
 {
     let mut fields = Fields::with_capacity(alloc, 4)?;
-    fields.push(Text::of(alloc, "@timestamp")?, Value::Time(moment))?;
-    fields.push(
-        Text::of(alloc, "@version")?,
-        Value::Text(Text::of(alloc, "1")?),
-    )?;
-    fields.push(Text::of(alloc, "event")?, original(alloc, line)?)?;
-    fields.push(
-        Text::of(alloc, "message")?,
-        Value::Text(Text::of(alloc, line)?),
-    )?;
+    add_member(alloc, &mut fields, "@timestamp", Value::Time(moment))?;
+    add_text(alloc, &mut fields, "@version", "1")?;
+    add_original(alloc, &mut fields, line)?;
+    add_text(alloc, &mut fields, "message", line)?;
     Ok(Value::Object(fields))
 }
 
 /// The object that keeps the line as it came.
-fn original(alloc: Global, line: &str) -> Result<Value, AllocError>
-    ensures { IfOk result (λ event. event ≡ v.Object ((codes "original", v.Text line.now) ∷ [])) }
+fn add_original(alloc: Global, fields: &mut Fields<Value>, line: &str) -> Result<(), AllocError>
+    requires { AllBelow fields.old (codes "event") }
+    ensures { OnOk result (fields.new ≡ fields.old
+        ++ (codes "event", v.Object ((codes "original", v.Text line.now) ∷ [])) ∷ []) }
 {
-    let mut fields = Fields::with_capacity(alloc, 1)?;
-    fields.push(
-        Text::of(alloc, "original")?,
-        Value::Text(Text::of(alloc, line)?),
-    )?;
-    Ok(Value::Object(fields))
+    let mut original = Fields::with_capacity(alloc, 1)?;
+    add_text(alloc, &mut original, "original", line)?;
+    add_member(alloc, fields, "event", Value::Object(original))
+}
+
+fn add_text(
+    alloc: Global,
+    fields: &mut Fields<Value>,
+    name: &str,
+    text: &str,
+) -> Result<(), AllocError>
+    requires { AllBelow fields.old name.now }
+    ensures { OnOk result (fields.new ≡ fields.old ++ (name.now, v.Text text.now) ∷ []) }
+{
+    add_member(alloc, fields, name, Value::Text(Text::of(alloc, text)?))
+}
+
+fn add_member(
+    alloc: Global,
+    fields: &mut Fields<Value>,
+    name: &str,
+    value: Value,
+) -> Result<(), AllocError>
+    requires { AllBelow fields.old name.now }
+    ensures { OnOk result (fields.new ≡ fields.old ++ (name.now, value) ∷ []) }
+{
+    fields.push(Text::of(alloc, name)?, value)
 }
