@@ -12,6 +12,8 @@
 //!   refuses the setting of the one name, if one is written. There are two workers where no number stands.
 //! - The same in the table `plans`, where the configuration is compiled to a plan, which is given back, and then compiled
 //!   again and run.
+//! - `CONFIGURATION on EVENT`, with any number of further events behind ` and `, in the table `passages`: what becomes of
+//!   these events, by the program `data/passages.py`.
 //!
 //! The answers in `stdout` were worked out by hand from the tables of the plugins and of faults: whether the filter
 //! matched, and the events that stand in the event's place. Those of `json`, `csv` and `kv` were made with Python's
@@ -24,6 +26,7 @@
 mod boxes;
 mod checks;
 mod events;
+mod passages;
 mod plans;
 mod racks;
 mod rows;
@@ -74,6 +77,7 @@ enum Table {
     Filters,
     Checks,
     Plans,
+    Passages,
 }
 
 fn main(rt: HostRuntime) -> io::Result<()> {
@@ -102,6 +106,7 @@ fn print_tables(rt: &HostRuntime) -> io::Result<()> {
         print_table(rt, name, Table::Checks)?;
     }
     print_table(rt, "plans", Table::Plans)?;
+    print_table(rt, "passages", Table::Passages)?;
     let answer = racks::answer(rt.alloc())?;
     println!(rt; "# rack\n{answer}")
 }
@@ -122,6 +127,7 @@ fn answer(alloc: Global, row: &str, of: Table) -> Result<String, AllocError> {
         Table::Filters => rows::add_answer(&mut answer, row)?,
         Table::Checks => checks::add_answer(&mut answer, row, false)?,
         Table::Plans => checks::add_answer(&mut answer, row, true)?,
+        Table::Passages => passages::add_answer(&mut answer, row)?,
     }
     Ok(answer)
 }
