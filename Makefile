@@ -32,6 +32,7 @@ bench: all
 	bash bench/conditions.sh
 	bash bench/filters.sh
 	bash bench/parsing.sh
+	bash bench/graphs.sh
 	bash bench/growth.sh
 	bash bench/store.sh
 	bash bench/page.sh

@@ -23,6 +23,7 @@
 //! With the words of `timing` it applies one filter many times over instead, to be timed from outside.
 #![tactic(auto)]
 
+mod batches;
 mod boxes;
 mod checks;
 mod events;
@@ -93,7 +94,7 @@ fn print_timed(rt: &HostRuntime, words: &[String]) -> io::Result<()> {
     match timing::run(rt, words) {
         Some(done) => println!(rt; "{done}"),
         None => println!(rt;
-            "the words are a filter, `copies` or `calls`, a file that can be read, and rounds"
+            "the words are a filter, a condition, a configuration, `copies` or `calls`, a file, and rounds"
         ),
     }
 }

@@ -92,7 +92,7 @@ fn add_told(to: &mut String, event: &Event) -> Result<(), AllocError> {
 
 /// No filter of these configurations is a box.
 #[derive(Drop)]
-struct NoBox;
+pub struct NoBox;
 
 impl Asked for NoBox {
     ghost use Rattle.std.specs.Prelude.{⊤};

@@ -1,9 +1,11 @@
-//! Applies a filter to copies of events, over and over (bench/filters.sh).
+//! Does one thing with copies of events, over and over (bench/filters.sh, bench/parsing.sh, bench/graphs.sh).
 
+use crate::batches::{Prepared, condition, copies, prepare, sent};
 use crate::events::event_of;
 use crate::rows::plugin_of;
-use event_tree::{Event, Number, Path, Text, Value};
-use plugin_graph::BuiltFilter;
+use event_tree::{Event, Events, Number, Path, Text, Value};
+use filter_settings::Applied;
+use plugin_graph::{BuiltFilter, CompiledCondition};
 use std::alloc::Global;
 use std::fs;
 
@@ -13,6 +15,9 @@ enum Work {
     /// Six calls at these places.
     Calls(Vec<Path>),
     Filter(BuiltFilter),
+    Condition(CompiledCondition),
+    /// A whole configuration, for batches.
+    Batches(Prepared),
 }
 
 // Written out, so that it is one call wherever an error is handed on.
@@ -22,22 +27,35 @@ impl Drop for Work {
             Work::Copy => {}
             Work::Calls(_places) => {}
             Work::Filter(_filter) => {}
+            Work::Condition(_condition) => {}
+            Work::Batches(_prepared) => {}
         }
     }
 }
 
 /// How many events came out in so many rounds, in which each event of a file (JSON, one a line) is copied and the
 /// filter applied to the copy. With `copies` in the place of the filter it is copied alone, and with `calls` six calls
-/// are made on the copy. `None` where the words are not these, or a file can't be read.
+/// are made on the copy; with `if` and a condition in front of an empty block the condition is tested, and with `filter` and
+/// a whole configuration behind it the copies go through that in batches. A fourth word is the number of copies that are made,
+/// worked on and dropped together. `None` where the words are not these, or a file can't be read.
 pub fn run(rt: &HostRuntime, words: &[String]) -> Option<u64> {
-    let [what, file, rounds] = words else {
+    let [what, file, rounds, rest @ ..] = words else {
         return None;
     };
     let rounds = rounds.as_str().parse::<u32>().ok()?;
+    let batch = batch_of(rest)?;
     let text = fs::read_to_string(rt, file.as_str()).ok()?;
     let events = events(rt.alloc(), text.as_str())?;
     let mut work = work_of(rt.alloc(), what.as_str())?;
-    all_done(rt.alloc(), &mut work, &events, rounds)
+    all_done(rt.alloc(), &mut work, &events, rounds, batch)
+}
+
+/// How many events are held at a time.
+fn batch_of(words: &[String]) -> Option<usize> {
+    match words {
+        [] => Some(1),
+        [size, ..] => size.as_str().parse::<usize>().ok(),
+    }
 }
 
 fn events(alloc: Global, text: &str) -> Option<Vec<Event>> {
@@ -52,8 +70,18 @@ fn work_of(alloc: Global, what: &str) -> Option<Work> {
     match what {
         "copies" => Some(Work::Copy),
         "calls" => places(alloc).map(Work::Calls),
-        filter => filter_of(alloc, filter).map(Work::Filter),
+        text => other_work(alloc, text),
     }
+}
+
+fn other_work(alloc: Global, text: &str) -> Option<Work> {
+    if text.starts_with("if ") {
+        return condition(alloc, text).map(Work::Condition);
+    }
+    if text.starts_with("filter ") {
+        return prepare(alloc, text).map(Work::Batches);
+    }
+    filter_of(alloc, text).map(Work::Filter)
 }
 
 fn filter_of(alloc: Global, text: &str) -> Option<BuiltFilter> {
@@ -75,31 +103,58 @@ fn places(alloc: Global) -> Option<Vec<Path>> {
     Some(places)
 }
 
-fn all_done(alloc: Global, work: &mut Work, events: &[Event], rounds: u32) -> Option<u64> {
+fn all_done(
+    alloc: Global,
+    work: &mut Work,
+    events: &[Event],
+    rounds: u32,
+    batch: usize,
+) -> Option<u64> {
     let mut done = 0u64;
     for _ in 0..rounds {
-        for event in events {
-            done = done.wrapping_add(one_done(alloc, work, event)?);
+        for some in events.chunks(batch.max(1)) {
+            done = done.wrapping_add(batch_done(alloc, work, some)?);
         }
     }
     Some(done)
 }
 
-/// How many events come out of one.
-fn one_done(alloc: Global, work: &mut Work, event: &Event) -> Option<u64> {
-    let mut event = event.copy().ok()?;
-    match work {
-        Work::Copy => Some(1),
-        Work::Calls(places) => called(alloc, places.as_slice(), &mut event),
-        Work::Filter(filter) => applied(filter, event),
+/// How many events come out of copies of these.
+fn batch_done(alloc: Global, work: &mut Work, events: &[Event]) -> Option<u64> {
+    let copies = copies(alloc, events).ok()?;
+    if let Work::Batches(prepared) = work {
+        return sent(alloc, prepared, copies).ok();
     }
+    let mut done = Events::with_capacity(alloc, events.len()).ok()?;
+    for event in copies.into_vec() {
+        one_done(alloc, work, event, &mut done)?;
+    }
+    Some(done.len() as u64)
 }
 
-fn applied(filter: &mut BuiltFilter, event: Event) -> Option<u64> {
-    Some(filter.apply(event).ok()?.events.as_slice().len() as u64)
+/// Adds the events that come out of one.
+fn one_done(alloc: Global, work: &mut Work, event: Event, done: &mut Events) -> Option<()> {
+    let mut event = event;
+    match work {
+        Work::Copy | Work::Batches(_) => {}
+        Work::Calls(places) => called(alloc, places.as_slice(), &mut event)?,
+        Work::Filter(filter) => return applied(filter, event, done),
+        Work::Condition(condition) => tested(condition, &event)?,
+    }
+    done.push(event).ok()
 }
 
-fn called(alloc: Global, places: &[Path], event: &mut Event) -> Option<u64> {
+fn tested(condition: &mut CompiledCondition, event: &Event) -> Option<()> {
+    condition.test(event).ok()?;
+    Some(())
+}
+
+fn applied(filter: &mut BuiltFilter, event: Event, done: &mut Events) -> Option<()> {
+    let Applied { events, .. } = filter.apply(event).ok()?;
+    done.append(events).ok()
+}
+
+fn called(alloc: Global, places: &[Path], event: &mut Event) -> Option<()> {
     let [renamed, fresh, updated, replaced, number, list, copied] = places else {
         return None;
     };
@@ -112,8 +167,7 @@ fn called(alloc: Global, places: &[Path], event: &mut Event) -> Option<u64> {
     let added = event.get(updated)?.copy().ok()?;
     event.append(list, added).ok()?;
     let copy = event.get(updated)?.copy().ok()?;
-    event.put(copied, copy).ok()?;
-    Some(1)
+    event.put(copied, copy).ok()
 }
 
 fn put_text(alloc: Global, event: &mut Event, at: &Path) -> Option<()> {
