@@ -1,8 +1,9 @@
-//! The checks of a configuration before it is run: its first fault, or none.
+//! The checks of a configuration before it is run: its first fault, or none; and plans of configurations.
 //!
 //! The statements are tested in the order of the text: the inputs, then the filters, then the outputs, with
 //! the conditions in front of their blocks. Then the whole is tested. Boxes are asked where they stand, and
-//! none is taken; `draw_boxes` takes those that a configuration wants, once it passed.
+//! none is taken. [`compile`] makes a plan of a configuration that passes, with the boxes that it wants from
+//! a rack, and [`give_back`] puts these back; [`draw_boxes`] takes them without a plan.
 #![tactic(auto)]
 
 mod asking;
