@@ -6,5 +6,6 @@ pub mod Making
 pub mod Onces
 pub mod Outputting
 pub mod Patterns
+pub mod Rereading
 pub mod Sums
 pub mod Tables

@@ -58,7 +58,7 @@ as_filtered : (k : ℕ) (f : Filtered) (goes : Goes) (e : Ev) → acted (act_by 
 as_filtered k (Gives es) goes e = refl
 as_filtered k (Asks events) goes e = refl
 
-makes_as : (p : Plugin) (f : Filter) (e : Ev) → filter_of p ≡ Ok f → makes p e ≡ filtered_by f e
+pub makes_as : (p : Plugin) (f : Filter) (e : Ev) → filter_of p ≡ Ok f → makes p e ≡ filtered_by f e
 unfolding makes
 makes_as p f e is = ap (λ m. filtered_where m e) is
 

@@ -10,3 +10,4 @@ pub mod Kits
 pub mod KitParts
 pub mod Passages
 pub mod Graphs
+pub mod Walks

@@ -60,7 +60,8 @@ fn in_filter(filter: &Filter) -> Result<u64, AllocError>
     }
 }
 
-fn in_built(filter: &BuiltFilter) -> Result<u64, AllocError>
+// How many patterns a built-in filter has.
+pub(crate) fn in_built(filter: &BuiltFilter) -> Result<u64, AllocError>
     ensures { IfOk result (λ count. count ≡ spec.built_patterns filter.now) }
 {
     match filter {

@@ -50,7 +50,7 @@ impl<X: Asked> KitFilter<X> {
 }
 
 // Has an event meet a built-in filter.
-fn meet(
+pub(crate) fn meet(
     filter: &mut BuiltFilter,
     event: Event,
     targets: Targets,

@@ -2,7 +2,8 @@
 //!
 //! A [`Kit`] is all that one worker has: filters with their settings read, conditions with their
 //! patterns, and outputs with their places. A [`Graph`] is the statements, laid out flat. [`run`] takes a
-//! batch through both, and does what the configuration means.
+//! batch through both, and does what the configuration means. [`walk`] does the same with one event and
+//! the configuration itself, and reads the filters without patterns from it again.
 #![tactic(auto)]
 
 mod boxed;
@@ -21,6 +22,8 @@ mod output;
 mod parts;
 mod passage;
 mod places;
+mod walker;
+mod walking;
 
 pub use boxed::BoxedFilter;
 pub use built::BuiltFilter;
@@ -34,3 +37,4 @@ pub use kit_filter::KitFilter;
 pub use lists::{add_named, compile_conditions, read_filters};
 pub use output::{Output, Outputs, Target};
 pub use passage::{Passage, Sent};
+pub use walking::walk;

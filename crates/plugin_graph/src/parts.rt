@@ -11,7 +11,7 @@ use condition_eval::Truth;
 use event_flow::{Cell, Kit, Outcome, Targets};
 use event_tree::{Event, Items};
 use foreign_parts::Asked;
-use std::alloc::AllocError;
+use std::alloc::{AllocError, Global};
 
 /// The plugins and conditions of a kit, by their numbers: those of the filters first.
 #[derive(Drop)]
@@ -21,6 +21,18 @@ pub struct Parts<X> {
     pub targets: Items<Target>,
     pub conditions: Items<CompiledCondition>,
     ghost own: { HaveOwnTargets targets outputs },
+}
+
+impl<X: Drop> Parts<X> {
+    /// No plugin and no condition.
+    pub(crate) fn new(alloc: Global) -> Parts<X> {
+        Parts {
+            filters: Items::new(alloc),
+            outputs: Items::new(alloc),
+            targets: Items::new(alloc),
+            conditions: Items::new(alloc),
+        }
+    }
 }
 
 impl<X: Asked> Kit for Parts<X> {
