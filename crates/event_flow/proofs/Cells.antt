@@ -1,6 +1,7 @@
 -- Cells that a step takes, and what it puts in their place.
 use Rattle.std.proofs.lemmas.Grind.{flat_map-append}
-use Rattle.std.proofs.Common.{append-nil, ◌<◌, ◌≡◌, ℕ, zero, suc, ◌-◌, List, [], ◌∷◌, ◌++◌, map, refl, ap, sym, subst, ◌∙◌, append_assoc, arith, Result, Ok, Err, OnOk}
+use Rattle.std.proofs.lemmas.Option.{none-some}
+use Rattle.std.proofs.Common.{append-nil, ◌<◌, ◌≡◌, ℕ, zero, suc, ◌+◌, ◌-◌, List, [], ◌∷◌, ◌++◌, map, take, drop, slice_get, slice_set, refl, ap, ap₂, sym, subst, ◌∙◌, append_assoc, add-one, arith, rules, Some, None, Result, Ok, Err, OnOk, IfOk}
 use Rattle.event_tree.specs.Events.{Ev}
 use Rattle.condition_eval.specs.declared.truth.Truth.{Truth}
 use Rattle.condition_eval.specs.declared.truth.Truth.TheVariants as truth
@@ -8,6 +9,7 @@ use Rattle.foreign_parts.specs.declared.filter.Verdict.{Verdict}
 use Rattle.event_flow.specs.Flows.{Dead, wrong_letter}
 use Rattle.event_flow.specs.Marks.{Mark, At, Did, Used, at_once, dids, sent_to, led_mark, led_cell, outcome_marks, marks_of, marks, Meets, Becomes, AllBecome, Adds}
 use Rattle.event_flow.specs.Steps.{Table}
+use Rattle.event_flow.specs.Stepped.{event_at, passed, passing, Takes}
 use Rattle.event_flow.specs.declared.cell.Cell.{Cell}
 use Rattle.event_flow.specs.declared.cell.Cell.TheVariants as c
 use Rattle.event_flow.specs.declared.cell.Outcome.{Outcome}
@@ -52,43 +54,144 @@ module _ (may : ℕ → Ev → Verdict → Type 0) (table : Table) where
       (at_becomes may table (s.Test n over) 0 e targets (led_mark over (table.ids n) e t ∷ []) (ap (λ u. led_mark over (table.ids n) e u ∷ []) is))
 
   -- what a kit says that a plugin did
-  pub acted_on : {F : Type 0} (r : Result (Unit {0}) F) (n : ℕ) (e : Ev) (targets : List ℕ) (old new : List Mark) → OnOk r (Adds (Meets may table n e targets) old new) → OnOk r (Adds (AllBecome may table (s.Plugin n) (marks_of table (c.At 0 e targets))) old new)
-  acted_on (Ok u) n e targets old new adds =
+  pub acted_on : (n : ℕ) (e : Ev) (targets : List ℕ) (made : List Cell) → Adds (Meets may table n e targets) [] (marks table made) → AllBecome may table (s.Plugin n) (marks_of table (c.At 0 e targets)) (marks table made)
+  acted_on n e targets made adds =
       let (acts, done, is) = adds.kind in
-      record {
-        part = adds.part;
-        whole = adds.whole;
-        kind = subst (λ ms. AllBecome may table (s.Plugin n) (marks_of table (c.At 0 e targets)) ms) (sym is) (at_becomes may table (s.Plugin n) 0 e targets acts done);
-      }
-  acted_on (Err f) n e targets old new adds = tt
+      subst (λ ms. AllBecome may table (s.Plugin n) (marks_of table (c.At 0 e targets)) ms) (sym (adds.whole ∙ is)) (at_becomes may table (s.Plugin n) 0 e targets acts done)
+
+-- a cell whose event meets the next step
+pub record Waits (cell : Cell) (e : Ev) : Type 0 where
+  pub targets : List ℕ
+  pub is : cell ≡ c.At 0 e targets
+
+pub waits : (cell : Cell) (e : Ev) → event_at cell ≡ Some e → Waits cell e
+waits (c.At zero e' targets) e is =
+    let same : e' ≡ e = search (is, rules) in
+    record { targets = targets; is = ap (λ x. c.At 0 x targets) same }
+waits (c.At (suc skip) e' targets) e is = absurd (none-some e is)
+waits (c.Came outcome) e is = absurd (none-some e is)
+
+module _ (may : ℕ → Ev → Verdict → Type 0) (table : Table) where
+  -- one cell in the place of another
+  alone : (x : Step) (cell after : Cell) (others : List Cell) → others ≡ [] → AllBecome may table x (marks_of table cell) (marks_of table after) → AllBecome may table x (marks_of table cell) (marks_of table after ++ marks table others)
+  alone x cell after others none become =
+      subst (λ ms. AllBecome may table x (marks_of table cell) ms) (sym (ap (λ os. marks_of table after ++ marks table os) none ∙ append-nil (marks_of table after))) become
+
+  passes : (x : Step) (cell : Cell) → event_at cell ≡ None → AllBecome may table x (marks_of table cell) (marks_of table (passed cell))
+  passes x (c.At zero e targets) none = absurd (none-some e (sym none))
+  passes x (c.At (suc skip) e targets) none = passes_on may table x (suc skip) e targets (omega arith)
+  passes x (c.Came outcome) none = outcome_stays may table x outcome
+
+  pub passed_by : (x : Step) (cell after : Cell) (others : List Cell) → event_at cell ≡ None → after ≡ passed cell → others ≡ [] → AllBecome may table x (marks_of table cell) (marks_of table after ++ marks table others)
+  passed_by x cell after others none is empty =
+      alone x cell after others empty (subst (λ a. AllBecome may table x (marks_of table cell) (marks_of table a)) (sym is) (passes x cell none))
+
+  pub skipped : (over : ℕ) (cell after : Cell) (e : Ev) (others : List Cell) → event_at cell ≡ Some e → after ≡ passing over cell → others ≡ [] → AllBecome may table (s.Skip over) (marks_of table cell) (marks_of table after ++ marks table others)
+  skipped over cell after e others at is empty =
+      let w = waits cell e at in
+      alone (s.Skip over) cell after others empty
+      (subst (λ a. AllBecome may table (s.Skip over) (marks_of table cell) (marks_of table a)) (sym is)
+      (subst (λ x. AllBecome may table (s.Skip over) (marks_of table x) (marks_of table (passing over x))) (sym w.is) (skips_on may table over e w.targets)))
+
+  pub tested : (t : Truth) (n over : ℕ) (cell after : Cell) (e : Ev) (others : List Cell) → event_at cell ≡ Some e → t ≡ table.says n e → ((f : Ev) (targets : List ℕ) → cell ≡ c.At 0 f targets → after ≡ led_cell t n over f targets) → others ≡ [] → AllBecome may table (s.Test n over) (marks_of table cell) (marks_of table after ++ marks table others)
+  tested t n over cell after e others at says led empty =
+      let w = waits cell e at in
+      alone (s.Test n over) cell after others empty
+      (subst (λ a. AllBecome may table (s.Test n over) (marks_of table cell) (marks_of table a)) (sym (led e w.targets w.is))
+      (subst (λ x. AllBecome may table (s.Test n over) (marks_of table x) (marks_of table (led_cell t n over e w.targets))) (sym w.is) (led_on may table t n over e w.targets says)))
 
 module _ (table : Table) (Kind : List Mark → Type 0) where
-  -- a cell that was put behind the others
-  pub put : {F : Type 0} (r : Result (Unit {0}) F) (x : Cell) (old new : List Cell) → Kind (marks_of table x) → OnOk r (new ≡ old ++ x ∷ []) → OnOk r (Adds Kind (marks table old) (marks table new))
-  put (Ok u) x old new kind is = record {
-    part = marks_of table x;
-    whole = ap (marks table) is ∙ flat_map-append (marks_of table) old (x ∷ []) ∙ ap (λ ms. marks table old ++ ms) (append-nil (marks_of table x));
+  -- what came of a cell was put behind the others
+  pub put : {F : Type 0} (r : Result (Unit {0}) F) (x : Cell) (others old mid new : List Cell) → Kind (marks_of table x ++ marks table others) → mid ≡ old ++ x ∷ [] → OnOk r (new ≡ mid ++ others) → OnOk r (Adds Kind (marks table old) (marks table new))
+  put (Ok u) x others old mid new kind first is = record {
+    part = marks_of table x ++ marks table others;
+    whole = ap (marks table) (is ∙ ap (λ cs. cs ++ others) first ∙ append_assoc old (x ∷ []) others) ∙ flat_map-append (marks_of table) old (x ∷ others);
     kind = kind;
   }
-  put (Err f) x old new kind is = tt
+  put (Err f) x others old mid new kind first is = tt
 
--- the cells so far, in front of what is left
-pub record Through (may : ℕ → Ev → Verdict → Type 0) (table : Table) (x : Step) (cells left out : List Cell) : Type 0 where
-  pub so_far : (more : List Mark) → AllBecome may table x (marks table left) more → AllBecome may table x (marks table cells) (marks table out ++ more)
+-- what came of the cells in front of what is left, behind these marks
+pub record Through (may : ℕ → Ev → Verdict → Type 0) (table : Table) (x : Step) (cells left : List Cell) (front : List Mark) (out : List Cell) : Type 0 where
+  pub part : List Mark
+  pub whole : marks table out ≡ front ++ part
+  pub so_far : (more : List Mark) → AllBecome may table x (marks table left) more → AllBecome may table x (marks table cells) (part ++ more)
 
-pub through_first : (may : ℕ → Ev → Verdict → Type 0) (table : Table) (x : Step) (cells left : List Cell) → left ≡ cells → Through may table x cells left []
-through_first may table x cells left is = record { so_far = λ more all. subst (λ cs. AllBecome may table x (marks table cs) more) is all }
+pub through_first : (may : ℕ → Ev → Verdict → Type 0) (table : Table) (x : Step) (cells : List Cell) (front : List Mark) (out : List Cell) → marks table out ≡ front → Through may table x cells cells front out
+through_first may table x cells front out is = record { part = []; whole = is ∙ sym (append-nil front); so_far = λ more all. all }
 
-pub through_one : (may now : ℕ → Ev → Verdict → Type 0) (table table' : Table) (x : Step) (cells left rest out new : List Cell) (cell : Cell) → left ≡ cell ∷ rest → Same table table' may now → Through may table x cells left out → Adds (AllBecome now table' x (marks_of table' cell)) (marks table' out) (marks table' new) → Through may table x cells rest new
-through_one may now table table' x cells left rest out new cell is same through added =
+pub through_one : (may now : ℕ → Ev → Verdict → Type 0) (table table' : Table) (x : Step) (cells left rest : List Cell) (front : List Mark) (out new : List Cell) (cell : Cell) → left ≡ cell ∷ rest → Same table table' may now → Through may table x cells left front out → Adds (AllBecome now table' x (marks_of table' cell)) (marks table' out) (marks table' new) → Through may table x cells rest front new
+through_one may now table table' x cells left rest front out new cell is same through added =
     let adds = subst (λ t. Adds (AllBecome now t x (marks_of t cell)) (marks t out) (marks t new)) same.same_table added in
     record {
+      part = through.part ++ adds.part;
+      whole = adds.whole ∙ ap (λ ms. ms ++ adds.part) through.whole ∙ append_assoc front through.part adds.part;
       so_far = λ more all.
-          subst (λ os. AllBecome may table x (marks table cells) os) (sym (ap (λ os. os ++ more) adds.whole ∙ append_assoc (marks table out) adds.part more))
+          subst (λ os. AllBecome may table x (marks table cells) os) (sym (append_assoc through.part adds.part more))
           (through.so_far (adds.part ++ more) (subst (λ cs. AllBecome may table x (marks table cs) (adds.part ++ more)) (sym is)
           (all_behind may table x (marks_of table cell) (marks table rest) adds.part more (all_become_as table may now x (marks_of table cell) adds.part same.weaker adds.kind) all)));
     }
 
-pub through_all : (may : ℕ → Ev → Verdict → Type 0) (table : Table) (x : Step) (cells left out : List Cell) → left ≡ [] → Through may table x cells left out → AllBecome may table x (marks table cells) (marks table out)
-through_all may table x cells left out none through =
-    subst (λ os. AllBecome may table x (marks table cells) os) (append-nil (marks table out)) (through.so_far [] (subst (λ cs. AllBecome may table x (marks table cs) []) (sym none) refl))
+pub through_all : (may : ℕ → Ev → Verdict → Type 0) (table : Table) (x : Step) (cells left : List Cell) (front : List Mark) (out : List Cell) → left ≡ [] → Through may table x cells left front out → Adds (AllBecome may table x (marks table cells)) front (marks table out)
+through_all may table x cells left front out none through = record {
+  part = through.part;
+  whole = through.whole;
+  kind = subst (λ os. AllBecome may table x (marks table cells) os) (append-nil through.part) (through.so_far [] (subst (λ cs. AllBecome may table x (marks table cs) []) (sym none) refl));
+}
+
+taken_at : {X : Type 0} (xs ys : List X) (i : ℕ) (x y : X) → slice_get xs i ≡ Some x → take (suc i) (slice_set xs i y) ++ ys ≡ take i xs ++ y ∷ ys
+taken_at [] ys i x y at = absurd (none-some x at)
+taken_at (z ∷ xs) ys zero x y at = refl
+taken_at (z ∷ xs) ys (suc i) x y at = ap (λ l. z ∷ l) (taken_at xs ys i x y at)
+
+left_at : {X : Type 0} (xs : List X) (i : ℕ) (x y : X) → slice_get xs i ≡ Some x → drop i xs ≡ x ∷ drop (suc i) (slice_set xs i y)
+left_at [] i x y at = absurd (none-some x at)
+left_at (z ∷ xs) zero x y at = let same : z ≡ x = search (at, rules) in ap (λ w. w ∷ xs) same
+left_at (z ∷ xs) (suc i) x y at = left_at xs i x y at
+
+-- one cell more in its place
+pub through_at : (may now : ℕ → Ev → Verdict → Type 0) (table table' : Table) (x : Step) (cells old new others : List Cell) (front : List Mark) (i : ℕ) → Same table table' may now → Takes now table' x i old new others → Through may table x cells (drop i old) front (take i old) → Through may table x cells (drop (i + 1) new) front (take (i + 1) new ++ others)
+through_at may now table table' x cells old new others front i same takes through =
+    let out : take (i + 1) new ++ others ≡ take i old ++ takes.after ∷ others
+    = ap₂ (λ n cs. take n cs ++ others) (add-one i) takes.whole ∙ taken_at old others i takes.before takes.after takes.was in
+    let left : drop i old ≡ takes.before ∷ drop (i + 1) new
+    = left_at old i takes.before takes.after takes.was ∙ sym (ap₂ (λ n cs. takes.before ∷ drop n cs) (add-one i) takes.whole) in
+    through_one may now table table' x cells (drop i old) (drop (i + 1) new) front (take i old) (take (i + 1) new ++ others) takes.before left same through
+    (record {
+      part = marks_of table' takes.after ++ marks table' others;
+      whole = ap (marks table') out ∙ flat_map-append (marks_of table') (take i old) (takes.after ∷ others);
+      kind = takes.becomes;
+    })
+
+pub through_kept : (may : ℕ → Ev → Verdict → Type 0) (table : Table) (x : Step) (cells left : List Cell) (front : List Mark) (out others : List Cell) → others ≡ [] → Through may table x cells left front (out ++ others) → Through may table x cells left front out
+through_kept may table x cells left front out others none through = subst (λ os. Through may table x cells left front os) (ap (λ os. out ++ os) none ∙ append-nil out) through
+
+-- all cells took the step in their places
+pub through_end : (may : ℕ → Ev → Verdict → Type 0) (table : Table) (x : Step) (cells left out new : List Cell) → left ≡ [] → out ≡ new → Through may table x cells left [] out → AllBecome may table x (marks table cells) (marks table new)
+through_end may table x cells left out new none all through =
+    let adds = through_all may table x cells left [] out none through in
+    subst (λ os. AllBecome may table x (marks table cells) os) (sym adds.whole ∙ ap (marks table) all) adds.kind
+
+-- what is left takes the step behind the others
+pub through_rest : {F : Type 0} (r : Result (List Cell) F) (may now : ℕ → Ev → Verdict → Type 0) (table table' : Table) (x : Step) (cells left out : List Cell) → Same table table' may now → Through may table x cells left [] out → IfOk r (λ new. Adds (AllBecome now table' x (marks table' left)) (marks table' out) (marks table' new)) → IfOk r (λ new. AllBecome may table x (marks table cells) (marks table new))
+through_rest (Ok new) may now table table' x cells left out same through added =
+    let adds = subst (λ t. Adds (AllBecome now t x (marks t left)) (marks t out) (marks t new)) same.same_table added in
+    subst (λ os. AllBecome may table x (marks table cells) os) (sym (adds.whole ∙ ap (λ ms. ms ++ adds.part) through.whole))
+    (through.so_far adds.part (all_become_as table may now x (marks table left) adds.part same.weaker adds.kind))
+through_rest (Err f) may now table table' x cells left out same through added = tt
+
+pub took : {F : Type 0} (r : Result (Unit {0}) F) (may : ℕ → Ev → Verdict → Type 0) (table : Table) (x : Step) (at : ℕ) (old others : List Cell) (before after : Cell) → slice_get old at ≡ Some before → OnOk r (AllBecome may table x (marks_of table before) (marks_of table after ++ marks table others)) → OnOk r (Takes may table x at old (slice_set old at after) others)
+took (Ok u) may table x at old others before after was become = record { before = before; after = after; was = was; whole = refl; becomes = become }
+took (Err f) may table x at old others before after was become = tt
+
+-- an event that has met a plugin
+pub met : (may : ℕ → Ev → Verdict → Type 0) (table : Table) (n skip : ℕ) (cell : Cell) (f e : Ev) (sent targets : List ℕ) (others made : List Cell) (ms : List Mark) → cell ≡ c.At skip f sent → cell ≡ c.At 0 e targets → others ≡ [] → Adds (Meets may table n f sent) (marks table others) (marks table made) → marks table made ≡ ms → AllBecome may table (s.Plugin n) (marks_of table cell) ms
+met may table n zero cell f e sent targets others made ms was is none adds come =
+    subst (λ x. AllBecome may table (s.Plugin n) (marks_of table x) ms) (sym was)
+    (subst (λ os. AllBecome may table (s.Plugin n) (marks_of table (c.At 0 f sent)) os) come
+    (acted_on may table n f sent made (subst (λ os. Adds (Meets may table n f sent) (marks table os) (marks table made)) none adds)))
+met may table n (suc skip) cell f e sent targets others made ms was is none adds come = absurd (none-some e (ap event_at (sym was ∙ is)))
+
+-- a cell whose event meets a plugin
+pub at_plugin : {F : Type 0} (r : Result (Unit {0}) F) (may : ℕ → Ev → Verdict → Type 0) (table : Table) (n : ℕ) (cell : Cell) (e : Ev) (ms : List Mark) → event_at cell ≡ Some e → OnOk r ((f : Ev) (targets : List ℕ) → cell ≡ c.At 0 f targets → AllBecome may table (s.Plugin n) (marks_of table cell) ms) → OnOk r (AllBecome may table (s.Plugin n) (marks_of table cell) ms)
+at_plugin (Ok u) may table n cell e ms at become = let w = waits cell e at in become e w.targets w.is
+at_plugin (Err f) may table n cell e ms at become = tt

@@ -6,3 +6,4 @@ pub mod Meaning
 pub mod Steps
 pub mod Laying
 pub mod Marks
+pub mod Stepped

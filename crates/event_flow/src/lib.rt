@@ -9,6 +9,7 @@ pub mod laws;
 mod laying;
 mod running;
 mod step;
+mod stepping;
 
 pub use block::{Block, Laid};
 pub use cell::{Cell, Outcome, Targets};

@@ -1,4 +1,4 @@
-ghost use Rattle.std.specs.Prelude.{◌≡◌, ℕ, ◌++◌, ◌∷◌, [], IfOk, OnOk, map};
+ghost use Rattle.std.specs.Prelude.{◌≡◌, ℕ, ◌<◌, ◌≤◌, ◌++◌, [], IfOk, OnOk, map, length, take, drop};
 ghost use Rattle.event_tree.specs.Events.{Ev};
 ghost use Rattle.foreign_parts.specs.declared.filter.Verdict.{Verdict};
 ghost use Rattle.event_flow.specs.Flows.{each, nothing};
@@ -7,11 +7,13 @@ ghost use Rattle.event_flow.specs.Laying.{AreStepsOf, IsTableOf};
 ghost use Rattle.event_flow.specs.Meaning.{Makes, flow_of};
 ghost use Rattle.event_flow.specs.Places.{Draws};
 ghost use Rattle.event_flow.specs.Steps.{from};
-ghost use Rattle.event_flow.specs.Marks.{Meets, AllBecome, Ran, Adds, marks, marks_of, led_cell};
+ghost use Rattle.event_flow.specs.Marks.{Meets, AllBecome, Ran, Adds, marks, marks_of};
+ghost use Rattle.event_flow.specs.Stepped.{Takes};
 ghost use Rattle.event_flow.specs.declared.cell.Cell.TheVariants as cell;
 
-use crate::cell::{Cell, Outcome, Targets};
+use crate::cell::{Cell, Targets};
 use crate::step::Step;
+use crate::stepping::step_cell;
 use condition_eval::Truth;
 use event_tree::{Event, Events, Items};
 use std::alloc::{AllocError, Global};
@@ -61,7 +63,8 @@ pub trait Kit {
 /// and which verdicts were used: with these verdicts, each event in order derives this. By the steps
 /// of a configuration, and a kit that has its plugins, this is what the configuration means.
 ///
-/// An event is moved through the steps and not copied: once for each step, whatever its size.
+/// An event stands in its place and is moved only by the plugins that it meets, once for each,
+/// whatever its size. Where more than one cell comes of an event, those behind it are moved too.
 pub fn run<K: Kit>(
     alloc: Global,
     kit: &mut K,
@@ -110,14 +113,73 @@ fn one_step<K: Kit>(
     ensures table { K.table kit.new ≡ K.table kit.old }
     ensures may { (k : ℕ) (e : Ev) (v : Verdict) → K.may kit.new k e v → K.may kit.old k e v }
 {
-    let mut out = Items::with_capacity(alloc, cells.len())?;
-    for cell in cells.into_vec() {
-        one_cell(kit, step, cell, &mut out)?;
+    let mut cells = cells;
+    let mut others = Items::new(alloc);
+    for index in 0..cells.len() {
+        step_at(alloc, kit, step, &mut cells, index, &mut others)?;
+        if !others.is_empty() {
+            return step_rest(alloc, kit, step, cells, index + 1, others);
+        }
+    }
+    Ok(cells)
+}
+
+fn step_at<K: Kit>(
+    alloc: Global,
+    kit: &mut K,
+    step: Step,
+    cells: &mut Items<Cell>,
+    index: usize,
+    others: &mut Items<Cell>,
+) -> Result<(), AllocError>
+    requires stands { K.stands kit.old }
+    requires within { index < length cells.old }
+    requires none { others.old ≡ [] }
+    ensures stands { K.stands kit.new }
+    ensures ok { OnOk result (Takes (K.may kit.old) (K.table kit.old) step index
+        cells.old cells.new others.new) }
+    ensures table { K.table kit.new ≡ K.table kit.old }
+    ensures may { (k : ℕ) (e : Ev) (v : Verdict) → K.may kit.new k e v → K.may kit.old k e v }
+{
+    match cells.get_mut(index) {
+        Some(cell) => step_cell(alloc, kit, step, cell, others),
+        None => Err(AllocError),
+    }
+}
+
+// Takes the cells from this number on through the step, where more than one came of the cell in
+// front of them: the others stand behind that. From here on each cell is moved.
+fn step_rest<K: Kit>(
+    alloc: Global,
+    kit: &mut K,
+    step: Step,
+    cells: Items<Cell>,
+    from: usize,
+    others: Items<Cell>,
+) -> Result<Items<Cell>, AllocError>
+    requires stands { K.stands kit.old }
+    requires within { from ≤ length cells }
+    ensures stands { K.stands kit.new }
+    ensures ok { IfOk result (λ out. Adds
+        (AllBecome (K.may kit.old) (K.table kit.old) step
+        (marks (K.table kit.old) (drop from cells)))
+        (marks (K.table kit.old) (take from cells ++ others)) (marks (K.table kit.old) out)) }
+    ensures table { K.table kit.new ≡ K.table kit.old }
+    ensures may { (k : ℕ) (e : Ev) (v : Verdict) → K.may kit.new k e v → K.may kit.old k e v }
+{
+    let mut front = cells.into_vec();
+    let rest = front.split_off(from)?;
+    let mut out = Items::from_vec(front);
+    out.append(others)?;
+    for cell in rest {
+        add_step(alloc, kit, step, cell, &mut out)?;
     }
     Ok(out)
 }
 
-fn one_cell<K: Kit>(
+// What comes of a cell is put behind the others.
+fn add_step<K: Kit>(
+    alloc: Global,
     kit: &mut K,
     step: Step,
     cell: Cell,
@@ -131,50 +193,9 @@ fn one_cell<K: Kit>(
     ensures table { K.table kit.new ≡ K.table kit.old }
     ensures may { (k : ℕ) (e : Ev) (v : Verdict) → K.may kit.new k e v → K.may kit.old k e v }
 {
-    match cell {
-        Cell::At(skip, event, targets) => {
-            if skip > 0 {
-                out.push(Cell::At(skip - 1, event, targets))
-            } else {
-                meet(kit, step, event, targets, out)
-            }
-        }
-        Cell::Came(outcome) => out.push(Cell::Came(outcome)),
-    }
-}
-
-fn meet<K: Kit>(
-    kit: &mut K,
-    step: Step,
-    event: Event,
-    targets: Targets,
-    out: &mut Items<Cell>,
-) -> Result<(), AllocError>
-    requires { K.stands kit.old }
-    ensures stands { K.stands kit.new }
-    ensures ok { OnOk result (Adds
-        (AllBecome (K.may kit.old) (K.table kit.old) step
-        (marks_of (K.table kit.old) (cell.At 0 event targets)))
-        (marks (K.table kit.old) out.old) (marks (K.table kit.old) out.new)) }
-    ensures table { K.table kit.new ≡ K.table kit.old }
-    ensures may { (k : ℕ) (e : Ev) (v : Verdict) → K.may kit.new k e v → K.may kit.old k e v }
-{
-    match step {
-        Step::Plugin(number) => kit.act(number, event, targets, out),
-        Step::Test(number, over) => {
-            let truth = kit.test(number, &event)?;
-            out.push(led(truth, number, over, event, targets))
-        }
-        Step::Skip(over) => out.push(Cell::At(over, event, targets)),
-    }
-}
-
-fn led(truth: Truth, number: u64, over: u64, event: Event, targets: Targets) -> Cell
-    ensures { result ≡ led_cell truth number over event targets }
-{
-    match truth {
-        Truth::Yes => Cell::At(0, event, targets),
-        Truth::No => Cell::At(over, event, targets),
-        Truth::Wrong(reason) => Cell::Came(Outcome::Died(number, reason, event, targets)),
-    }
+    let mut cell = cell;
+    let mut others = Items::new(alloc);
+    step_cell(alloc, kit, step, &mut cell, &mut others)?;
+    out.push(cell)?;
+    out.append(others)
 }

@@ -1,0 +1,145 @@
+// A cell that takes a step in its place. An event is moved by the plugins alone that it meets.
+ghost use Rattle.std.specs.Prelude.{◌≡◌, ℕ, List, ◌++◌, [], OnOk, option_copied};
+ghost use Rattle.event_tree.specs.Events.{Ev};
+ghost use Rattle.foreign_parts.specs.declared.filter.Verdict.{Verdict};
+ghost use Rattle.event_flow.specs.Steps.{Table};
+ghost use Rattle.event_flow.specs.Marks.{AllBecome, marks, marks_of, led_cell};
+ghost use Rattle.event_flow.specs.Stepped as spec;
+ghost use Rattle.event_flow.specs.declared.cell.Cell.TheVariants as variant;
+ghost use Rattle.event_flow.specs.declared.step.Step.TheVariants as step;
+
+use crate::cell::{Cell, Outcome, Targets};
+use crate::running::Kit;
+use crate::step::Step;
+use condition_eval::Truth;
+use event_tree::{Event, Items};
+use std::alloc::{AllocError, Global};
+use std::mem;
+
+/// A cell takes a step. The first that comes of it stands in its place, and the others in `others`,
+/// where nothing was.
+pub(crate) fn step_cell<K: Kit>(
+    alloc: Global,
+    kit: &mut K,
+    step: Step,
+    cell: &mut Cell,
+    others: &mut Items<Cell>,
+) -> Result<(), AllocError>
+    requires stands { K.stands kit.old }
+    requires none { others.old ≡ [] }
+    ensures stands { K.stands kit.new }
+    ensures ok { OnOk result (AllBecome (K.may kit.old) (K.table kit.old) step
+        (marks_of (K.table kit.old) cell.old)
+        (marks_of (K.table kit.old) cell.new ++ marks (K.table kit.old) others.new)) }
+    ensures table { K.table kit.new ≡ K.table kit.old }
+    ensures may { (k : ℕ) (e : Ev) (v : Verdict) → K.may kit.new k e v → K.may kit.old k e v }
+{
+    let Some(event) = event_at(cell) else {
+        pass(cell);
+        return Ok(());
+    };
+    match step {
+        Step::Plugin(number) => meet_plugin(alloc, kit, number, cell, others),
+        Step::Test(number, over) => {
+            let truth = kit.test(number, event)?;
+            lead(alloc, truth, number, over, cell);
+            Ok(())
+        }
+        Step::Skip(over) => {
+            pass_over(cell, over);
+            Ok(())
+        }
+    }
+}
+
+// The event that meets the next step.
+fn event_at(cell: &Cell) -> Option<&Event>
+    ensures { option_copied result ≡ spec.event_at cell.now }
+{
+    match cell {
+        Cell::At(skip, event, _) => { if *skip == 0 { Some(event) } else { None } }
+        Cell::Came(_) => None,
+    }
+}
+
+fn pass(cell: &mut Cell)
+    ensures { cell.new ≡ spec.passed cell.old }
+{
+    match cell {
+        Cell::At(skip, _, _) => *skip = skip.saturating_sub(1),
+        Cell::Came(_) => {}
+    }
+}
+
+fn pass_over(cell: &mut Cell, over: u64)
+    ensures { cell.new ≡ spec.passing over cell.old }
+{
+    match cell {
+        Cell::At(skip, _, _) => *skip = over,
+        Cell::Came(_) => {}
+    }
+}
+
+// A condition leads the event of a cell.
+fn lead(alloc: Global, truth: Truth, number: u64, over: u64, cell: &mut Cell)
+    ensures { (e : Ev) (targets : List ℕ) → cell.old ≡ variant.At 0 e targets
+        → cell.new ≡ led_cell truth number over e targets }
+{
+    match truth {
+        Truth::Yes => {}
+        Truth::No => pass_over(cell, over),
+        Truth::Wrong(reason) => {
+            if let Cell::At(_, event, targets) = taken(alloc, cell) {
+                *cell = Cell::Came(Outcome::Died(number, reason, event, targets));
+            }
+        }
+    }
+}
+
+// An event meets a plugin.
+fn meet_plugin<K: Kit>(
+    alloc: Global,
+    kit: &mut K,
+    number: u64,
+    cell: &mut Cell,
+    others: &mut Items<Cell>,
+) -> Result<(), AllocError>
+    requires stands { K.stands kit.old }
+    requires none { others.old ≡ [] }
+    ensures stands { K.stands kit.new }
+    ensures ok { OnOk result ((e : Ev) (targets : List ℕ) → cell.old ≡ variant.At 0 e targets
+        → AllBecome (K.may kit.old) (K.table kit.old) (step.Plugin number)
+        (marks_of (K.table kit.old) cell.old)
+        (marks_of (K.table kit.old) cell.new ++ marks (K.table kit.old) others.new)) }
+    ensures table { K.table kit.new ≡ K.table kit.old }
+    ensures may { (k : ℕ) (e : Ev) (v : Verdict) → K.may kit.new k e v → K.may kit.old k e v }
+{
+    match taken(alloc, cell) {
+        Cell::At(_, event, targets) => {
+            kit.act(number, event, targets, others)?;
+            put_first(cell, others);
+            Ok(())
+        }
+        Cell::Came(_) => Ok(()),
+    }
+}
+
+// A cell is moved out, and one left there that says nothing.
+fn taken(alloc: Global, cell: &mut Cell) -> Cell
+    ensures was { result ≡ cell.old }
+    ensures nothing { (table : Table) → marks_of table cell.new ≡ [] }
+{
+    let nothing = Outcome::Gone(Event::new(alloc), Targets::new(alloc));
+    mem::replace(cell, Cell::Came(nothing))
+}
+
+// The first of the others, if there is one, in the place of a cell that says nothing.
+fn put_first(cell: &mut Cell, others: &mut Items<Cell>)
+    ensures { (table : Table) → marks_of table cell.old ≡ []
+        → marks table others.old ≡ marks_of table cell.new ++ marks table others.new }
+{
+    if others.is_empty() {
+        return;
+    }
+    *cell = others.remove(0);
+}
