@@ -86,7 +86,8 @@ impl<T: Task> Side<T> {
     /// The worker takes the job that was given.
     pub(crate) fn take_job(&mut self) -> Option<T>
         requires { IsWaiting (me_of self.old) }
-        ensures { MatchOption result (IsWaiting (me_of self.new)) (λ job. IsWorking job (me_of self.new)) }
+        ensures { MatchOption result (IsWaiting (me_of self.new))
+            (λ job. IsWorking job (me_of self.new)) }
     {
         let shared = &self.table.shared;
         if shared.compare_exchange::<TakingJob>(&mut self.seat, 0, 1, 2) != 1 {

@@ -34,6 +34,7 @@ pub trait Shop<T: Task> {
     /// The result of a job that is out, which is then home. None where no job is out, or where the looks rose.
     fn take(&mut self) -> Option<T::Done>
         ensures home { IfSome result (ComesHome T.gives (out self.old) (out self.new)) }
-        ensures none { IfNone result (HasReason (out self.old) (out self.new) (looks self.old) (looks self.new)) }
+        ensures none { IfNone result (HasReason (out self.old) (out self.new) (looks self.old)
+            (looks self.new)) }
         ensures same { started self.new ≡ started self.old };
 }

@@ -60,7 +60,8 @@ impl<T: Task> ThreadShop<T> {
     /// none. So it is true wherever a worker was hired and no job is out.
     pub fn dismiss(&mut self) -> bool
         ensures answer { result ≡ last_is_idle self.old }
-        ensures refused { IsFalse result → (started_of self.old ≡ 0) ⊎ (0 < length (jobs_of self.old)) }
+        ensures refused { IsFalse result → (started_of self.old ≡ 0) ⊎
+            (0 < length (jobs_of self.old)) }
         ensures out { jobs_of self.new ≡ jobs_of self.old }
         ensures dismissed { IsTrue result → started_of self.new + 1 ≡ started_of self.old }
         ensures kept { IsFalse result → started_of self.new ≡ started_of self.old }

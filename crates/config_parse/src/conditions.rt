@@ -31,7 +31,8 @@ fn more_literals(
     front: Items<Literal>,
     tokens: &[Lexeme],
 ) -> Result<(Items<Literal>, &[Lexeme]), ReadError>
-    ensures { (d : ℕ) → Gives result (spec.behind front (spec.read d symbol.MoreLiterals)) tokens.now }
+    ensures { (d : ℕ) → Gives result (spec.behind front (spec.read d symbol.MoreLiterals))
+        tokens.now }
 {
     let mut found = front;
     let mut rest = tokens;

@@ -74,7 +74,8 @@ pub fn put_entry(table: &mut Table, key: Text, value: SettingValue) -> Result<()
 
 /// Two hashes as one: of a key that both have, the later value in the place of the first.
 fn with_entries(table: Table, later: Table) -> Result<Table, AllocError>
-    ensures { IfOk result (λ made. made.entries ≡ joining.with_entries table.entries later.entries) }
+    ensures { IfOk result (λ made. made.entries ≡ joining.with_entries table.entries
+        later.entries) }
 {
     let mut table = table;
     for (key, value) in later {
@@ -107,7 +108,8 @@ fn taken(
     name: &Text,
 ) -> Result<Option<ReadValue>, AllocError>
     ensures earlier { IfOk result (λ earlier. earlier ≡ held_at name.now settings.old.entries) }
-    ensures rest { OnOk result (IsSameElsewhere name.now settings.old.entries settings.new.entries) }
+    ensures rest { OnOk result (IsSameElsewhere name.now settings.old.entries
+        settings.new.entries) }
 {
     if settings.contains_key(name) {
         Ok(settings.insert(name.copy()?, ReadValue::Array(Items::new(alloc)))?)

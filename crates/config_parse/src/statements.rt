@@ -226,7 +226,8 @@ pub fn sections(
     depth: usize,
     tokens: &[Lexeme],
 ) -> Result<(Config, &[Lexeme]), ReadError>
-    ensures { Gives result (spec.behind joining.empty (spec.read depth symbol.Sections)) tokens.now }
+    ensures { Gives result (spec.behind joining.empty (spec.read depth symbol.Sections))
+        tokens.now }
 {
     let mut found = Config {
         inputs: Items::new(alloc),

@@ -192,7 +192,8 @@ fn single_entry(
 /// Behind the `{` of a hash.
 #[cycle(values)]
 fn pairs(alloc: Global, depth: usize, tokens: &[Lexeme]) -> Result<(Table, &[Lexeme]), ReadError>
-    ensures { GivesAs (λ table. table.entries) result (spec.behind [] (spec.read depth (symbol.Pairs []))) tokens.now }
+    ensures { GivesAs (λ table. table.entries) result
+        (spec.behind [] (spec.read depth (symbol.Pairs []))) tokens.now }
 {
     let mut found: Table = IndexMap::new(alloc);
     let rest = put_pairs(alloc, depth, &mut found, tokens)?;
@@ -260,7 +261,8 @@ fn put_settings<'a>(
     found: &mut ReadSettings,
     tokens: &'a [Lexeme],
 ) -> Result<&'a [Lexeme], ReadError>
-    ensures { Fills (values_of found.new.entries) result (spec.settings depth (values_of found.old.entries)) tokens.now }
+    ensures { Fills (values_of found.new.entries) result
+        (spec.settings depth (values_of found.old.entries)) tokens.now }
 {
     let mut rest = tokens;
     loop {

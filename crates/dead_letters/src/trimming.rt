@@ -100,7 +100,8 @@ fn trim<S: Store>(store: &mut S, gone: &[Text], last: &str, length: u64) -> Resu
         → IsCut gone.now last.now length (S.seen store.old) (S.seen store.new)) }
     ensures any_moment { AllRest S.Store store.old → EachMoment S.Store store.old store.new
         (Trims S.Store gone.now last.now length store.old) }
-    ensures beside { ReadsBeside S.Store (λ n. Contains gone.now n ⊎ (n ≡ last.now)) store.old store.new }
+    ensures beside { ReadsBeside S.Store (λ n. Contains gone.now n ⊎ (n ≡ last.now)) store.old
+        store.new }
     ensures cause { HasCause (S.faults store.old) (S.faults store.new) (IsErr result) }
 {
     remove_each(store, gone)?;
@@ -177,7 +178,8 @@ fn size_of_segment<S: Store>(
 
 /// A file that is damaged at a place.
 pub(crate) fn damaged(file: Text, place: u64, found: u64, expected: u64) -> QueueFault
-    ensures { result ≡ f.Damaged (record { file = file; place = place; found = found; expected = expected }) }
+    ensures { result ≡ f.Damaged
+        (record { file = file; place = place; found = found; expected = expected }) }
 {
     QueueFault::Damaged(Damage {
         file,

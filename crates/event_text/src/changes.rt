@@ -60,7 +60,8 @@ fn tags_path(alloc: Global) -> Result<Path, AllocError>
 
 /// What a field becomes that gets one more value: the text, or a list of the old values and it.
 pub(crate) fn text_and(text: Text, old: Option<&Value>) -> Result<Value, AllocError>
-    ensures { IfOk result (λ value. value ≡ spec.value_and (v.Text text) (option_copied old.entry)) }
+    ensures { IfOk result (λ value. value ≡ spec.value_and (v.Text text)
+        (option_copied old.entry)) }
 {
     match old {
         None => Ok(Value::Text(text)),

@@ -65,10 +65,13 @@ impl Options {
     ) -> Result<Options, AllocError>
         requires add_field { IsSome (spec.each_in spec.field_in add_field) }
         requires remove_field { IsSome (spec.each_in way_in remove_field) }
-        ensures add_field { IfOk result (λ options. spec.each_in spec.field_in add_field ≡ Some options.add_field) }
-        ensures remove_field { IfOk result (λ options. spec.each_in way_in remove_field ≡ Some options.remove_field) }
+        ensures add_field { IfOk result (λ options. spec.each_in spec.field_in add_field ≡ Some
+            options.add_field) }
+        ensures remove_field { IfOk result (λ options. spec.each_in way_in remove_field ≡ Some
+            options.remove_field) }
         ensures add_tag { IfOk result (λ options. options.add_tag ≡ map template_parts add_tag) }
-        ensures remove_tag { IfOk result (λ options. options.remove_tag ≡ map template_parts remove_tag) }
+        ensures remove_tag { IfOk result (λ options. options.remove_tag ≡ map template_parts
+            remove_tag) }
     {
         let mut options = Options::none(alloc);
         options.add_field = read_fields(alloc, add_field.as_slice())?;

@@ -189,7 +189,8 @@ fn placeholder(
 fn close_of(bytes: &[u8], at: usize, next: &mut usize) -> Option<usize>
     requires within { at < length bytes.now }
     requires next { IsNextClose bytes.now (at + 2) next.old }
-    ensures close { MatchOption result (placeholder (drop at bytes.now) ≡ None) (Encloses bytes.now at) }
+    ensures close { MatchOption result (placeholder (drop at bytes.now) ≡ None)
+        (Encloses bytes.now at) }
     ensures next { IsNextClose bytes.now (at + 2) next.new }
 {
     if !opens_at(bytes, at) {

@@ -109,7 +109,8 @@ fn field_read(
     text: &[u8],
 ) -> Option<(TimeParts, &[u8])>
     requires { count ≤ 2 }
-    ensures { as_front result ≡ spec.reads_to (spec.with_field field) parts (digits_in count text.now) }
+    ensures { as_front result ≡ spec.reads_to (spec.with_field field) parts
+        (digits_in count text.now) }
 {
     let (number, rest) = digits(count, text)?;
     Some((parts.with_field(field, number), rest))
@@ -118,7 +119,8 @@ fn field_read(
 /// So many decimals of the second; none where there are more than nine.
 fn decimals(count: usize, parts: TimeParts, text: &[u8]) -> Option<(TimeParts, &[u8])>
     requires { count ≤ 9 }
-    ensures { as_front result ≡ spec.reads_to (spec.with_decimals count) parts (digits_in count text.now) }
+    ensures { as_front result ≡ spec.reads_to (spec.with_decimals count) parts
+        (digits_in count text.now) }
 {
     let (number, rest) = digits(count, text)?;
     Some((parts.with_decimals(count, number), rest))

@@ -42,7 +42,8 @@ fn append_field(
     rest: &[Text],
     value: Value,
 ) -> Result<(), PutFault>
-    ensures { AppendAt result (part.now ∷ rest.now) value (v.Object fields.old) (v.Object fields.new) }
+    ensures { AppendAt result (part.now ∷ rest.now) value (v.Object fields.old)
+        (v.Object fields.new) }
 {
     match fields.get_mut(part.as_str()) {
         Some(inner) => append_in(inner, rest, value),

@@ -165,7 +165,8 @@ impl Event {
     }
 
     fn change_fields(&mut self, parts: &[Text], value: Value, how: How) -> Result<(), PutFault>
-        ensures { ChangesEvent result with_fields (changed how parts.now value self.old.fields) self.old self.new }
+        ensures { ChangesEvent result with_fields (changed how parts.now value self.old.fields)
+            self.old self.new }
     {
         let room = MOST_BYTES - self.size;
         match change_within(self.alloc, &mut self.fields, parts, value, how, room) {
@@ -178,7 +179,8 @@ impl Event {
     }
 
     fn change_meta(&mut self, parts: &[Text], value: Value, how: How) -> Result<(), PutFault>
-        ensures { ChangesEvent result with_meta (changed how parts.now value self.old.meta) self.old self.new }
+        ensures { ChangesEvent result with_meta (changed how parts.now value self.old.meta) self.old
+            self.new }
     {
         let room = MOST_BYTES - self.size;
         match change_within(self.alloc, &mut self.meta, parts, value, how, room) {

@@ -36,7 +36,8 @@ pub(crate) fn find<'v>(target: &'v Value, parts: &[Text]) -> Option<Found<'v>>
 #[cycle(find)]
 fn find_field<'v>(fields: &'v Fields<Value>, part: &Text, rest: &[Text]) -> Option<Found<'v>>
     requires { size (v.Object fields.now) ≤ 16777220 }
-    ensures { Finds result (take (part.now ∷ rest.now) (v.Object fields.now)) (v.Object fields.now) }
+    ensures { Finds result (take (part.now ∷ rest.now) (v.Object fields.now))
+        (v.Object fields.now) }
 {
     let value = fields.get(part.as_str())?;
     if rest.is_empty() {

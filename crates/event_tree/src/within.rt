@@ -42,7 +42,8 @@ pub(crate) fn change_within(
     requires object { IsObject target.old }
     requires shallow { depth target.old ≤ 128 }
     requires sound { sound target.old ≡ true }
-    ensures { PutsWithin result (changed how parts.now value target.old) room target.old target.new }
+    ensures { PutsWithin result (changed how parts.now value target.old) room target.old
+        target.new }
 {
     match how {
         How::Put => put_within(alloc, target, parts, value, room),
@@ -134,7 +135,8 @@ fn append_within(
     requires object { IsObject target.old }
     requires shallow { depth target.old ≤ 128 }
     requires sound { sound target.old ≡ true }
-    ensures { PutsWithin result (object_append parts.now value target.old) room target.old target.new }
+    ensures { PutsWithin result (object_append parts.now value target.old) room target.old
+        target.new }
 {
     if !holds_list(target, parts) {
         return Err(PutFault::ThroughScalar);

@@ -38,7 +38,8 @@ pub fn convert(alloc: Global, to: Conversion, value: &Value) -> Result<Change, A
 }
 
 fn convert_list(alloc: Global, to: Conversion, items: &[Value]) -> Result<Change, AllocError>
-    ensures { IfOk result (λ change. change ≡ spec.set_list (each_in (spec.item_converted to) items.now)) }
+    ensures { IfOk result (λ change. change ≡ spec.set_list
+        (each_in (spec.item_converted to) items.now)) }
 {
     match convert_items(alloc, to, items)? {
         Some(items) => Ok(Change::Set(Value::List(items))),

@@ -34,7 +34,8 @@ pub fn put_at(event: &mut Event, path: &Path, value: Value) -> Result<bool, Allo
 /// Does to the value at a path what the change says. `false` where it fails or is refused, and then
 /// the event is as it was.
 pub fn change_at(event: &mut Event, path: &Path, change: Change) -> Result<bool, AllocError>
-    ensures { IfOk result (λ fine. tried fine event.new ≡ spec.change_at path.now change event.old) }
+    ensures { IfOk result (λ fine. tried fine event.new ≡ spec.change_at path.now change
+        event.old) }
 {
     match change {
         Change::Keep => Ok(true),
@@ -51,7 +52,8 @@ pub fn finish(
     options: &Options,
     tag: &Text,
 ) -> Result<Applied, AllocError>
-    ensures { IfOk result (λ applied. applied ≡ spec.finished options.now tag.now (tried fine event)) }
+    ensures { IfOk result (λ applied. applied ≡ spec.finished options.now tag.now
+        (tried fine event)) }
 {
     let event = if fine {
         options.apply(event)?

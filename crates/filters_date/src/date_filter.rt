@@ -197,7 +197,8 @@ fn number_in(value: &Value) -> Option<Number>
 
 /// The field and the texts of the formats of the setting `match`.
 fn read_match(alloc: Global, name: &str, value: &SettingValue) -> Result<(Path, Names), FromFault>
-    ensures { Gives result (wanted name.now (option_and_then spec.field_and_formats (readers.texts_of value.now))) }
+    ensures { Gives result (wanted name.now (option_and_then spec.field_and_formats
+        (readers.texts_of value.now))) }
 {
     let texts = read_texts(alloc, name, value)?;
     wanted(alloc, name, field_and_formats(alloc, texts)?)
@@ -242,7 +243,8 @@ fn formats(alloc: Global, texts: &[Text]) -> Result<Option<Items<DateFormat>>, A
 
 /// `UTC`, or an offset as `+02:00`.
 fn read_timezone(alloc: Global, name: &str, value: &SettingValue) -> Result<i32, FromFault>
-    ensures { Gives result (wanted name.now (option_and_then spec.timezone_of (readers.text_of value.now))) }
+    ensures { Gives result (wanted name.now (option_and_then spec.timezone_of
+        (readers.text_of value.now))) }
 {
     let text = read_text(alloc, name, value)?;
     wanted(alloc, name, timezone_of(text.as_str()))

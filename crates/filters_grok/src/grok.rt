@@ -175,7 +175,8 @@ fn search_fields(
     how: How,
     event: &mut Event,
 ) -> Result<bool, AllocError>
-    ensures done { IfOk result (λ fine. tried fine event.new ≡ spec.searched how fields.old false event.old) }
+    ensures done { IfOk result (λ fine. tried fine event.new ≡ spec.searched how fields.old false
+        event.old) }
     ensures same { fields.new ≡ fields.old }
 {
     let mut matched = false;
@@ -212,7 +213,8 @@ fn search_field(
     how: How,
     event: &mut Event,
 ) -> Result<Searched, AllocError>
-    ensures done { IfOk result (λ found. spec.found_in found event.new ≡ spec.field_searched how field.old event.old) }
+    ensures done { IfOk result (λ found. spec.found_in found event.new ≡ spec.field_searched how
+        field.old event.old) }
     ensures missed { IfOk result (λ found. found ≡ Searched.Missed → event.new ≡ event.old) }
     ensures same { field.new ≡ field.old }
 {

@@ -80,7 +80,8 @@ impl GrokPattern {
         number: usize,
         text: &str,
     ) -> Result<Option<Items<Put>>, AllocError>
-        ensures found { IfOk result (λ puts. puts ≡ spec.puts_in keep_empty number self.old text.now) }
+        ensures found { IfOk result (λ puts. puts ≡ spec.puts_in keep_empty number self.old
+            text.now) }
         ensures same { self.new ≡ self.old }
     {
         match self.spans(text)? {
@@ -115,7 +116,8 @@ fn captured(
     captures: &[Capture],
 ) -> Result<Items<Put>, AllocError>
     requires { AreSpansIn text.now spans.now }
-    ensures { IfOk result (λ puts. puts ≡ spec.captured keep_empty number text.now spans.now [] captures.now) }
+    ensures { IfOk result (λ puts. puts ≡ spec.captured keep_empty number text.now spans.now []
+        captures.now) }
 {
     let mut puts = Items::with_capacity(alloc, captures.len())?;
     for index in 0..captures.len() {
@@ -175,7 +177,8 @@ fn kept_at<'t>(
     capture: &Capture,
 ) -> Option<&'t str>
     requires { AreSpansIn text.now spans.now }
-    ensures { option_map (λ found. found.now) result ≡ spec.kept_at keep_empty text.now spans.now capture.now }
+    ensures { option_map (λ found. found.now) result ≡ spec.kept_at keep_empty text.now spans.now
+        capture.now }
 {
     let (start, end) = span_at(text, spans, capture.group)?;
     let found = &text[start..end];
@@ -189,7 +192,8 @@ fn kept_at<'t>(
 fn span_at(text: &str, spans: &[Option<(usize, usize)>], group: usize) -> Option<(usize, usize)>
     requires { AreSpansIn text.now spans.now }
     ensures value { result ≡ spec.span_at group spans.now }
-    ensures inside { IfSome result (λ s. LiesWithin 0 (length text.now) s × CutsCleanly text.now s) }
+    ensures inside { IfSome result (λ s. LiesWithin 0 (length text.now) s × CutsCleanly text.now
+        s) }
 {
     match spans.get(group) {
         Some(span) => *span,

@@ -71,7 +71,8 @@ fn search_values(
     values: &[Value],
     finds: &mut Finds,
 ) -> Result<(), AllocError>
-    ensures found { OnOk result (finds.new ≡ spec.both how finds.old (spec.values_finds how patterns.old values.now)) }
+    ensures found { OnOk result (finds.new ≡ spec.both how finds.old
+        (spec.values_finds how patterns.old values.now)) }
     ensures same { patterns.new ≡ patterns.old }
 {
     for value in values {
@@ -88,7 +89,8 @@ fn search_item(
     value: &Value,
     finds: &mut Finds,
 ) -> Result<(), AllocError>
-    ensures found { OnOk result (finds.new ≡ spec.both how finds.old (spec.item_finds how patterns.old value.now)) }
+    ensures found { OnOk result (finds.new ≡ spec.both how finds.old
+        (spec.item_finds how patterns.old value.now)) }
     ensures same { patterns.new ≡ patterns.old }
 {
     if how.ends && finds.matched {
@@ -112,7 +114,8 @@ fn search_text(
     text: &str,
     finds: &mut Finds,
 ) -> Result<(), AllocError>
-    ensures found { OnOk result (finds.new ≡ spec.both how finds.old (spec.text_finds how 0 patterns.old text.now)) }
+    ensures found { OnOk result (finds.new ≡ spec.both how finds.old
+        (spec.text_finds how 0 patterns.old text.now)) }
     ensures same { patterns.new ≡ patterns.old }
 {
     for number in 0..patterns.len() {
@@ -152,7 +155,8 @@ fn find(
     text: &str,
     finds: &mut Finds,
 ) -> Result<(), AllocError>
-    ensures found { OnOk result (finds.new ≡ spec.and_finds finds.old (spec.pattern_finds how number pattern.old text.now)) }
+    ensures found { OnOk result (finds.new ≡ spec.and_finds finds.old
+        (spec.pattern_finds how number pattern.old text.now)) }
     ensures same { pattern.new ≡ pattern.old }
 {
     match pattern.puts(alloc, how.keep_empty, number, text)? {
@@ -169,7 +173,8 @@ pub(crate) fn put_all(
     puts: Items<Put>,
     event: &mut Event,
 ) -> Result<bool, AllocError>
-    ensures { IfOk result (λ fine. tried fine event.new ≡ all_tried (spec.put_in patterns.now) puts event.old) }
+    ensures { IfOk result (λ fine. tried fine event.new ≡ all_tried (spec.put_in patterns.now) puts
+        event.old) }
 {
     for put in puts.into_vec() {
         if !put_in(alloc, patterns, put, event)? {
@@ -209,7 +214,8 @@ fn put_capture(
     joins: bool,
     event: &mut Event,
 ) -> Result<bool, AllocError>
-    ensures { IfOk result (λ fine. tried fine event.new ≡ spec.put_capture joins value capture.now event.old) }
+    ensures { IfOk result (λ fine. tried fine event.new ≡ spec.put_capture joins value capture.now
+        event.old) }
 {
     let value = if joins {
         value_and(alloc, value, event.get(&capture.path))?

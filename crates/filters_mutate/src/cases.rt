@@ -28,7 +28,8 @@ pub(crate) fn change_cases(
     fields: &[Path],
     event: &mut Event,
 ) -> Result<bool, AllocError>
-    ensures { IfOk result (λ fine. tried fine event.new ≡ all_tried (spec.cased_at case) fields.now event.old) }
+    ensures { IfOk result (λ fine. tried fine event.new ≡ all_tried (spec.cased_at case) fields.now
+        event.old) }
 {
     for field in fields {
         if !change_case(alloc, case, field, event)? {
@@ -51,7 +52,8 @@ fn change_case(
 }
 
 fn cased(alloc: Global, case: Case, value: Option<&Value>) -> Result<Change, AllocError>
-    ensures { IfOk result (λ change. change ≡ over (spec.cased case) c.Keep (option_copied value.entry)) }
+    ensures { IfOk result (λ change. change ≡ over (spec.cased case) c.Keep
+        (option_copied value.entry)) }
 {
     match value {
         Some(Value::Text(text)) => {
@@ -119,7 +121,8 @@ pub(crate) fn strip_all(
     fields: &[Path],
     event: &mut Event,
 ) -> Result<bool, AllocError>
-    ensures { IfOk result (λ fine. tried fine event.new ≡ all_tried spec.stripped_at fields.now event.old) }
+    ensures { IfOk result (λ fine. tried fine event.new ≡ all_tried spec.stripped_at fields.now
+        event.old) }
 {
     for field in fields {
         if !strip_one(alloc, field, event)? {

@@ -13,7 +13,8 @@ pub(crate) fn convert_all(
     fields: &[(Path, Conversion)],
     event: &mut Event,
 ) -> Result<bool, AllocError>
-    ensures { IfOk result (λ fine. tried fine event.new ≡ all_tried spec.converted_at fields.now event.old) }
+    ensures { IfOk result (λ fine. tried fine event.new ≡ all_tried spec.converted_at fields.now
+        event.old) }
 {
     for field in fields {
         if !convert_at(alloc, &field.0, field.1, event)? {
@@ -29,7 +30,8 @@ fn convert_at(
     to: Conversion,
     event: &mut Event,
 ) -> Result<bool, AllocError>
-    ensures { IfOk result (λ fine. tried fine event.new ≡ spec.converted_at (path.now, to) event.old) }
+    ensures { IfOk result (λ fine. tried fine event.new ≡ spec.converted_at (path.now, to)
+        event.old) }
 {
     let change = match event.get(path) {
         Some(value) => convert(alloc, to, value)?,

@@ -26,7 +26,8 @@ pub(crate) fn fill_all(
     fields: &[(Path, Template)],
     event: &mut Event,
 ) -> Result<bool, AllocError>
-    ensures { IfOk result (λ fine. tried fine event.new ≡ all_tried (spec.filled how) fields.now event.old) }
+    ensures { IfOk result (λ fine. tried fine event.new ≡ all_tried (spec.filled how) fields.now
+        event.old) }
 {
     for field in fields {
         if !fill_one(how, field, event)? {
@@ -60,7 +61,8 @@ fn fill_one(how: Fill, field: &(Path, Template), event: &mut Event) -> Result<bo
 }
 
 fn put_filled(path: &Path, template: &Template, event: &mut Event) -> Result<bool, AllocError>
-    ensures { IfOk result (λ fine. tried fine event.new ≡ spec.filled fills.Replace (path.now, template.now) event.old) }
+    ensures { IfOk result (λ fine. tried fine event.new ≡ spec.filled fills.Replace
+        (path.now, template.now) event.old) }
 {
     let text = template.fill(event)?;
     put_at(event, path, Value::Text(text))

@@ -72,7 +72,8 @@ impl Gsub {
     }
 
     fn act(&mut self, event: &mut Event) -> Result<bool, AllocError>
-        ensures done { IfOk result (λ fine. tried fine event.new ≡ operations.substituted_at self.old event.old) }
+        ensures done { IfOk result (λ fine. tried fine event.new ≡ operations.substituted_at
+            self.old event.old) }
         ensures same { self.new ≡ self.old }
     {
         let change = match event.get(&self.says.field) {
@@ -83,7 +84,8 @@ impl Gsub {
     }
 
     fn replaced(&mut self, text: &str) -> Result<Text, AllocError>
-        ensures value { IfOk result (λ replaced. replaced ≡ substituted self.old.pattern self.old.replacement text.now) }
+        ensures value { IfOk result (λ replaced. replaced ≡ substituted self.old.pattern
+            self.old.replacement text.now) }
         ensures same { self.new ≡ self.old }
     {
         self.pattern
@@ -93,7 +95,8 @@ impl Gsub {
 
 /// The substitutions in their order, up to the first that fails.
 pub(crate) fn substitute_all(gsubs: &mut Items<Gsub>, event: &mut Event) -> Result<bool, AllocError>
-    ensures done { IfOk result (λ fine. tried fine event.new ≡ all_tried operations.substituted_at gsubs.old event.old) }
+    ensures done { IfOk result (λ fine. tried fine event.new ≡ all_tried operations.substituted_at
+        gsubs.old event.old) }
     ensures same { gsubs.new ≡ gsubs.old }
 {
     for index in 0..gsubs.len() {
@@ -164,7 +167,8 @@ fn read_substitution(
     pattern: &Text,
     replacement: &Text,
 ) -> Result<Option<Substitution>, AllocError>
-    ensures { IfOk result (λ found. found ≡ spec.substitution field.now pattern.now replacement.now) }
+    ensures { IfOk result (λ found. found ≡ spec.substitution field.now pattern.now
+        replacement.now) }
 {
     let Some(field) = path_in(alloc, field.as_str())? else {
         return Ok(None);

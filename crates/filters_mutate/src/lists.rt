@@ -30,7 +30,8 @@ pub(crate) fn list_all(
     fields: &[(Path, Text)],
     event: &mut Event,
 ) -> Result<bool, AllocError>
-    ensures { IfOk result (λ fine. tried fine event.new ≡ all_tried (spec.listed how) fields.now event.old) }
+    ensures { IfOk result (λ fine. tried fine event.new ≡ all_tried (spec.listed how) fields.now
+        event.old) }
 {
     for field in fields {
         if !list_one(alloc, how, field, event)? {
@@ -58,7 +59,8 @@ fn list_one(
 }
 
 fn split(alloc: Global, value: Option<&Value>, separator: &str) -> Result<Change, AllocError>
-    ensures { IfOk result (λ change. change ≡ over (spec.split_by separator.now) c.Keep (option_copied value.entry)) }
+    ensures { IfOk result (λ change. change ≡ over (spec.split_by separator.now) c.Keep
+        (option_copied value.entry)) }
 {
     match value {
         Some(Value::Text(text)) => {
@@ -81,7 +83,8 @@ fn texts(names: Names) -> Result<Items<Value>, AllocError>
 }
 
 fn join(alloc: Global, value: Option<&Value>, separator: &str) -> Result<Change, AllocError>
-    ensures { IfOk result (λ change. change ≡ over (spec.join_by separator.now) c.Keep (option_copied value.entry)) }
+    ensures { IfOk result (λ change. change ≡ over (spec.join_by separator.now) c.Keep
+        (option_copied value.entry)) }
 {
     match value {
         Some(Value::List(items)) => {

@@ -28,7 +28,8 @@ pub(crate) fn move_all(
     fields: &[(Path, Path)],
     event: &mut Event,
 ) -> Result<bool, AllocError>
-    ensures { IfOk result (λ fine. tried fine event.new ≡ all_tried (spec.moved how) fields.now event.old) }
+    ensures { IfOk result (λ fine. tried fine event.new ≡ all_tried (spec.moved how) fields.now
+        event.old) }
 {
     for field in fields {
         if !move_one(alloc, how, field, event)? {
@@ -54,7 +55,8 @@ fn move_one(
 }
 
 fn rename(from: &Path, to: &Path, event: &mut Event) -> Result<bool, AllocError>
-    ensures { IfOk result (λ fine. tried fine event.new ≡ spec.moved moves.Rename (from.now, to.now) event.old) }
+    ensures { IfOk result (λ fine. tried fine event.new ≡ spec.moved moves.Rename (from.now, to.now)
+        event.old) }
 {
     match event.rename(from, to) {
         Ok(_) => Ok(true),
@@ -66,7 +68,8 @@ fn rename(from: &Path, to: &Path, event: &mut Event) -> Result<bool, AllocError>
 }
 
 fn copy(from: &Path, to: &Path, event: &mut Event) -> Result<bool, AllocError>
-    ensures { IfOk result (λ fine. tried fine event.new ≡ spec.moved moves.Copy (from.now, to.now) event.old) }
+    ensures { IfOk result (λ fine. tried fine event.new ≡ spec.moved moves.Copy (from.now, to.now)
+        event.old) }
 {
     let copy = match event.get(from) {
         Some(value) => value.copy()?,
@@ -76,7 +79,8 @@ fn copy(from: &Path, to: &Path, event: &mut Event) -> Result<bool, AllocError>
 }
 
 fn merge(alloc: Global, into: &Path, from: &Path, event: &mut Event) -> Result<bool, AllocError>
-    ensures { IfOk result (λ fine. tried fine event.new ≡ spec.moved moves.Merge (into.now, from.now) event.old) }
+    ensures { IfOk result (λ fine. tried fine event.new ≡ spec.moved moves.Merge
+        (into.now, from.now) event.old) }
 {
     let Some(value) = event.get(into) else {
         return Ok(true);

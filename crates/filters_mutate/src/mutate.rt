@@ -177,7 +177,8 @@ impl Mutate {
     // These operations in their order, up to the first that fails.
     #[tactic(auto, using(filter_settings::proofs::Steps::trying))]
     fn operate(&mut self, order: &[Operation], event: &mut Event) -> Result<bool, AllocError>
-        ensures done { IfOk result (λ fine. tried fine event.new ≡ all_tried (spec.operated self.old) order.now event.old) }
+        ensures done { IfOk result (λ fine. tried fine event.new ≡ all_tried
+            (spec.operated self.old) order.now event.old) }
         ensures same { self.new ≡ self.old }
     {
         for operation in order {
@@ -189,7 +190,8 @@ impl Mutate {
     }
 
     fn act(&mut self, operation: Operation, event: &mut Event) -> Result<bool, AllocError>
-        ensures done { IfOk result (λ fine. tried fine event.new ≡ spec.operated self.old operation event.old) }
+        ensures done { IfOk result (λ fine. tried fine event.new ≡ spec.operated self.old operation
+            event.old) }
         ensures same { self.new ≡ self.old }
     {
         let alloc = self.gsub.allocator();

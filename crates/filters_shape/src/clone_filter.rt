@@ -72,7 +72,8 @@ impl CloneFilter {
 
     #[tactic(auto, using(event_text::proofs::Going::going))]
     fn copies(&self, event: &Event) -> Result<Events, AllocError>
-        ensures { IfOk result (λ copies. copies ≡ map (spec.clone_named self.now event.now) self.now.clones) }
+        ensures { IfOk result (λ copies. copies ≡ map (spec.clone_named self.now event.now)
+            self.now.clones) }
     {
         let mut copies = Events::new(self.clones.allocator());
         for name in self.clones.as_slice() {

@@ -227,7 +227,8 @@ impl Csv {
     }
 
     fn put_fields(&self, event: &mut Event, row: Names) -> Result<bool, AllocError>
-        ensures { IfOk result (λ fine. tried fine event.new ≡ spec.put_fields self.now 0 row event.old) }
+        ensures { IfOk result (λ fine. tried fine event.new ≡ spec.put_fields self.now 0 row
+            event.old) }
     {
         // Read for the proof alone: a length fits in a usize, so each place below it does.
         let _count = row.len();
@@ -244,7 +245,8 @@ impl Csv {
     /// The field of the column at this place of the row.
     fn put_column(&self, event: &mut Event, index: usize, text: Text) -> Result<bool, AllocError>
         requires { index + 1 ≤ 2 ^ 64 - 1 }
-        ensures { IfOk result (λ fine. tried fine event.new ≡ spec.put_column self.now index text event.old) }
+        ensures { IfOk result (λ fine. tried fine event.new ≡ spec.put_column self.now index text
+            event.old) }
     {
         match self.places.get(index) {
             Some(column) => self.put_field(event, column, text),
@@ -254,7 +256,8 @@ impl Csv {
 
     /// The field of a column that has no name.
     fn put_unnamed(&self, event: &mut Event, number: usize, text: Text) -> Result<bool, AllocError>
-        ensures { IfOk result (λ fine. tried fine event.new ≡ spec.put_unnamed self.now number text event.old) }
+        ensures { IfOk result (λ fine. tried fine event.new ≡ spec.put_unnamed self.now number text
+            event.old) }
     {
         if !self.autogenerate_column_names {
             return Ok(true);
@@ -264,7 +267,8 @@ impl Csv {
     }
 
     fn put_field(&self, event: &mut Event, column: &Column, text: Text) -> Result<bool, AllocError>
-        ensures { IfOk result (λ fine. tried fine event.new ≡ spec.put_field self.now column.now text event.old) }
+        ensures { IfOk result (λ fine. tried fine event.new ≡ spec.put_field self.now column.now
+            text event.old) }
     {
         if self.skip_empty_columns && text.is_empty() {
             return Ok(true);

@@ -107,7 +107,8 @@ impl Json {
     }
 
     fn put_value(&self, event: &mut Event, value: Value) -> Result<bool, AllocError>
-        ensures { IfOk result (λ fine. tried fine event.new ≡ spec.put_value self.now value event.old) }
+        ensures { IfOk result (λ fine. tried fine event.new ≡ spec.put_value self.now value
+            event.old) }
     {
         match &self.target {
             Some(target) => put_at(event, target, value),

@@ -174,7 +174,8 @@ impl Kv {
     }
 
     fn fields(&self, pairs: &[(&str, &str)]) -> Result<Vec<(Text, Text)>, AllocError>
-        ensures { IfOk result (λ fields. fields.items ≡ spec.fields_of self.now (map both_chars pairs.now)) }
+        ensures { IfOk result (λ fields. fields.items ≡ spec.fields_of self.now
+            (map both_chars pairs.now)) }
     {
         let mut fields = Vec::new(self.prefix.allocator());
         for pair in pairs {

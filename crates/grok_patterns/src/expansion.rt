@@ -160,7 +160,8 @@ fn begin<'r>(
     field: &Option<Field>,
     to: &mut Draft,
 ) -> Result<Option<&'r [Piece]>, AllocError>
-    ensures { IfOk result (λ found. option_map (λ ps. (ps.now, to.new)) found ≡ spec.begun rules.now name.now field.now to.old) }
+    ensures { IfOk result (λ found. option_map (λ ps. (ps.now, to.new)) found ≡ spec.begun rules.now
+        name.now field.now to.old) }
 {
     let Some(inner) = pieces_named(rules.known.as_slice(), name.as_str()) else {
         return Ok(None);
@@ -246,7 +247,8 @@ impl Draft {
 
     // Begins the group of a reference.
     fn open(&mut self, rules: &Rules, field: &Option<Field>) -> Result<bool, AllocError>
-        ensures { IfOk result (λ fine. went fine self.new ≡ spec.begin_group rules.now field.now self.old) }
+        ensures { IfOk result (λ fine. went fine self.new ≡ spec.begin_group rules.now field.now
+            self.old) }
     {
         match field {
             None => self.write("(?:"),
@@ -262,7 +264,8 @@ impl Draft {
 
     // Begins a group that was written with a name. Where no group can begin it stays as written.
     fn open_named(&mut self, rules: &Rules, name: &str) -> Result<bool, AllocError>
-        ensures { IfOk result (λ fine. went fine self.new ≡ spec.open_named rules.now name.now self.old) }
+        ensures { IfOk result (λ fine. went fine self.new ≡ spec.open_named rules.now name.now
+            self.old) }
     {
         if !self.scan.may_open() {
             return self.write_name(name);
@@ -274,7 +277,8 @@ impl Draft {
     }
 
     fn write_name(&mut self, name: &str) -> Result<bool, AllocError>
-        ensures { IfOk result (λ fine. went fine self.new ≡ spec.write (spec.written_name name.now) self.old) }
+        ensures { IfOk result (λ fine. went fine self.new ≡ spec.write (spec.written_name name.now)
+            self.old) }
     {
         let mut written = String::from_str(self.captures.allocator(), "(?<")?;
         written.push_str(name)?;
@@ -284,7 +288,8 @@ impl Draft {
 
     // Begins a group that is kept.
     fn keep(&mut self, rules: &Rules, path: &Path, coercion: Coercion) -> Result<bool, AllocError>
-        ensures { IfOk result (λ fine. went fine self.new ≡ spec.keep rules.now path.now coercion self.old) }
+        ensures { IfOk result (λ fine. went fine self.new ≡ spec.keep rules.now path.now coercion
+            self.old) }
     {
         self.scan = self.scan.opened()?;
         let capture = capture_of(rules, path, coercion, self.scan.groups)?;
@@ -361,7 +366,8 @@ fn add_library(
     all_kept: bool,
     library: &[(&str, &str)],
 ) -> Result<(), AllocError>
-    ensures { OnOk result (known.new ≡ known.old ++ map (spec.read all_kept) (map pair_of library.now)) }
+    ensures { OnOk result (known.new ≡ known.old ++ map (spec.read all_kept)
+        (map pair_of library.now)) }
 {
     for one in library {
         add_known(known, all_kept, one.0, one.1)?;
@@ -371,7 +377,8 @@ fn add_library(
 
 // A name, and the pieces of the pattern that it stands for.
 fn add_known(known: &mut Known, all_kept: bool, name: &str, pattern: &str) -> Result<(), AllocError>
-    ensures { OnOk result (known.new ≡ known.old ++ spec.read all_kept (name.now, pattern.now) ∷ []) }
+    ensures { OnOk result (known.new ≡ known.old ++ spec.read all_kept (name.now, pattern.now) ∷
+        []) }
 {
     let alloc = known.allocator();
     let pieces = read_pieces(alloc, all_kept, pattern)?;

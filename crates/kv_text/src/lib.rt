@@ -37,7 +37,8 @@ impl Splits {
         alloc: Global,
         text: &'t str,
     ) -> Result<Vec<(&'t str, &'t str)>, AllocError>
-        ensures { IfOk result (λ pairs. map both_chars pairs.items ≡ spec.pairs_in self.now (chars text.now)) }
+        ensures { IfOk result (λ pairs. map both_chars pairs.items ≡ spec.pairs_in self.now
+            (chars text.now)) }
     {
         let mut found = Vec::new(alloc);
         let mut unclosed = Vec::new(alloc);
@@ -64,8 +65,10 @@ impl Splits {
         unclosed: &mut Vec<char>,
     ) -> Result<(Option<(&'t str, &'t str)>, &'t str), AllocError>
         requires { spec.are_missing unclosed.old.items (chars text.now) ≡ true }
-        ensures piece { IfOk result (λ piece. piece_of piece ≡ spec.piece_at self.now (chars text.now)) }
-        ensures unclosed { IfOk result (λ piece. spec.are_missing unclosed.new.items (spec.behind self.now.fields (chars piece.1.now)) ≡ true) }
+        ensures piece { IfOk result (λ piece. piece_of piece ≡ spec.piece_at self.now
+            (chars text.now)) }
+        ensures unclosed { IfOk result (λ piece. spec.are_missing unclosed.new.items
+            (spec.behind self.now.fields (chars piece.1.now)) ≡ true) }
     {
         let (key, rest) = cut(text, self.keys.as_slice());
         if key.is_empty() {
@@ -91,8 +94,10 @@ impl Splits {
         unclosed: &mut Vec<char>,
     ) -> Result<(Option<&'t str>, &'t str), AllocError>
         requires { spec.are_missing unclosed.old.items (chars text.now) ≡ true }
-        ensures found { IfOk result (λ found. found_of found ≡ spec.value_at self.now (chars text.now)) }
-        ensures unclosed { IfOk result (λ found. spec.are_missing unclosed.new.items (spec.behind self.now.fields (chars found.1.now)) ≡ true) }
+        ensures found { IfOk result (λ found. found_of found ≡ spec.value_at self.now
+            (chars text.now)) }
+        ensures unclosed { IfOk result (λ found. spec.are_missing unclosed.new.items
+            (spec.behind self.now.fields (chars found.1.now)) ≡ true) }
     {
         match enclosed(text, unclosed)? {
             Some((value, behind)) => Ok((Some(value), self.next_piece(behind))),
@@ -118,7 +123,8 @@ fn add_pair<'t>(
 }
 
 fn with_key<'t>(key: &'t str, value: Option<&'t str>) -> Option<(&'t str, &'t str)>
-    ensures { option_map both_chars result ≡ option_map (λ value. (chars key.now, value)) (option_map (λ v. chars v.now) value.entry) }
+    ensures { option_map both_chars result ≡ option_map (λ value. (chars key.now, value))
+        (option_map (λ v. chars v.now) value.entry) }
 {
     match value {
         Some(value) => Some((key, value)),
@@ -139,8 +145,10 @@ fn enclosed<'t>(
     unclosed: &mut Vec<char>,
 ) -> Result<Option<(&'t str, &'t str)>, AllocError>
     requires { spec.are_missing unclosed.old.items (chars text.now) ≡ true }
-    ensures found { IfOk result (λ found. option_map both_chars found ≡ spec.enclosed (chars text.now)) }
-    ensures unclosed { OnOk result (spec.are_missing unclosed.new.items (drop 1 (chars text.now)) ≡ true) }
+    ensures found { IfOk result (λ found. option_map both_chars found ≡ spec.enclosed
+        (chars text.now)) }
+    ensures unclosed { OnOk result (spec.are_missing unclosed.new.items (drop 1 (chars text.now)) ≡
+        true) }
 {
     let mut inside = text.chars();
     let Some(first) = inside.next() else {
@@ -159,7 +167,8 @@ fn closed<'t>(
     unclosed: &mut Vec<char>,
 ) -> Result<Option<(&'t str, &'t str)>, AllocError>
     requires { spec.are_missing unclosed.old.items (chars text.now) ≡ true }
-    ensures found { IfOk result (λ found. option_map both_chars found ≡ spec.cut_at closing (chars text.now)) }
+    ensures found { IfOk result (λ found. option_map both_chars found ≡ spec.cut_at closing
+        (chars text.now)) }
     ensures unclosed { OnOk result (spec.are_missing unclosed.new.items (chars text.now) ≡ true) }
 {
     if unclosed.contains(&closing) {
@@ -190,7 +199,11 @@ fn closing(opening: char) -> Option<char>
 
 /// The text before the first character of a set, and the text from it on.
 fn cut<'t>(text: &'t str, set: &[char]) -> (&'t str, &'t str)
-    ensures { both_chars result ≡ (spec.until set.now (chars text.now), spec.since set.now (chars text.now)) }
+    ensures { both_chars result ≡ (
+      spec.until set.now (chars text.now),
+      spec.since set.now
+          (chars text.now),
+    ) }
 {
     match text.find(set) {
         Some(at) => text.split_at(at),
@@ -200,7 +213,8 @@ fn cut<'t>(text: &'t str, set: &[char]) -> (&'t str, &'t str)
 
 /// The text behind its first character, where that is one of a set.
 fn behind_one<'t>(text: &'t str, set: &[char]) -> Option<&'t str>
-    ensures { option_map (λ rest. chars rest.now) result ≡ spec.behind_one set.now (chars text.now) }
+    ensures { option_map (λ rest. chars rest.now) result ≡ spec.behind_one set.now
+        (chars text.now) }
 {
     text.strip_prefix(set)
 }

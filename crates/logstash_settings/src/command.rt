@@ -135,7 +135,8 @@ fn with_options<'a>(
     options: &[CommandOption],
     start: Command<'a>,
 ) -> Result<Command<'a>, AllocError>
-    ensures { IfOk result (λ command. app_of command ≡ with_options (app_of start.entry) options.now) }
+    ensures { IfOk result (λ command. app_of command ≡ with_options (app_of start.entry)
+        options.now) }
 {
     let mut command = start;
     for option in options {

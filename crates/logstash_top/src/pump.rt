@@ -95,7 +95,8 @@ fn take_piece<O: Sink>(
     ensures ok { OnOk result
         (Took O.Sink sink.old sink.new (rows_fed moment reader.old bytes.now)) }
     ensures part { TookInPart O.Sink sink.old sink.new (rows_fed moment reader.old bytes.now) }
-    ensures cause { HasCause (O.faults sink.old) (O.faults sink.new) (result ≡ Err RunFault.Output) }
+    ensures cause { HasCause (O.faults sink.old) (O.faults sink.new)
+        (result ≡ Err RunFault.Output) }
     ensures not_input { ¬ (result ≡ Err RunFault.Input) }
     ensures left { OnOk result (lines_left reader.new ≡ []) }
     ensures rest { OnOk result (rest_of reader.new ≡ rest_of (fed reader.old bytes.now)) }

@@ -22,7 +22,8 @@ pub(crate) fn write_lines<O: Sink>(
 ) -> Result<(), RunFault>
     ensures ok { OnOk result (Took O.Sink sink.old sink.new (rows_left moment reader.old)) }
     ensures part { TookInPart O.Sink sink.old sink.new (rows_left moment reader.old) }
-    ensures cause { HasCause (O.faults sink.old) (O.faults sink.new) (result ≡ Err RunFault.Output) }
+    ensures cause { HasCause (O.faults sink.old) (O.faults sink.new)
+        (result ≡ Err RunFault.Output) }
     ensures not_input { ¬ (result ≡ Err RunFault.Input) }
     ensures left { OnOk result (lines_left reader.new ≡ []) }
     ensures rest { OnOk result (KeepsRest reader.old reader.new) }
@@ -51,7 +52,8 @@ fn write_line<O: Sink>(
 ) -> Result<(), RunFault>
     ensures ok { OnOk result (Took O.Sink sink.old sink.new (row_at moment line.now)) }
     ensures part { TookInPart O.Sink sink.old sink.new (row_at moment line.now) }
-    ensures cause { HasCause (O.faults sink.old) (O.faults sink.new) (result ≡ Err RunFault.Output) }
+    ensures cause { HasCause (O.faults sink.old) (O.faults sink.new)
+        (result ≡ Err RunFault.Output) }
     ensures not_input { ¬ (result ≡ Err RunFault.Input) }
 {
     let event = line_event(alloc, line, moment)?;

@@ -46,7 +46,11 @@ impl Total {
     /// The sum with one number more.
     pub(crate) fn with(self, number: u64) -> Total
         requires { self.sum < 2 ^ 100 }
-        ensures { result ≡ record { sum = self.sum + number; stuck = self.stuck || (number == last) } }
+        ensures { result ≡ record {
+          sum = self.sum + number;
+          stuck = self.stuck ||
+              (number == last);
+        } }
     {
         Total {
             sum: self.sum + u128::from(number),

@@ -87,7 +87,8 @@ impl Monitor {
         ensures monitor { IfOk result (λ made. seats_of made.monitor ≡ seats) }
         ensures seats { IfOk result (λ made. length made.seats ≡ seats) }
         ensures own { IfOk result (λ made. All (IsSeatOf made.monitor) made.seats) }
-        ensures nothing { IfOk result (λ made. All (λ seat. counts seat ≡ replicate 4 0) made.seats) }
+        ensures nothing { IfOk result (λ made. All (λ seat. counts seat ≡ replicate 4 0)
+            made.seats) }
     {
         let seats = seats as usize;
         let words = vec![in alloc; 0u64; 4 * seats]?;
@@ -141,7 +142,8 @@ impl Monitor {
     pub fn read(&self, seat: &mut CountSeat, counter: Counter) -> Total
         requires { IsSeatOf self.now seat.old }
         ensures same { seat.new ≡ seat.old }
-        ensures total { AddsUp (seats_of self.now) (number_of seat.old) (counted counter seat.old) result }
+        ensures total { AddsUp (seats_of self.now) (number_of seat.old) (counted counter seat.old)
+            result }
     {
         let mut total = Total {
             sum: 0,

@@ -101,7 +101,8 @@ pub(crate) fn opened<S: Store>(store: &mut S, path: Text, slot: Text) -> Result<
 }
 
 fn damaged(file: Text, place: u64, found: u64, expected: u64) -> QueueFault
-    ensures { result ≡ f.Damaged (record { file = file; place = place; found = found; expected = expected }) }
+    ensures { result ≡ f.Damaged
+        (record { file = file; place = place; found = found; expected = expected }) }
 {
     QueueFault::Damaged(Damage {
         file,

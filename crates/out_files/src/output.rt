@@ -71,7 +71,8 @@ impl OutFile {
 
         ensures any_moment { path.now ≢ slot.now → EachMoment S.Store store.old store.new
             (LeavesHeld S.Store path.now slot.now store.old) }
-        ensures beside { ReadsBeside S.Store (λ n. (n ≡ path.now) ⊎ (n ≡ slot.now)) store.old store.new }
+        ensures beside { ReadsBeside S.Store (λ n. (n ≡ path.now) ⊎ (n ≡ slot.now)) store.old
+            store.new }
         ensures memory { result ≡ Err f.Memory → store.new ≡ store.old }
         ensures cause { HasCause (S.faults store.old) (S.faults store.new) (result ≡ Err f.Fault) }
     {

@@ -69,7 +69,8 @@ impl Matcher {
         ensures found { IfOk result (λ found. found
             ≡ option_map (spans_of (pattern_groups (shown self.old))) (find_str (pattern_re (shown self.old)) text.now 0)) }
         ensures inside { IfOk result (λ found. IfSome found (AreSpansIn text.now)) }
-        ensures without_match { find_str (pattern_re (shown self.old)) text.now 0 ≡ None → IsOk result }
+        ensures without_match { find_str (pattern_re (shown self.old)) text.now 0 ≡ None → IsOk
+            result }
         ensures same { IsSamePattern (shown self.old) (shown self.new) }
     {
         match self.find(text, 0) {
@@ -139,7 +140,8 @@ impl Matcher {
     // What the group with this number matched; nothing where it took no part, or isn't there.
     fn group_text<'t>(&self, text: &'t str, whole: (usize, usize), index: usize) -> &'t str
         requires { IsMatchSpan true text.now whole }
-        ensures { result.now ≡ bytes_of text.now (group_span true text.now whole self.now.cells.items index) }
+        ensures { result.now ≡ bytes_of text.now
+            (group_span true text.now whole self.now.cells.items index) }
     {
         if index >= self.groups {
             return "";
@@ -170,7 +172,8 @@ impl Matcher {
 
     // The span of the leftmost match from `start` on, whose groups `cells` then has.
     fn find(&mut self, text: &str, start: usize) -> Option<(usize, usize)>
-        ensures found { result ≡ option_map span (find_str (pattern_re (shown self.old)) text.now start) }
+        ensures found { result ≡ option_map span
+            (find_str (pattern_re (shown self.old)) text.now start) }
         ensures cells { IfSome (find_str (pattern_re (shown self.old)) text.now start)
             (λ m. self.new.cells.items ≡ group_cells m (vec_len self.old.cells)) }
         ensures within { IfSome result (LiesWithin start (length text.now)) }
@@ -183,7 +186,8 @@ impl Matcher {
     // The same in the bytes of a text: a match that starts inside a character is passed over.
     fn find_in(&mut self, hay: &[u8], start: usize) -> Option<(usize, usize)>
         requires { IsUtf8 hay.now }
-        ensures found { result ≡ option_map span (find_str (pattern_re (shown self.old)) hay.now start) }
+        ensures found { result ≡ option_map span
+            (find_str (pattern_re (shown self.old)) hay.now start) }
         ensures cells { IfSome (find_str (pattern_re (shown self.old)) hay.now start)
             (λ m. self.new.cells.items ≡ group_cells m (vec_len self.old.cells)) }
         ensures within { IfSome result (LiesWithin start (length hay.now)) }
@@ -206,7 +210,8 @@ impl Matcher {
     // The same, where a match may start at any byte.
     fn find_in_bytes(&mut self, hay: &[u8], start: usize) -> Option<(usize, usize)>
         requires { start ≤ length hay.now }
-        ensures found { result ≡ option_map span (find (pattern_re (shown self.old)) hay.now start) }
+        ensures found { result ≡ option_map span
+            (find (pattern_re (shown self.old)) hay.now start) }
         ensures cells { IfSome (find (pattern_re (shown self.old)) hay.now start)
             (λ m. self.new.cells.items ≡ group_cells m (vec_len self.old.cells)) }
         ensures same { IsSamePattern (shown self.old) (shown self.new) }

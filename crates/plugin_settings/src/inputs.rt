@@ -147,7 +147,8 @@ impl FileInputSettings {
 }
 
 fn read_position(alloc: Global, name: &str, value: &SettingValue) -> Result<bool, FromFault>
-    ensures { Gives result (wanted name.now (option_and_then spec.position_of (text_of value.now))) }
+    ensures { Gives result (wanted name.now (option_and_then spec.position_of
+        (text_of value.now))) }
 {
     let text = read_text(alloc, name, value)?;
     match text.as_str() {

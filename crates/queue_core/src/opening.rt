@@ -49,7 +49,8 @@ pub fn open_folder<S: Store>(
         (read_in (names_in folder.now) (S.seen store.old)) result }
     ensures any_moment { KeepsOpened S.Store (names_in folder.now) store.old store.new }
     ensures keeps { OpeningKeeps S.Store (names_in folder.now) store.old store.new }
-    ensures ready { IfOk result (λ o. OpensReady S.Store (names_in folder.now) o store.old store.new) }
+    ensures ready { IfOk result (λ o. OpensReady S.Store (names_in folder.now) o store.old
+        store.new) }
     ensures cause { HasCause (S.faults store.old) (S.faults store.new) (result ≡ Err f.Fault) }
 {
     store.sync()?;

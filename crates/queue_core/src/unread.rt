@@ -24,7 +24,8 @@ pub(crate) fn remove_unread<S: Store>(
     listing: &Listing,
     head: &PageState,
 ) -> Result<(), QueueFault>
-    ensures keeps { UnreadGo S.Store (names_in folder.now) listing.now head.now store.old store.new }
+    ensures keeps { UnreadGo S.Store (names_in folder.now) listing.now head.now store.old
+        store.new }
     ensures gone { OnOk result
         (UnreadAreGone S.Store (names_in folder.now) listing.now head.now store.old store.new) }
     ensures whole { IfErr result (λ fault. IsNoDamage fault) }
@@ -66,7 +67,8 @@ fn add_pages(
     pages: &[u32],
     head: u32,
 ) -> Result<(), AllocError>
-    ensures { OnOk result (names.new.items ≡ names.old.items ++ pages_above folder.now head pages.now) }
+    ensures { OnOk result (names.new.items ≡ names.old.items ++ pages_above folder.now head
+        pages.now) }
 {
     for number in pages {
         if head < *number {
