@@ -55,8 +55,9 @@ impl Passage {
         ensures { IfOk result (λ passage. passage
             ≡ spec.passage_of (marks (table_of (contents_in parts.now)) cells)) }
     {
+        let sent = Items::with_capacity(alloc, cells.len())?;
         let mut passage = Passage {
-            sent: Items::new(alloc),
+            sent,
             dead: DeadList::new(alloc),
             verdicts: Items::new(alloc),
         };
