@@ -13,7 +13,7 @@ use foreign_parts::Stockroom;
 use plugin_graph::Kit;
 
 /// Gives boxes back to the rack that they were drawn from. What was drawn last goes back first, so the
-/// rack is as it was before they were drawn. It takes no memory.
+/// rack has the boxes that it had before, in their order. It takes no memory.
 pub fn give_back_boxes<B: Stockroom>(boxes: DrawnBoxes<B::Filter, B::Output>, rack: &mut B)
     requires { AllMayGoBack (B.given rack.old)
         (filter_boxes B.filter_number boxes) (output_boxes B.output_number boxes)
@@ -64,7 +64,7 @@ fn give_back_outputs<B: Stockroom>(rack: &mut B, boxes: Vec<Drawn<B::Output>>)
 }
 
 /// Gives the boxes of a plan back to the rack that they were drawn from: what was drawn last goes back
-/// first, so the rack is as it was before `compile` drew them. It takes no memory.
+/// first, so the rack has the boxes that it had before `compile`, in their order. It takes no memory.
 pub fn give_back<B: Stockroom>(plan: Plan<B::Filter, B::Output>, rack: &mut B)
     requires { AllMayGoBack (B.given rack.old)
         (boxes_of B.filter_number (boxes_of_kits plan.kits.items))
