@@ -43,9 +43,10 @@ def look(run, seen):
             session, start, seconds = told(pid)
             if session != str(run.pid):
                 continue
-            if (pid, start) not in seen:
-                seen[pid, start] = [job_of(pid), seconds]
-            seen[pid, start][1] = seconds
+            found = seen.setdefault((pid, start), [None, seconds])
+            # (a process that rt just made is not rattle yet)
+            found[0] = found[0] or job_of(pid)
+            found[1] = seconds
         except (OSError, ValueError, IndexError):
             pass
 
