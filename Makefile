@@ -32,13 +32,13 @@ bench: all
 	bash bench/conditions.sh
 	bash bench/filters.sh
 	bash bench/parsing.sh
-	bash bench/graphs.sh
 	bash bench/growth.sh
 	bash bench/store.sh
 	bash bench/page.sh
 	bash bench/outputs.sh
 	bash bench/folder.sh
 	bash bench/threads.sh
+	bash bench/graphs.sh
 
 clean:
 	rm -rf bin crates/*/out
