@@ -22,7 +22,9 @@ for number in range(4000):
     ][r % 4]
     kinds[kind].append({"message": line})
     kinds["all"].append({"message": line})
-    kinds["took"].append({"message": line, "took": r % 1000} if r % 4 < 2 else {"message": line})
+    # kv gives texts, and json numbers.
+    took = [{"took": f"{r % 1000}"}, {"took": r % 1000}, {}, {}][r % 4]
+    kinds["took"].append({"message": line, **took})
 for kind, events in kinds.items():
     with open(f"{sys.argv[1]}/{kind}", "w") as file:
         file.writelines(json.dumps(event) + "\n" for event in events)

@@ -8,14 +8,14 @@ use Rattle.config_tree.specs.declared.tree.Plugin.{Plugin}
 use Rattle.config_tree.specs.declared.tree.Statement.{Statement}
 use Rattle.config_tree.specs.declared.tree.Statement.TheVariants as statement
 use Rattle.event_flow.specs.Flows.{Goes, led}
-use Rattle.event_flow.specs.Laying.{HasPlugins, HasConditions, Lays, IsLaid, number_of, count, with_block, assembled}
+use Rattle.event_flow.specs.Laying.{HasPlugins, HasConditions, Lays, IsLaid, number_of, count, behind_block, closing, with_block, assembled}
 use Rattle.event_flow.specs.Parts.{Section, Part, empty, one_plugin, follow, arm_if, arm_else, arm, branch, part_of, arm_of, parts_of}
 use Rattle.event_flow.specs.Steps.{Table, Mean}
 use Rattle.event_flow.specs.declared.block.Block.{Block}
 use Rattle.event_flow.specs.declared.block.Laid.{Laid}
 use Rattle.event_flow.specs.declared.step.Step.{Step}
 use Rattle.event_flow.specs.declared.step.Step.TheVariants as s
-use Rattle.event_flow.proofs.StepMeaning.{mean_nothing, mean_plugin, mean_behind, mean_arm, mean_else}
+use Rattle.event_flow.proofs.StepMeaning.{mean_nothing, mean_plugin, mean_behind, mean_block, mean_last}
 use Rattle.event_flow.proofs.Statements.{part_of-Plugin, part_of-Branch, arm_of-is}
 
 plus_none : (n : ℕ) → n + 0 ≡ n
@@ -62,7 +62,7 @@ lays_follow p q n t n' t' n'' t'' ss ts first second = record {
       (behind_part q n t n' t' (length p.plugins) (length p.conditions) ts n'' t'' first.plugins first.conditions second section table k u ps.1 cs.1);
 }
 
-lays_if : (c : Condition) (p q : Part) (n t n' t' n'' t'' : ℕ) (ss ts : List Step) → Lays p n (t + 1) ss n' t' → Lays q n' t' ts n'' t'' → Lays (arm_if c p q) n t (s.Test t (length ss + 1) ∷ ss ++ s.Skip (length ts) ∷ ts) n'' t''
+lays_if : (c : Condition) (p q : Part) (n t n' t' n'' t'' : ℕ) (ss ts : List Step) → Lays p n (t + 1) ss n' t' → Lays q n' t' ts n'' t'' → Lays (arm_if c p q) n t (s.Test t (behind_block (length ss) ts) ∷ ss ++ closing ts) n'' t''
 lays_if c p q n t n' t' n'' t'' ss ts first second = record {
   plugins = second.plugins ∙ ap (λ m. m + length q.plugins) first.plugins ∙ omega (arith, length-append p.plugins q.plugins);
   conditions = second.conditions ∙ ap (λ m. m + length q.conditions) first.conditions ∙ omega (arith, length-append p.conditions q.conditions);
@@ -71,25 +71,25 @@ lays_if c p q n t n' t' n'' t'' ss ts first second = record {
       let cs = conditions_apart section table (t + 1) (u + 1) p.conditions q.conditions conditions.2 in
       let there : Mean table ts (q.flow section (k + length p.plugins) (u + 1 + length p.conditions))
       = behind_part q n (t + 1) n' t' (length p.plugins) (length p.conditions) ts n'' t'' first.plugins first.conditions second section table k (u + 1) ps.1 cs.1 in
-      subst (λ (f : Goes → Goes). Mean table (s.Test t (length ss + 1) ∷ ss ++ s.Skip (length ts) ∷ ts) f)
+      subst (λ (f : Goes → Goes). Mean table (s.Test t (behind_block (length ss) ts) ∷ ss ++ closing ts) f)
       (λ i goes e. led (conditions.1 i) (conditions.0 e i) (p.flow section k (u + 1) goes) (q.flow section (k + length p.plugins) (u + 1 + length p.conditions) goes) e)
-      (mean_arm table t ss ts (p.flow section k (u + 1)) (q.flow section (k + length p.plugins) (u + 1 + length p.conditions)) (first.means section table k (u + 1) ps.0 cs.0) there);
+      (mean_block table t ss ts (p.flow section k (u + 1)) (q.flow section (k + length p.plugins) (u + 1 + length p.conditions)) (first.means section table k (u + 1) ps.0 cs.0) there);
 }
 
-lays_else : (p q : Part) (n t n' t' n'' t'' : ℕ) (ss ts : List Step) → Lays p n t ss n' t' → Lays q n' t' ts n'' t'' → Lays (arm_else p q) n t (ss ++ s.Skip (length ts) ∷ ts) n'' t''
+lays_else : (p q : Part) (n t n' t' n'' t'' : ℕ) (ss ts : List Step) → Lays p n t ss n' t' → Lays q n' t' ts n'' t'' → Lays (arm_else p q) n t (ss ++ closing ts) n'' t''
 lays_else p q n t n' t' n'' t'' ss ts first second = record {
   plugins = second.plugins ∙ ap (λ m. m + length q.plugins) first.plugins ∙ omega (arith, length-append p.plugins q.plugins);
   conditions = second.conditions ∙ ap (λ m. m + length q.conditions) first.conditions ∙ omega (arith, length-append p.conditions q.conditions);
   means = λ section table k u plugins conditions.
-      mean_else table ss ts (p.flow section k u) (first.means section table k u (plugins_apart section table n k p.plugins q.plugins plugins).0 (conditions_apart section table t u p.conditions q.conditions conditions).0);
+      mean_last table ss ts (p.flow section k u) (first.means section table k u (plugins_apart section table n k p.plugins q.plugins plugins).0 (conditions_apart section table t u p.conditions q.conditions conditions).0);
 }
 
 lays_block : (condition : Option Condition) (p q : Part) (n t n' t' n'' t'' : ℕ) (b : Block) (ts : List Step) → b.condition ≡ number_of condition t → Lays p n (t + count (number_of condition t)) b.steps n' t' → Lays q n' t' ts n'' t'' → Lays (arm condition p q) n t (with_block b ts) n'' t''
 lays_block None p q n t n' t' n'' t'' b ts number first second =
-    let e : b.steps ++ s.Skip (length ts) ∷ ts ≡ with_block b ts = sym (rw number refl) in
+    let e : b.steps ++ closing ts ≡ with_block b ts = sym (rw number refl) in
     subst (λ xs. Lays (arm_else p q) n t xs n'' t'') e (lays_else p q n t n' t' n'' t'' b.steps ts (subst (λ m. Lays p n m b.steps n' t') (plus_none t) first) second)
 lays_block (Some c) p q n t n' t' n'' t'' b ts number first second =
-    let e : s.Test t (length b.steps + 1) ∷ b.steps ++ s.Skip (length ts) ∷ ts ≡ with_block b ts = sym (rw number refl) in
+    let e : s.Test t (behind_block (length b.steps) ts) ∷ b.steps ++ closing ts ≡ with_block b ts = sym (rw number refl) in
     subst (λ xs. Lays (arm_if c p q) n t xs n'' t'') e (lays_if c p q n t n' t' n'' t'' b.steps ts first second)
 
 -- what is laid so far, in front of what is left

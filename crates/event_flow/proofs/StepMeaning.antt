@@ -1,7 +1,8 @@
 -- Steps laid one behind the other mean what the parts mean that they were laid for.
-use Rattle.std.proofs.Common.{◌≡◌, ℕ, suc, ◌+◌, List, [], ◌∷◌, ◌++◌, length, refl, ap, ◌∙◌, append_assoc, add-one}
+use Rattle.std.proofs.Common.{◌≡◌, ℕ, suc, ◌+◌, List, [], ◌∷◌, ◌++◌, length, refl, ap, ◌∙◌, append_assoc, append-nil, add-one, subst, sym}
 use Rattle.event_tree.specs.Events.{Ev}
 use Rattle.event_flow.specs.Flows.{Goes, led}
+use Rattle.event_flow.specs.Laying.{behind_block, closing}
 use Rattle.event_flow.specs.Steps.{Table, Mean, acted, from}
 use Rattle.event_flow.specs.declared.step.Step.{Step}
 use Rattle.event_flow.specs.declared.step.Step.TheVariants as s
@@ -30,7 +31,7 @@ module _ (table : Table) where
   }
 
   -- a block with its condition, and the arms behind it
-  pub mean_arm : (n : ℕ) (ss ts : List Step) (f g : Goes → Goes) → Mean table ss f → Mean table ts g → Mean table (s.Test n (length ss + 1) ∷ ss ++ s.Skip (length ts) ∷ ts) (λ goes e. led (table.ids n) (table.says n e) (f goes) (g goes) e)
+  mean_arm : (n : ℕ) (ss ts : List Step) (f g : Goes → Goes) → Mean table ss f → Mean table ts g → Mean table (s.Test n (length ss + 1) ∷ ss ++ s.Skip (length ts) ∷ ts) (λ goes e. led (table.ids n) (table.says n e) (f goes) (g goes) e)
   mean_arm n ss ts f g first second = record {
     goes_on = λ rest goes e.
         let taken : (x : Ev) → from table ((ss ++ s.Skip (length ts) ∷ ts) ++ rest) 0 goes x ≡ f (from table rest 0 goes) x
@@ -40,8 +41,24 @@ module _ (table : Table) where
         λ i. led (table.ids n) (table.says n e) (λ x. taken x i) (λ x. passed x i) e;
   }
 
+  -- the same where its end passes over the arms behind it, if there are any
+  pub mean_block : (n : ℕ) (ss ts : List Step) (f g : Goes → Goes) → Mean table ss f → Mean table ts g → Mean table (s.Test n (behind_block (length ss) ts) ∷ ss ++ closing ts) (λ goes e. led (table.ids n) (table.says n e) (f goes) (g goes) e)
+  mean_block n ss [] f g first second = record {
+    goes_on = λ rest goes e.
+        let taken : (x : Ev) → from table ((ss ++ []) ++ rest) 0 goes x ≡ f (from table rest 0 goes) x
+        = λ x. ap (λ us. from table (us ++ rest) 0 goes x) (append-nil ss) ∙ first.goes_on rest goes x in
+        let passed : (x : Ev) → from table ((ss ++ []) ++ rest) (length ss) goes x ≡ g (from table rest 0 goes) x
+        = λ x. ap (λ us. from table (us ++ rest) (length ss) goes x) (append-nil ss) ∙ passed_over ss rest goes x ∙ second.goes_on rest goes x in
+        λ i. led (table.ids n) (table.says n e) (λ x. taken x i) (λ x. passed x i) e;
+  }
+  mean_block n ss (x ∷ ts) f g first second = mean_arm n ss (x ∷ ts) f g first second
+
   -- a block that each event takes, and steps behind it that none meets
-  pub mean_else : (ss ts : List Step) (f : Goes → Goes) → Mean table ss f → Mean table (ss ++ s.Skip (length ts) ∷ ts) f
+  mean_else : (ss ts : List Step) (f : Goes → Goes) → Mean table ss f → Mean table (ss ++ s.Skip (length ts) ∷ ts) f
   mean_else ss ts f first = record {
     goes_on = λ rest goes e. ap (λ us. from table us 0 goes e) (append_assoc ss (s.Skip (length ts) ∷ ts) rest) ∙ first.goes_on (s.Skip (length ts) ∷ ts ++ rest) goes e ∙ ap (λ h. f h e) (λ i x. passed_over ts rest goes x i);
   }
+
+  pub mean_last : (ss ts : List Step) (f : Goes → Goes) → Mean table ss f → Mean table (ss ++ closing ts) f
+  mean_last ss [] f first = subst (λ us. Mean table us f) (sym (append-nil ss)) first
+  mean_last ss (x ∷ ts) f first = mean_else ss (x ∷ ts) f first

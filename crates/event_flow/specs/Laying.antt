@@ -1,5 +1,5 @@
 -- Steps that are laid for statements.
-use Rattle.std.specs.Prelude.{◌≡◌, ℕ, ◌+◌, List, [], ◌∷◌, ◌++◌, length, Option, Some, None}
+use Rattle.std.specs.Prelude.{◌≡◌, ℕ, suc, ◌+◌, List, [], ◌∷◌, ◌++◌, length, Option, Some, None}
 use Rattle.event_tree.specs.Events.{Ev}
 use Rattle.config_tree.specs.declared.tree.Plugin.{Plugin}
 use Rattle.config_tree.specs.declared.tree.Condition.{Condition}
@@ -54,13 +54,22 @@ abbrev pub count : Option ℕ → ℕ
 count None = 0
 count (Some t) = 1
 
--- a block in front of the arms behind it
+-- a block in front of the arms behind it, which are passed over at its end, where there are any
+abbrev pub closing : List Step → List Step
+closing [] = []
+closing (s ∷ ss) = step.Skip (suc (length ss)) ∷ s ∷ ss
+
+-- how many steps are passed over where the condition of a block is No
+abbrev pub behind_block : ℕ → List Step → ℕ
+behind_block n [] = n
+behind_block n (s ∷ ss) = n + 1
+
 abbrev pub opening : Option ℕ → ℕ → List Step
 opening None n = []
-opening (Some t) n = step.Test t (n + 1) ∷ []
+opening (Some t) n = step.Test t n ∷ []
 
 abbrev pub with_block : Block → List Step → List Step
-with_block b rest = opening b.condition (length b.steps) ++ b.steps ++ step.Skip (length rest) ∷ rest
+with_block b rest = opening b.condition (behind_block (length b.steps) rest) ++ b.steps ++ closing rest
 
 abbrev pub assembled : List Block → List Step → List Step
 assembled [] rest = rest

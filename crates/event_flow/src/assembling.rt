@@ -38,12 +38,25 @@ fn put_block(back: &mut Items<Step>, block: Block) -> Result<(), AllocError>
 {
     let Block { condition, steps } = block;
     let length = steps.len() as u64;
-    back.push(Step::Skip(back.len() as u64))?;
+    let over = close(back, length)?;
     put_back(back, steps)?;
     if let Some(number) = condition {
-        back.push(Step::Test(number, more(length, 1)?))?;
+        back.push(Step::Test(number, over))?;
     }
     Ok(())
+}
+
+// Where there are arms behind a block of so many steps, its end passes over them. The answer is how
+// many steps are passed over where its condition is No.
+fn close(back: &mut Items<Step>, length: u64) -> Result<u64, AllocError>
+    ensures { IfOk result (λ over. over ≡ spec.behind_block length (reverse back.old)
+        × (reverse back.new ≡ spec.closing (reverse back.old))) }
+{
+    if back.is_empty() {
+        return Ok(length);
+    }
+    back.push(Step::Skip(back.len() as u64))?;
+    more(length, 1)
 }
 
 fn put_back(back: &mut Items<Step>, steps: Items<Step>) -> Result<(), AllocError>

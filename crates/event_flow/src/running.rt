@@ -23,6 +23,7 @@ pub trait Kit {
     ghost use Rattle.event_tree.specs.Events.{Ev};
     ghost use Rattle.foreign_parts.specs.declared.filter.Verdict.{Verdict};
     ghost use Rattle.event_flow.specs.Steps.{Table};
+    ghost use Rattle.std.specs.Prelude.{◌≡◌, ℕ, List, Option, IfOk, OnOk};
 
     /// What its plugins do to events, and what its conditions say of them.
     ghost table: { Self → Table };
@@ -32,6 +33,12 @@ pub trait Kit {
 
     /// What it keeps, so that it can be asked.
     ghost stands: { Self → Type 0 };
+
+    /// A boxed filter.
+    type Plugged;
+
+    /// The boxes of its filters, where these are boxed ones and their boxes were put in.
+    ghost boxes: { Self → List (Option Self.Plugged) };
 
     /// Has an event, which was sent to these targets so far, meet a plugin, and puts what comes of
     /// it behind the last cell.
@@ -48,6 +55,7 @@ pub trait Kit {
             (Meets (may self.old) (table self.old) number event targets)
             (marks (table self.old) to.old) (marks (table self.old) to.new)) }
         ensures table { table self.new ≡ table self.old }
+        ensures boxes { boxes self.new ≡ boxes self.old }
         ensures may { (k : ℕ) (e : Ev) (v : Verdict) → may self.new k e v → may self.old k e v };
 
     /// What a condition says of an event.
@@ -56,6 +64,7 @@ pub trait Kit {
         ensures stands { stands self.new }
         ensures truth { IfOk result (λ truth. truth ≡ (table self.old).says number event.now) }
         ensures table { table self.new ≡ table self.old }
+        ensures boxes { boxes self.new ≡ boxes self.old }
         ensures may { (k : ℕ) (e : Ev) (v : Verdict) → may self.new k e v → may self.old k e v };
 }
 
@@ -74,6 +83,7 @@ pub fn run<K: Kit>(
     requires { K.stands kit.old }
     ensures stands { K.stands kit.new }
     ensures table { K.table kit.new ≡ K.table kit.old }
+    ensures boxes { K.boxes kit.new ≡ K.boxes kit.old }
     ensures may { (k : ℕ) (e : Ev) (v : Verdict) → K.may kit.new k e v → K.may kit.old k e v }
     ensures ran { IfOk result (λ cells. Ran (K.may kit.old)
         (each (from (K.table kit.old) steps.now 0 (λ _. nothing)) events)
@@ -111,6 +121,7 @@ fn one_step<K: Kit>(
     ensures ok { IfOk result (λ out. AllBecome (K.may kit.old) (K.table kit.old) step
         (marks (K.table kit.old) cells) (marks (K.table kit.old) out)) }
     ensures table { K.table kit.new ≡ K.table kit.old }
+    ensures boxes { K.boxes kit.new ≡ K.boxes kit.old }
     ensures may { (k : ℕ) (e : Ev) (v : Verdict) → K.may kit.new k e v → K.may kit.old k e v }
 {
     let mut cells = cells;
@@ -139,6 +150,7 @@ fn step_at<K: Kit>(
     ensures ok { OnOk result (Takes (K.may kit.old) (K.table kit.old) step index
         cells.old cells.new others.new) }
     ensures table { K.table kit.new ≡ K.table kit.old }
+    ensures boxes { K.boxes kit.new ≡ K.boxes kit.old }
     ensures may { (k : ℕ) (e : Ev) (v : Verdict) → K.may kit.new k e v → K.may kit.old k e v }
 {
     match cells.get_mut(index) {
@@ -165,6 +177,7 @@ fn step_rest<K: Kit>(
         (marks (K.table kit.old) (drop from cells)))
         (marks (K.table kit.old) (take from cells ++ others)) (marks (K.table kit.old) out)) }
     ensures table { K.table kit.new ≡ K.table kit.old }
+    ensures boxes { K.boxes kit.new ≡ K.boxes kit.old }
     ensures may { (k : ℕ) (e : Ev) (v : Verdict) → K.may kit.new k e v → K.may kit.old k e v }
 {
     let mut front = cells.into_vec();
@@ -191,6 +204,7 @@ fn add_step<K: Kit>(
         (AllBecome (K.may kit.old) (K.table kit.old) step (marks_of (K.table kit.old) cell))
         (marks (K.table kit.old) out.old) (marks (K.table kit.old) out.new)) }
     ensures table { K.table kit.new ≡ K.table kit.old }
+    ensures boxes { K.boxes kit.new ≡ K.boxes kit.old }
     ensures may { (k : ℕ) (e : Ev) (v : Verdict) → K.may kit.new k e v → K.may kit.old k e v }
 {
     let mut cell = cell;

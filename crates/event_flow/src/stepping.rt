@@ -32,6 +32,7 @@ pub(crate) fn step_cell<K: Kit>(
         (marks_of (K.table kit.old) cell.old)
         (marks_of (K.table kit.old) cell.new ++ marks (K.table kit.old) others.new)) }
     ensures table { K.table kit.new ≡ K.table kit.old }
+    ensures boxes { K.boxes kit.new ≡ K.boxes kit.old }
     ensures may { (k : ℕ) (e : Ev) (v : Verdict) → K.may kit.new k e v → K.may kit.old k e v }
 {
     let Some(event) = event_at(cell) else {
@@ -112,6 +113,7 @@ fn meet_plugin<K: Kit>(
         (marks_of (K.table kit.old) cell.old)
         (marks_of (K.table kit.old) cell.new ++ marks (K.table kit.old) others.new)) }
     ensures table { K.table kit.new ≡ K.table kit.old }
+    ensures boxes { K.boxes kit.new ≡ K.boxes kit.old }
     ensures may { (k : ℕ) (e : Ev) (v : Verdict) → K.may kit.new k e v → K.may kit.old k e v }
 {
     match taken(alloc, cell) {
@@ -138,8 +140,13 @@ fn put_first(cell: &mut Cell, others: &mut Items<Cell>)
     ensures { (table : Table) → marks_of table cell.old ≡ []
         → marks table others.old ≡ marks_of table cell.new ++ marks table others.new }
 {
-    if others.is_empty() {
-        return;
+    match others.len() {
+        0 => {}
+        1 => {
+            if let Some(only) = others.pop() {
+                *cell = only;
+            }
+        }
+        _ => *cell = others.remove(0),
     }
-    *cell = others.remove(0);
 }

@@ -14,6 +14,8 @@
 //!   again and run.
 //! - `CONFIGURATION on EVENT`, with any number of further events behind ` and `, in the table `passages`: what becomes of
 //!   these events, by the program `data/passages.py`.
+//! - The same in the table `walks`: what becomes of each event by itself, by the configuration as it is written, and how many
+//!   filters and patterns were read from text for them; and then the same of all events as a batch.
 //!
 //! The answers in `stdout` were worked out by hand from the tables of the plugins and of faults: whether the filter
 //! matched, and the events that stand in the event's place. Those of `json`, `csv` and `kv` were made with Python's
@@ -32,6 +34,7 @@ mod plans;
 mod racks;
 mod rows;
 mod timing;
+mod walks;
 
 use std::alloc::{AllocError, Global};
 use std::{env, fs, io};
@@ -79,6 +82,7 @@ enum Table {
     Checks,
     Plans,
     Passages,
+    Walks,
 }
 
 fn main(rt: HostRuntime) -> io::Result<()> {
@@ -108,6 +112,7 @@ fn print_tables(rt: &HostRuntime) -> io::Result<()> {
     }
     print_table(rt, "plans", Table::Plans)?;
     print_table(rt, "passages", Table::Passages)?;
+    print_table(rt, "walks", Table::Walks)?;
     let answer = racks::answer(rt.alloc())?;
     println!(rt; "# rack\n{answer}")
 }
@@ -129,6 +134,7 @@ fn answer(alloc: Global, row: &str, of: Table) -> Result<String, AllocError> {
         Table::Checks => checks::add_answer(&mut answer, row, false)?,
         Table::Plans => checks::add_answer(&mut answer, row, true)?,
         Table::Passages => passages::add_answer(&mut answer, row)?,
+        Table::Walks => walks::add_answer(&mut answer, row)?,
     }
     Ok(answer)
 }

@@ -34,7 +34,8 @@ fn passage_of(alloc: Global, config: &Config, events: &str) -> Result<Passage, F
     Ok(run(alloc, &graph, &mut kit, events_of(alloc, events)?)?)
 }
 
-fn events_of(alloc: Global, written: &str) -> Result<Events, AllocError> {
+/// Events that are written with ` and ` between them.
+pub fn events_of(alloc: Global, written: &str) -> Result<Events, AllocError> {
     let mut events = Events::new(alloc);
     for event in written.split(" and ") {
         events.push(event_of(alloc, event)?)?;
@@ -42,7 +43,8 @@ fn events_of(alloc: Global, written: &str) -> Result<Events, AllocError> {
     Ok(events)
 }
 
-fn add_passage(to: &mut String, passage: &Passage) -> Result<(), AllocError> {
+/// Adds what came of a batch.
+pub fn add_passage(to: &mut String, passage: &Passage) -> Result<(), AllocError> {
     let (sent, dead) = (passage.sent.as_slice(), passage.dead.as_slice());
     if sent.is_empty() && dead.is_empty() {
         return to.push_str("nothing");

@@ -19,3 +19,4 @@ pub mod Fillings
 pub mod Planning
 pub mod Tails
 pub mod Returnings
+pub mod OwnIds

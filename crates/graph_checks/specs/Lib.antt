@@ -3,6 +3,7 @@ pub mod Answers
 pub mod Boxes
 pub mod BuiltIn
 pub mod Plugins
+pub mod OwnIds
 pub mod Inputs
 pub mod Whole
 pub mod Wants

@@ -1,49 +1,15 @@
-ghost use Rattle.std.specs.Prelude.{◌≡◌, ◌≤◌, ◌++◌, [], length, map, vec_capacity, replicate, IfOk, IfErr, OnOk};
-ghost use Rattle.event_flow.specs.Parts.{parts_of};
+ghost use Rattle.std.specs.Prelude.{◌≡◌, ◌≤◌, ◌++◌, [], length, map, vec_capacity, replicate, IfOk, OnOk};
 ghost use Rattle.foreign_parts.specs.Stocks.{IsOut};
 ghost use Rattle.foreign_parts.specs.declared.boxes.Kind.TheVariants as kind;
-ghost use Rattle.graph_checks.specs.Answers.{Passes};
-ghost use Rattle.graph_checks.specs.Boxes.{Keeps};
 ghost use Rattle.graph_checks.specs.Drawings.{AllDrawn, AreDrawn};
 ghost use Rattle.graph_checks.specs.Drawns.{boxes_of, filter_boxes, output_boxes};
-ghost use Rattle.graph_checks.specs.Wants.{AreLeft, names_of, so_often, wants_of};
-ghost use Rattle.graph_checks.specs.Whole.{checked};
+ghost use Rattle.graph_checks.specs.Wants.{AreLeft, names_of, so_often};
 
-use crate::checking::find_wants;
 use crate::drawn::{Drawn, DrawnBoxes};
-use crate::fault::GraphFault;
 use crate::want::{Want, Wants};
-use config_tree::Config;
 use foreign_parts::Stockroom;
 use plain_data::Items;
 use std::alloc::{AllocError, Global};
-
-/// Draws the boxes that a configuration wants: for each filter that is a box one for each of so many
-/// workers, and for each output that is a box one. The refusal is the first fault that `check` finds. All
-/// memory is taken before the first box is drawn, so a refusal leaves the rack as it was.
-pub fn draw_boxes<B: Stockroom>(
-    alloc: Global,
-    config: &Config,
-    rack: &mut B,
-    workers: u32,
-) -> Result<DrawnBoxes<B::Filter, B::Output>, GraphFault>
-    ensures fault { Passes result (checked
-        (record { stand = B.stand rack.old; links = B.links rack.old; workers = workers })
-        config.now) }
-    ensures keeps { IfErr result (λ _. Keeps B.stand B.links rack.old rack.new) }
-    ensures filters { IfOk result (λ drawn. map (λ d. d.want) drawn.filters.items
-        ≡ so_often workers (wants_of kind.Filter (parts_of config.now.filters).plugins)) }
-    ensures outputs { IfOk result (λ drawn. map (λ d. d.want) drawn.outputs.items
-        ≡ wants_of kind.Output (parts_of config.now.outputs).plugins) }
-    ensures drawn { IfOk result (λ drawn. AllDrawn (B.given rack.new)
-        (filter_boxes B.filter_number drawn) (output_boxes B.output_number drawn)
-        (B.stand rack.old kind.Filter).stocks (B.stand rack.old kind.Output).stocks
-        (B.stand rack.new kind.Filter).stocks (B.stand rack.new kind.Output).stocks) }
-{
-    let wants = find_wants(alloc, config, rack, workers)?;
-    let room = reserve_boxes(alloc, wants, workers)?;
-    Ok(draw_into(room, rack))
-}
 
 /// Room for boxes, with the plugins for which they are to be drawn.
 #[derive(Drop)]

@@ -23,7 +23,7 @@ impl<F: Asked> Asked for Drawn<F> {
 
 /// The boxes of a configuration, drawn from a rack: filters and outputs.
 #[derive(Drop)]
-pub struct DrawnBoxes<F, O> {
+pub(crate) struct DrawnBoxes<F, O> {
     /// For each filter that is a box one for each worker, in the order of the text.
     pub filters: Vec<Drawn<F>>,
     /// For each output that is a box one.

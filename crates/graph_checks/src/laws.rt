@@ -6,12 +6,18 @@ ghost use Rattle.std.specs.Prelude.{◌≡◌, ℕ, List, Ok};
 ghost use Rattle.config_tree.specs.declared.tree.Config.{Config};
 ghost use Rattle.foreign_parts.specs.Stocks.{Stock};
 ghost use Rattle.graph_checks.specs.Drawings.{AllDrawn, AllMayGoBack, Numbered, all_back};
+ghost use Rattle.graph_checks.specs.OwnIds.{HaveOwnIds};
 ghost use Rattle.graph_checks.specs.Readings.{IsRead};
 ghost use Rattle.graph_checks.specs.Whole.{Given, checked};
 
 /// Where a configuration has no fault each of its filters reads, and each pattern of its conditions is one.
 pub fn checked_configurations_read()
     ensures { (given : Given) (config : Config) → checked given config ≡ Ok tt → IsRead config }
+{}
+
+/// Where a configuration has no fault each of its outputs has an id of its own.
+pub fn checked_outputs_have_own_ids()
+    ensures { (given : Given) (config : Config) → checked given config ≡ Ok tt → HaveOwnIds config }
 {}
 
 /// Boxes that were drawn may go back, and then the rack holds what it held before they were drawn.

@@ -3,7 +3,7 @@
 //! The statements are tested in the order of the text: the inputs, then the filters, then the outputs, with
 //! the conditions in front of their blocks. Then the whole is tested. Boxes are asked where they stand, and
 //! none is taken. [`compile`] makes a plan of a configuration that passes, with the boxes that it wants from
-//! a rack, and [`give_back`] puts these back; [`draw_boxes`] takes them without a plan.
+//! a rack, and [`give_back`] puts these back.
 #![tactic(auto)]
 
 mod asking;
@@ -30,10 +30,9 @@ mod whole;
 
 pub use checking::check;
 pub use compiling::compile;
-pub use drawing::draw_boxes;
-pub use drawn::{Drawn, DrawnBoxes};
+pub use drawn::Drawn;
 pub use fault::GraphFault;
 pub use foreign_parts::{Boxes, Kind, Stockroom};
 pub use plan::Plan;
-pub use returning::{give_back, give_back_boxes};
+pub use returning::give_back;
 pub use want::Want;

@@ -51,6 +51,7 @@ pub fn run<X: Asked>(
         → IsTableOf makes config draws (table_of (contents_of kit.old))
         → IsPassageOf (MayAt X.may (boxes_in kit.old)) makes config draws events passage) }
     ensures table { table_of (contents_of kit.new) ≡ table_of (contents_of kit.old) }
+    ensures boxes { boxes_in kit.new ≡ boxes_in kit.old }
     ensures may { (k : ℕ) (e : Ev) (v : Verdict)
         → MayAt X.may (boxes_in kit.new) k e v
         → MayAt X.may (boxes_in kit.old) k e v }

@@ -45,6 +45,10 @@ impl<X: Asked> Kit for Parts<X> {
 
     ghost stands = { λ parts. Unit {0} };
 
+    type Plugged = X;
+
+    ghost boxes = { λ parts. boxes_of parts.filters };
+
     fn act(
         &mut self,
         number: u64,

@@ -14,6 +14,9 @@ use foreign_parts::{Place, Verdict};
 use std::alloc::{AllocError, Global};
 use std::mem;
 
+// Room for the text of most reasons.
+const REASON_BYTES: usize = 32;
+
 /// An event that an output sends to a place.
 pub struct Sent {
     /// The output's id.
@@ -201,5 +204,7 @@ fn letter<X: Drop>(
 fn reason_text(alloc: Global, reason: &Reason) -> Result<Text, AllocError>
     ensures { IfOk result (λ text. text ≡ reason_text reason.now) }
 {
-    Ok(Text::from_string(format!(in alloc; "{reason}")?))
+    let mut text = String::with_capacity(alloc, REASON_BYTES)?;
+    write!(text, "{reason}")?;
+    Ok(Text::from_string(text))
 }

@@ -50,6 +50,10 @@ impl<X: Asked> Kit for Walker<X> {
 
     ghost stands = { λ w. ReadsAlike w.plugins w.plain (table_of (contents_in w.parts)) };
 
+    type Plugged = X;
+
+    ghost boxes = { λ w. boxes_of w.parts.filters };
+
     fn act(
         &mut self,
         number: u64,
@@ -87,6 +91,7 @@ impl<X: Asked> Walker<X> {
             makes config.now draws (event.now ∷ []) passage) }
         ensures table { table_of (contents_in self.new.parts)
             ≡ table_of (contents_in self.old.parts) }
+        ensures boxes { boxes_of self.new.parts.filters ≡ boxes_of self.old.parts.filters }
         ensures may { (k : ℕ) (e : Ev) (v : Verdict)
             → MayAt X.may (boxes_of self.new.parts.filters) k e v
             → MayAt X.may (boxes_of self.old.parts.filters) k e v }

@@ -36,6 +36,7 @@ pub fn walk<X: Asked>(
         → IsPassageOf (MayAt X.may (boxes_in kit.old))
         makes config.now draws (event.now ∷ []) passage) }
     ensures table { table_of (contents_of kit.new) ≡ table_of (contents_of kit.old) }
+    ensures boxes { boxes_in kit.new ≡ boxes_in kit.old }
     ensures may { (k : ℕ) (e : Ev) (v : Verdict)
         → MayAt X.may (boxes_in kit.new) k e v
         → MayAt X.may (boxes_in kit.old) k e v }

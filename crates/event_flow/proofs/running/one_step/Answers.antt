@@ -9,6 +9,7 @@ pub loop-index-init : goal.loop-index-init
 loop-index-init g c = record {
   stands = c.requires;
   same = same_first (g.K.Kit.table c.args.kit.now) (g.K.Kit.may c.args.kit.now);
+  boxes = refl;
   through = through_first (g.K.Kit.may c.args.kit.now) (g.K.Kit.table c.args.kit.now) c.args.step c.args.cells [] [] refl;
   none = c.new-others.ensures;
   counted = c.len-index-end.ensures;
@@ -23,6 +24,7 @@ loop-index-preserved g c =
     record {
       stands = e.stands;
       same = same_then (kit.table c.args.kit.now) (kit.table c.loop-index.kit) (kit.table c.step_at.new.kit) (kit.may c.args.kit.now) (kit.may c.loop-index.kit) (kit.may c.step_at.new.kit) i.same e.table e.may;
+      boxes = e.boxes ∙ i.boxes;
       through = through_kept (kit.may c.args.kit.now) (kit.table c.args.kit.now) c.args.step c.args.cells (drop (c.loop-index.index + 1) c.step_at.new.cells) [] (take (c.loop-index.index + 1) c.step_at.new.cells) c.step_at.new.others none
           (through_at (kit.may c.args.kit.now) (kit.may c.loop-index.kit) (kit.table c.args.kit.now) (kit.table c.loop-index.kit) c.args.step c.args.cells c.loop-index.cells c.step_at.new.cells c.step_at.new.others [] c.loop-index.index i.same e.ok i.through);
       none = none;

@@ -1,4 +1,4 @@
-use Rattle.std.proofs.Common.{arith, ap, ◌∙◌}
+use Rattle.std.proofs.Common.{arith, ap, refl, ◌∙◌}
 use Rattle.event_flow.specs.Marks.{marks}
 use Rattle.event_flow.proofs.Batches.{running_starts, running_one, running_ends, same_first, same_then}
 use Rattle.event_flow.proofs.Cells.{started_marks}
@@ -9,6 +9,7 @@ pub loop-step-init : goal.loop-step-init
 loop-step-init g c = record {
   stands = c.requires;
   same = same_first (g.K.Kit.table c.args.kit.now) (g.K.Kit.may c.args.kit.now);
+  boxes = refl;
   running = running_starts (g.K.Kit.table c.args.kit.now) (g.K.Kit.may c.args.kit.now) c.args.steps.now c.args.events (marks (g.K.Kit.table c.args.kit.now) c.in_ok-cells.cells)
       (ap (marks (g.K.Kit.table c.args.kit.now)) c.in_ok-cells.ensures ∙ started_marks (g.K.Kit.table c.args.kit.now) c.args.events);
 }
@@ -21,6 +22,7 @@ loop-step-preserved g c =
     record {
       stands = e.stands;
       same = same_then (kit.table c.args.kit.now) (kit.table c.loop-step.kit) (kit.table c.one_step.new.kit) (kit.may c.args.kit.now) (kit.may c.loop-step.kit) (kit.may c.one_step.new.kit) i.same e.table e.may;
+      boxes = e.boxes ∙ i.boxes;
       running = running_one (kit.table c.args.kit.now) (kit.table c.loop-step.kit) (kit.may c.args.kit.now) (kit.may c.loop-step.kit) c.args.steps.now c.args.events (λ t. marks t c.loop-step.cells) (λ t. marks t c.in_ok-cells-2.cells) c.loop-step.step-index _ c.loop-step-test.true i.same i.running e.ok;
     }
 

@@ -1,3 +1,4 @@
+use Rattle.std.proofs.Common.{◌≡◌}
 use Rattle.event_flow.specs.Marks.{marks}
 use Rattle.event_flow.proofs.Batches.{Same, Running}
 use Rattle.event_flow.proofs.running.run.Given as goal
@@ -6,5 +7,6 @@ abbrev pub invariant-loop-step : goal.invariant-loop-step
 invariant-loop-step g l = record {
   stands : g.K.Kit.stands l.kit;
   same : Same (g.K.Kit.table l.fn.kit) (g.K.Kit.table l.kit) (g.K.Kit.may l.fn.kit) (g.K.Kit.may l.kit);
+  boxes : g.K.Kit.boxes l.kit ≡ g.K.Kit.boxes l.fn.kit;
   running : Running (g.K.Kit.table l.fn.kit) (g.K.Kit.may l.fn.kit) l.fn.steps l.fn.events (marks (g.K.Kit.table l.fn.kit) l.cells) l.step-index;
 }

@@ -1,4 +1,4 @@
-use Rattle.std.proofs.Common.{◌≡◌, ◌++◌, length, take, drop, arith, ap}
+use Rattle.std.proofs.Common.{◌≡◌, ◌++◌, length, take, drop, arith, ap, ◌∙◌}
 use Rattle.std.proofs.lemmas.List.{nil_from_length}
 use Rattle.event_flow.specs.Marks.{marks}
 use Rattle.event_flow.proofs.Batches.{same_then}
@@ -14,6 +14,7 @@ loop-cell-preserved g c =
     record {
       stands = e.stands;
       same = same_then (kit.table c.args.kit.now) (kit.table c.loop-cell.kit) (kit.table c.add_step.new.kit) (kit.may c.args.kit.now) (kit.may c.loop-cell.kit) (kit.may c.add_step.new.kit) i.same e.table e.may;
+      boxes = e.boxes ∙ i.boxes;
       through = through_one (kit.may c.args.kit.now) (kit.may c.loop-cell.kit) (kit.table c.args.kit.now) (kit.table c.loop-cell.kit) c.args.step (drop c.args.from c.args.cells) c.loop-cell.cell-iterator.rest.items c.next.new.self.rest.items (marks (kit.table c.args.kit.now) (take c.args.from c.args.cells ++ c.args.others)) c.loop-cell.out c.add_step.new.out c.in-Some.cell next.0 i.same i.through e.ok;
       counted = omega (arith, i.counted, next.1, ap length next.0);
     }

@@ -9,6 +9,7 @@ abbrev pub invariant-loop-cell : goal.invariant-loop-cell
 invariant-loop-cell g l = record {
   stands : g.K.Kit.stands l.kit;
   same : Same (g.K.Kit.table l.fn.kit) (g.K.Kit.table l.kit) (g.K.Kit.may l.fn.kit) (g.K.Kit.may l.kit);
+  boxes : g.K.Kit.boxes l.kit ≡ g.K.Kit.boxes l.fn.kit;
   through : Through (g.K.Kit.may l.fn.kit) (g.K.Kit.table l.fn.kit) l.fn.step (drop l.fn.from l.fn.cells) l.cell-iterator.rest.items
       (marks (g.K.Kit.table l.fn.kit) (take l.fn.from l.fn.cells ++ l.fn.others)) l.out;
   counted : into_iter_len l.cell-iterator ≡ length l.cell-iterator.rest.items;

@@ -1,4 +1,4 @@
-use Rattle.std.proofs.Common.{◌≡◌, [], ◌∷◌, sym, subst, refl, rules, map, IfOk}
+use Rattle.std.proofs.Common.{◌≡◌, [], ◌∷◌, sym, subst, ap, ◌∙◌, refl, rules, map, IfOk}
 use Rattle.event_flow.specs.Laying.{IsTableOf}
 use Rattle.event_flow.specs.Places.{Draws}
 use Rattle.plugin_graph.specs.KitParts.{contents_in}
@@ -24,3 +24,6 @@ returns-clause-passage g c =
 pub returns-clause-may : goal.returns-clause-may
 returns-clause-may g c = λ k e v may_be.
     subst (λ x. MayAt g.X.Asked.may (boxes_of x.filters) k e v) c.replace-parts.ensures.value (c.pass-passage.ensures.may k e v may_be)
+
+pub returns-clause-boxes : goal.returns-clause-boxes
+returns-clause-boxes g c = c.pass-passage.ensures.boxes ∙ ap (λ x. boxes_of x.filters) c.replace-parts.ensures.value
