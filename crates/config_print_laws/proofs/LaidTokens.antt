@@ -27,23 +27,23 @@ use Rattle.config_print.specs.Layout.{Piece, text_of, tokens_of}
 use Rattle.config_print.specs.Printed.{lines_text}
 use Rattle.config_print_laws.proofs.Placed.{Suits, Placed, first_literal}
 use Rattle.config_print_laws.proofs.Strings.{printed_closes, regexp_closes, unescaped_again}
-use Rattle.config_print_laws.proofs.Words.{letter_in_word, Apart, blank_case, word_run, parts_again, opens_list}
+use Rattle.config_print_laws.proofs.Words.{letter_in_word, Apart, blank_case, word_run, no_part, parts_again, opens_list}
 use Rattle.config_print_laws.proofs.Numbers.{IsHeld, number_lexes}
 use Rattle.config_print_laws.proofs.Fit.{Fit, word_more, behind_letters, behind_numbers, Found_fits, found_fits}
 use Rattle.config_lex.specs.declared.token.Lexeme.{Lexeme}
 
 -- ---- the lexer without places
 
-abbrev scanned : Found → List ℕ → Context → (Context → List ℕ → List Token) → List Token
+abbrev pub scanned : Found → List ℕ → Context → (Context → List ℕ → List Token) → List Token
 scanned None s x go = t.Unreadable ∷ []
 scanned (Some p) s x go = p.0 ∷ go (after_token x p.0) (drop p.1 s)
 
-abbrev scan_next : Context → List ℕ → (Context → List ℕ → List Token) → List Token
+abbrev pub scan_next : Context → List ℕ → (Context → List ℕ → List Token) → List Token
 scan_next x [] go = []
 scan_next x (b ∷ s) go = scanned (token_at x (b ∷ s)) (b ∷ s) x go
 
 -- at most so many tokens
-unfoldable scan : ℕ → Context → List ℕ → List Token
+unfoldable pub scan : ℕ → Context → List ℕ → List Token
 scan zero x s = []
 scan (suc n) x s = scan_next x (drop (skip false s) s) (λ y r. scan n y r)
 
@@ -67,7 +67,7 @@ lexed_scan (suc n) at x text = by (drop place text) refl (λ p y. lexed_scan n p
     by (b ∷ s) h again = one (b ∷ s) (token_at x (b ∷ s)) h again
 
 -- the tokens of a text
-tokens_scanned : (text : List ℕ) → tokens text ≡ scan (length text) start text
+pub tokens_scanned : (text : List ℕ) → tokens text ≡ scan (length text) start text
 tokens_scanned text = lexed_scan (length text) 0 start text
 
 scan_fits : (n : ℕ) (x : Context) (s : List ℕ) → AllOf Fit (scan n x s)
@@ -177,15 +177,15 @@ number_reads x n rest h u =
     ∙ ap (λ k. option_map (λ value. (t.Number value (take k v), k)) (number_of (take k v))) r.goes ∙ ap (λ l. option_map (λ value. (t.Number value l, length s)) (number_of l)) (take-append_seam s rest)
     ∙ ap (option_map (λ value. (t.Number value s, length s))) r.value
 
-bracket_there : (x : Context) (v : List ℕ) → token_at x (91 ∷ v) ≡ bracket_at x.at_operand (91 ∷ v)
+pub bracket_there : (x : Context) (v : List ℕ) → token_at x (91 ∷ v) ≡ bracket_at x.at_operand (91 ∷ v)
 unfolding token_at
 bracket_there x v = refl
 
-parts_short : (ps : List (List ℕ)) (rest : List ℕ) → length ps ≤ length (bracketed ps ++ rest)
+pub parts_short : (ps : List (List ℕ)) (rest : List ℕ) → length ps ≤ length (bracketed ps ++ rest)
 parts_short [] rest = omega arith
 parts_short (p ∷ ps) rest = omega (arith, parts_short ps rest, length-append (p ++ 93 ∷ bracketed ps) rest, length-append p (93 ∷ bracketed ps), length-append (bracketed ps) rest)
 
-selector_long : (ps : List (List ℕ)) → selector_length ps ≡ length (bracketed ps)
+pub selector_long : (ps : List (List ℕ)) → selector_length ps ≡ length (bracketed ps)
 selector_long [] = refl
 selector_long (p ∷ ps) = omega (arith, selector_long ps, length-append p (93 ∷ bracketed ps))
 
@@ -199,7 +199,7 @@ selector_reads x (p ∷ ps) rest h e u =
     ap (λ k. begins_literals (drop k (91 ∷ v))) one ∙ ap (λ l. begins_literals (drop (skip false l) l)) same ∙ opens_list p (bracketed ps ++ rest) h.0.0.0 ∙ ap not h.1 in
     bracket_there x v ∙ ap (λ z. bracket_at z (91 ∷ v)) e
     ∙ ap (λ z. if not z then selector_of (parts_at (length (91 ∷ v)) [] (91 ∷ v)) else Some (t.OpenBracket, 1)) opens
-    ∙ ap selector_of (parts_again (length (91 ∷ v)) [] (p ∷ ps) rest (parts_short (p ∷ ps) rest) h.0 u)
+    ∙ ap selector_of (parts_again (length (91 ∷ v)) [] (p ∷ ps) rest (parts_short (p ∷ ps) rest) h.0 (no_part rest u))
     ∙ ap (λ k. Some (t.Selector (p ∷ ps), k)) (selector_long (p ∷ ps))
 
 list_reads : (x : Context) (v : List ℕ) → ((x.at_operand ≡ false) ⊎ (begins_literals (drop (skip false v) v) ≡ true)) → Takes x t.OpenBracket v
@@ -231,17 +231,17 @@ matched_reads x matching.Matches rest = refl
 matched_reads x matching.MatchesNot rest = refl
 
 -- a byte that begins a token
-abbrev solid : ℕ → Bool
+abbrev pub solid : ℕ → Bool
 solid b = not (is_blank b) && not (b == 35)
 
-skip_solid : (b : ℕ) (v : List ℕ) → solid b ≡ true → skip false (b ∷ v) ≡ 0
+pub skip_solid : (b : ℕ) (v : List ℕ) → solid b ≡ true → skip false (b ∷ v) ≡ 0
 unfolding skip
 skip_solid b v h =
     let one : is_blank b ≡ false = grind (arith, nat_tests, h) in
     let two : (b == 35) ≡ false = grind (arith, nat_tests, h) in
     ap (λ z. if z then suc (skip false v) else (if b == 35 then suc (skip true v) else 0)) one ∙ ap (λ z. if z then suc (skip true v) else 0) two
 
-skip_blank : (b : ℕ) (v : List ℕ) → is_blank b ≡ true → skip false (b ∷ v) ≡ suc (skip false v)
+pub skip_blank : (b : ℕ) (v : List ℕ) → is_blank b ≡ true → skip false (b ∷ v) ≡ suc (skip false v)
 unfolding skip
 skip_blank b v h = ap (λ z. if z then suc (skip false v) else (if b == 35 then suc (skip true v) else 0)) h
 
@@ -252,13 +252,13 @@ no_token x [] p = (λ e. absurd (cc), λ e. absurd (cc), λ e. absurd (cc), λ e
 no_token x (c ∷ v) p = (λ e. absurd (cc), λ e. absurd (cc), λ e. absurd (cc), λ e. absurd (cc), λ e. absurd (cc))
 
 -- where a token is found, a byte begins it
-record Begins (s : List ℕ) : Type 0 where
-  first : ℕ
-  more : List ℕ
-  is : s ≡ first ∷ more
-  solid_first : solid first ≡ true
+pub record Begins (s : List ℕ) : Type 0 where
+  pub first : ℕ
+  pub more : List ℕ
+  pub is : s ≡ first ∷ more
+  pub solid_first : solid first ≡ true
 
-begins : (x : Context) (s : List ℕ) (p : Token × ℕ) → token_at x s ≡ Some p → Begins s
+pub begins : (x : Context) (s : List ℕ) (p : Token × ℕ) → token_at x s ≡ Some p → Begins s
 unfolding token_at
 begins x [] p e = absurd (cc)
 begins x (b ∷ v) p e = record { first = b; more = v; is = refl; solid_first = at (is_blank b) (b == 35) refl refl }
@@ -268,7 +268,7 @@ begins x (b ∷ v) p e = record { first = b; more = v; is = refl; solid_first = 
     at false true h u = absurd ((no_token x v p).4 (ap (λ k. token_at x (k ∷ v)) (sym (eqb-true b 35 u)) ∙ e))
     at false false h u = refl
 
-no_skip : (x : Context) (s : List ℕ) (p : Token × ℕ) → token_at x s ≡ Some p → skip false s ≡ 0
+pub no_skip : (x : Context) (s : List ℕ) (p : Token × ℕ) → token_at x s ≡ Some p → skip false s ≡ 0
 no_skip x s p e = let h = begins x s p e in ap (skip false) h.is ∙ skip_solid h.first h.more h.solid_first
 
 -- and is part of it
@@ -356,7 +356,7 @@ token_reads x (t.Comparison j) ps s h f w i l u = compared_reads x j s u
 token_reads x (t.Matching j) ps s h f w i l u = matched_reads x j s
 token_reads x t.Unreadable ps s h f w i l u = absurd w
 
-scan_nil : (n : ℕ) (x : Context) → scan n x [] ≡ []
+pub scan_nil : (n : ℕ) (x : Context) → scan n x [] ≡ []
 unfolding scan
 scan_nil zero x = refl
 scan_nil (suc n) x = ap (λ s. scan_next x s (λ y r. scan n y r)) (drop_all (skip false []) [] (omega arith))
@@ -366,7 +366,7 @@ unfolding scan
 scan_blank zero x b s h = refl
 scan_blank (suc n) x b s h = ap (λ k. scan_next x (drop k (b ∷ s)) (λ y r. scan n y r)) (skip_blank b s h)
 
-scan_token : (m : ℕ) (x : Context) (y : Token) (w s : List ℕ) → token_at x (w ++ s) ≡ Some (y, length w) → scan (suc m) x (w ++ s) ≡ y ∷ scan m (after_token x y) s
+pub scan_token : (m : ℕ) (x : Context) (y : Token) (w s : List ℕ) → token_at x (w ++ s) ≡ Some (y, length w) → scan (suc m) x (w ++ s) ≡ y ∷ scan m (after_token x y) s
 unfolding scan
 scan_token m x y w s e =
     let v = w ++ s in

@@ -11,3 +11,5 @@ pub mod Numbers
 pub mod Fit
 pub mod LaidTokens
 pub mod RoundTrip
+pub mod Gaps
+pub mod Respacing

@@ -51,11 +51,11 @@ run_passes test (b ∷ s) = at (test b) refl (run_passes test s)
     at true is again = and_from (test b) (list_all test (take (passing test s) s)) is again
     at false is again = refl
 
-run_none : (test : ℕ → Bool) (b : ℕ) (s : List ℕ) → test b ≡ false → passing test (b ∷ s) ≡ 0
+pub run_none : (test : ℕ → Bool) (b : ℕ) (s : List ℕ) → test b ≡ false → passing test (b ∷ s) ≡ 0
 unfolding passing
 run_none test b s h = ap (λ z. if z then suc (passing test s) else 0) h
 
-run_empty : (test : ℕ → Bool) → passing test [] ≡ 0
+pub run_empty : (test : ℕ → Bool) → passing test [] ≡ 0
 unfolding passing
 run_empty test = refl
 
@@ -98,7 +98,7 @@ PartsFit (p ∷ ps) = PartFits p × PartsFit ps
 part_run : (p r : List ℕ) → list_all is_in_part p ≡ true → passing is_in_part (p ++ 93 ∷ r) ≡ length p
 part_run p r h = run_all is_in_part p (93 ∷ r) h (run_none is_in_part 93 r refl)
 
-part_is : (p r : List ℕ) → PartFits p → part_length (91 ∷ (p ++ 93 ∷ r)) ≡ Some (length p)
+pub part_is : (p r : List ℕ) → PartFits p → part_length (91 ∷ (p ++ 93 ∷ r)) ≡ Some (length p)
 part_is p r h =
     ap (λ k. if not (k == 0) && begins_with 93 (drop k (p ++ 93 ∷ r)) then Some k else None) (part_run p r h.0)
     ∙ ap (λ z. if not z && begins_with 93 (drop (length p) (p ++ 93 ∷ r)) then Some (length p) else None) h.1
@@ -108,16 +108,16 @@ drop_past_end : (p r : List ℕ) → drop (length p + 1) (p ++ 93 ∷ r) ≡ r
 drop_past_end [] r = refl
 drop_past_end (b ∷ p) r = let e : suc (length p) + 1 ≡ suc (length p + 1) = omega arith in ap (λ k. drop k (b ∷ (p ++ 93 ∷ r))) e ∙ drop_past_end p r
 
-drop_part : (p r : List ℕ) → drop (length p + 2) (91 ∷ (p ++ 93 ∷ r)) ≡ r
+pub drop_part : (p r : List ℕ) → drop (length p + 2) (91 ∷ (p ++ 93 ∷ r)) ≡ r
 drop_part p r = let e : length p + 2 ≡ suc (length p + 1) = omega arith in ap (λ k. drop k (91 ∷ (p ++ 93 ∷ r))) e ∙ drop_past_end p r
 
-no_part : (rest : List ℕ) → Apart rest → part_length rest ≡ None
+pub no_part : (rest : List ℕ) → Apart rest → part_length rest ≡ None
 no_part [] h = refl
 no_part (b ∷ s) h = blank_case (λ k. part_length (k ∷ s) ≡ None) b h refl refl refl refl
 
 -- the parts that are written are read
-pub parts_again : (n : ℕ) (front ps : List (List ℕ)) (rest : List ℕ) → length ps ≤ n → PartsFit ps → Apart rest → parts_at n front (bracketed ps ++ rest) ≡ front ++ ps
-parts_again n front [] rest l h u = parts_stop n front rest (no_part rest u) ∙ sym (append-nil front)
+pub parts_again : (n : ℕ) (front ps : List (List ℕ)) (rest : List ℕ) → length ps ≤ n → PartsFit ps → part_length rest ≡ None → parts_at n front (bracketed ps ++ rest) ≡ front ++ ps
+parts_again n front [] rest l h u = parts_stop n front rest u ∙ sym (append-nil front)
 parts_again zero front (p ∷ ps) rest l h u = absurd (omega arith)
 parts_again (suc n) front (p ∷ ps) rest l h u =
     let r = bracketed ps ++ rest in
@@ -151,12 +151,12 @@ opens_list (b ∷ p) r h = at (is_blank b) (opens_list p r (and_parts (is_in_par
     at false again = ap (λ z. begins_literals (drop (if z then suc (skip true (p ++ 93 ∷ r)) else 0) (b ∷ (p ++ 93 ∷ r)))) no_comment ∙ not_not (begins_literals (b ∷ []))
 
 -- what the lexer takes as a part
-record PartRead (s : List ℕ) (k : ℕ) : Type 0 where
-  rest : List ℕ
-  whole : s ≡ 91 ∷ (take k (drop 1 s) ++ 93 ∷ rest)
-  fits : PartFits (take k (drop 1 s))
+pub record PartRead (s : List ℕ) (k : ℕ) : Type 0 where
+  pub rest : List ℕ
+  pub whole : s ≡ 91 ∷ (take k (drop 1 s) ++ 93 ∷ rest)
+  pub fits : PartFits (take k (drop 1 s))
 
-run_length : (test : ℕ → Bool) (s : List ℕ) → length (take (passing test s) s) ≡ passing test s
+pub run_length : (test : ℕ → Bool) (s : List ℕ) → length (take (passing test s) s) ≡ passing test s
 unfolding passing
 run_length test [] = refl
 run_length test (b ∷ s) = at (test b) (run_length test s)
@@ -165,11 +165,11 @@ run_length test (b ∷ s) = at (test b) (run_length test s)
     at true again = ap suc again
     at false again = refl
 
-begins_is : (c : ℕ) (s : List ℕ) → begins_with c s ≡ true → s ≡ c ∷ drop 1 s
+pub begins_is : (c : ℕ) (s : List ℕ) → begins_with c s ≡ true → s ≡ c ∷ drop 1 s
 begins_is c [] h = absurd (cc)
 begins_is c (b ∷ s) h = ap (λ k. k ∷ s) (eqb-true b c h)
 
-part_from : (s : List ℕ) (k : ℕ) → part_length s ≡ Some k → PartRead s k
+pub part_from : (s : List ℕ) (k : ℕ) → part_length s ≡ Some k → PartRead s k
 part_from [] k h = absurd (cc)
 part_from (b ∷ s) k h = at (b == 91 && not (passing is_in_part s == 0) && begins_with 93 (drop (passing is_in_part s) s)) refl h
   where

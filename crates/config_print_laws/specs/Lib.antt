@@ -1,3 +1,4 @@
 pub mod Once
 pub mod Laws
 pub mod Answers
+pub mod Respaced

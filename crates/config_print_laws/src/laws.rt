@@ -3,6 +3,7 @@
 ghost use Rattle.std.specs.Prelude.{ℕ, List};
 ghost use Rattle.config_lex.specs.declared.token.Token.{Token};
 ghost use Rattle.config_print_laws.specs.Laws as law;
+ghost use Rattle.config_print_laws.specs.Respaced.{GapsChangeNoToken};
 
 /// The tokens that a condition is printed as read as that condition, with no more levels than the tokens that
 /// it was read from.
@@ -28,4 +29,10 @@ pub fn names_stand_once()
 pub fn printed_text_reads()
     ensures tokens { (levels : ℕ) (text : List ℕ) → law.HasPrintedTokens levels text }
     ensures reads { (levels : ℕ) (text : List ℕ) → law.PrintedReads levels text }
+{}
+
+/// Blanks and comments change no token: a text with other blanks and comments between its tokens has the same tokens. Some stand
+/// only where some stood, and where there was a comment there is one.
+pub fn gaps_change_no_token()
+    ensures { GapsChangeNoToken }
 {}

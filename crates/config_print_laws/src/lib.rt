@@ -5,6 +5,7 @@ mod laws;
 mod reading;
 
 pub use laws::{
-    condition_reads_again, configuration_reads_again, names_stand_once, printed_text_reads,
+    condition_reads_again, configuration_reads_again, gaps_change_no_token, names_stand_once,
+    printed_text_reads,
 };
 pub use reading::print_and_parse;
