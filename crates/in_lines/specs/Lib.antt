@@ -1,4 +1,6 @@
 pub mod Polls
 pub mod Events
+pub mod Decoding
 pub mod Rows
 pub mod Given
+pub mod Samples

@@ -1,9 +1,10 @@
-ghost use Rattle.std.specs.Prelude.{◌≡◌, IfOk, OnOk, [], ◌∷◌, ◌++◌, codes};
+ghost use Rattle.std.specs.Prelude.{◌≡◌, ◌≤◌, IfOk, OnOk, [], ◌∷◌, ◌++◌, codes, length};
 ghost use Rattle.plain_data.specs.Members.{AllBelow};
 ghost use Rattle.event_tree.specs.declared.value.Value.TheVariants as v;
-ghost use Rattle.in_lines.specs.Events.{event_of};
+ghost use Rattle.event_tree.specs.Events.{both};
+ghost use Rattle.in_lines.specs.Events.{event_of, members_of};
 
-use event_tree::{Fields, Text, Value};
+use event_tree::{Event, Fields, Text, Value};
 use std::alloc::{AllocError, Global};
 use time_instant::Instant;
 
@@ -16,12 +17,32 @@ pub fn line_event(alloc: Global, line: &str, moment: Instant) -> Result<Value, A
     ensures { IfOk result
         (λ event. event ≡ event_of (record { line = line.now; moment = moment })) }
 {
+    Ok(Value::Object(line_fields(alloc, line, moment)?))
+}
+
+/// The same as an event, with nothing in its meta. A line of at most `LINE_LIMIT` bytes has a text that is short enough.
+pub fn event_of_line(alloc: Global, line: &str, moment: Instant) -> Result<Event, AllocError>
+    requires { length line.now ≤ 8388558 }
+    ensures { IfOk result (λ event. event
+        ≡ both (event_of (record { line = line.now; moment = moment })) (v.Object [])) }
+{
+    // Whoever reads a moment knows that it lies in its years.
+    let _nanos = moment.nanos();
+    let fields = line_fields(alloc, line, moment)?;
+    let size = 100 + 2 * line.len() as u64;
+    Ok(Event::from_objects(alloc, fields, Fields::new(alloc), size))
+}
+
+fn line_fields(alloc: Global, line: &str, moment: Instant) -> Result<Fields<Value>, AllocError>
+    ensures { IfOk result
+        (λ fields. fields ≡ members_of (record { line = line.now; moment = moment })) }
+{
     let mut fields = Fields::with_capacity(alloc, 4)?;
     add_member(alloc, &mut fields, "@timestamp", Value::Time(moment))?;
     add_text(alloc, &mut fields, "@version", "1")?;
     add_original(alloc, &mut fields, line)?;
     add_text(alloc, &mut fields, "message", line)?;
-    Ok(Value::Object(fields))
+    Ok(fields)
 }
 
 /// The object that keeps the line as it came.

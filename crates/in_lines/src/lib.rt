@@ -7,16 +7,20 @@
 #![tactic(auto)]
 
 mod by_poll;
+mod decoding;
 mod event;
 mod laws;
 mod poll;
 mod row;
+mod sample;
 
 pub use by_poll::events_of_polls;
-pub use event::{LINE_LIMIT, line_event};
+pub use decoding::event_by_codec;
+pub use event::{LINE_LIMIT, event_of_line, line_event};
 pub use laws::{
     cutting_a_piece_changes_no_line, each_poll_adds_the_lines_that_it_makes_whole,
     received_lines_are_those_of_all_bytes,
 };
 pub use poll::{Piece, Poll};
 pub use row::write_row;
+pub use sample::{next_number, sample_line};

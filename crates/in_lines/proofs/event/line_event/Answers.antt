@@ -1,7 +1,0 @@
-use Rattle.std.proofs.Common.{ap}
-use Rattle.event_tree.specs.declared.value.Value.TheVariants as v
-use Rattle.in_lines.proofs.Made.{four_pushed}
-use Rattle.in_lines.proofs.event.line_event.Goals as goal
-
-pub returns : goal.returns
-returns c = ap v.Object (four_pushed c.in_ok-fields.ensures c.in_ok-add_member.ensures c.in_ok-add_text.ensures c.in_ok-add_original.ensures c.in_ok-add_text-2.ensures)

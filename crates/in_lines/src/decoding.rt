@@ -1,0 +1,152 @@
+//! The event of a line, by the codec of its input.
+
+ghost use Rattle.std.specs.Prelude.{◌≡◌, ◌≤◌, ◌∷◌, [], codes, length, IfOk, OnOk};
+ghost use Rattle.decoded_fields.specs.Decoded.{named};
+ghost use Rattle.event_text.specs.Options.{each_done, set_at, tagged};
+ghost use Rattle.event_tree.specs.declared.value.Value.TheVariants as v;
+ghost use Rattle.in_lines.specs.Decoding as spec;
+
+use crate::event::event_of_line;
+use decoded_fields::{failure_tags, field_path, json_value, place};
+use event_text::{add_tag, try_put};
+use event_tree::{Event, Fields, Names, Path, Text, Value};
+use line_codecs::Codec;
+use std::alloc::{AllocError, Global};
+use time_instant::Instant;
+
+/// The event of a line that a poll at `moment` made whole.
+///
+/// - `Plain` and `Line`: the line is its `message`, as [`event_of_line`] has it.
+/// - `Json` and `JsonLines`: the members of the JSON object that the line is, where [`place`] puts them, with the tags of
+///   [`failure_tags`] behind the object's own. `@version` and `@timestamp` are set where they are missing, and
+///   `[event][original]` is the line. A line that is no JSON object is read as by `Line`, and tagged
+///   `_jsonparsefailure`.
+///
+/// What an event can't hold is not set. The only error is want of memory.
+pub fn event_by_codec(
+    alloc: Global,
+    codec: Codec,
+    line: &str,
+    moment: Instant,
+) -> Result<Event, AllocError>
+    requires { length line.now ≤ 8388558 }
+    ensures { IfOk result (λ event. event
+        ≡ spec.event_by codec (record { line = line.now; moment = moment })) }
+{
+    match codec {
+        Codec::Plain | Codec::Line => event_of_line(alloc, line, moment),
+        Codec::Json | Codec::JsonLines => {
+            let value = json_value(alloc, line)?;
+            event_of_json(alloc, value, line, moment)
+        }
+    }
+}
+
+// The event of a line that is the text of this value, or of none.
+fn event_of_json(
+    alloc: Global,
+    value: Option<Value>,
+    line: &str,
+    moment: Instant,
+) -> Result<Event, AllocError>
+    requires { length line.now ≤ 8388558 }
+    ensures { IfOk result (λ event. event
+        ≡ spec.json_event (record { line = line.now; moment = moment }) value) }
+{
+    match value {
+        Some(Value::Object(members)) => event_of_object(alloc, members, line, moment),
+        _ => failed(alloc, line, moment),
+    }
+}
+
+fn failed(alloc: Global, line: &str, moment: Instant) -> Result<Event, AllocError>
+    requires { length line.now ≤ 8388558 }
+    ensures { IfOk result
+        (λ event. event ≡ spec.failed (record { line = line.now; moment = moment })) }
+{
+    let mut event = event_of_line(alloc, line, moment)?;
+    add_tag(&mut event, Text::of(alloc, "_jsonparsefailure")?)?;
+    Ok(event)
+}
+
+fn event_of_object(
+    alloc: Global,
+    members: Fields<Value>,
+    line: &str,
+    moment: Instant,
+) -> Result<Event, AllocError>
+    ensures { IfOk result (λ event. event
+        ≡ spec.object_event (record { line = line.now; moment = moment }) members) }
+{
+    let tags = failure_tags(alloc, &members)?;
+    let mut event = Event::new(alloc);
+    put_members(&mut event, members)?;
+    add_tags(&mut event, tags.as_slice())?;
+    put_missing(
+        alloc,
+        &mut event,
+        "@version",
+        Value::Text(Text::of(alloc, "1")?),
+    )?;
+    put_missing(alloc, &mut event, "@timestamp", Value::Time(moment))?;
+    put_original(alloc, &mut event, line)?;
+    Ok(event)
+}
+
+#[tactic(auto, using(event_text::proofs::Going::going))]
+fn put_members(event: &mut Event, members: Fields<Value>) -> Result<(), AllocError>
+    ensures { OnOk result (event.new ≡ each_done spec.with_member members event.old) }
+{
+    for (key, value) in members.into_vec() {
+        put_member(event, key, value)?;
+    }
+    Ok(())
+}
+
+fn put_member(event: &mut Event, key: Text, value: Value) -> Result<(), AllocError>
+    ensures { OnOk result (event.new ≡ spec.with_member (key, value) event.old) }
+{
+    match place(key, value)? {
+        Some((path, value)) => try_put(event, &path, value),
+        None => Ok(()),
+    }
+}
+
+#[tactic(auto, using(event_text::proofs::Going::going))]
+fn add_tags(event: &mut Event, tags: &[Text]) -> Result<(), AllocError>
+    ensures { OnOk result (event.new ≡ each_done tagged tags.now event.old) }
+{
+    for tag in tags {
+        add_tag(event, tag.copy()?)?;
+    }
+    Ok(())
+}
+
+// Sets the field of a name, where it is missing.
+fn put_missing(alloc: Global, event: &mut Event, name: &str, value: Value) -> Result<(), AllocError>
+    ensures { OnOk result (event.new ≡ spec.set_missing (named name.now) value event.old) }
+{
+    let path = field_path(Text::of(alloc, name)?)?;
+    if event.get(&path).is_some() {
+        return Ok(());
+    }
+    try_put(event, &path, value)
+}
+
+// Sets the line at `[event][original]`.
+fn put_original(alloc: Global, event: &mut Event, line: &str) -> Result<(), AllocError>
+    ensures { OnOk result (event.new
+        ≡ set_at spec.original (v.Text line.now) event.old) }
+{
+    let path = original_path(alloc)?;
+    try_put(event, &path, Value::Text(Text::of(alloc, line)?))
+}
+
+fn original_path(alloc: Global) -> Result<Path, AllocError>
+    ensures { IfOk result (λ path. path ≡ spec.original) }
+{
+    let mut parts = Names::new(alloc);
+    parts.push(Text::of(alloc, "event")?)?;
+    parts.push(Text::of(alloc, "original")?)?;
+    Ok(Path::of_parts(parts))
+}
