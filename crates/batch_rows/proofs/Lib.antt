@@ -1,0 +1,3 @@
+pub mod Deliveries
+pub mod Batching
+pub mod OnceMore

@@ -1,0 +1,5 @@
+pub mod Codecs
+pub mod Batches
+pub mod Sends
+pub mod Running
+pub mod Closing
