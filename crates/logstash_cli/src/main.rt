@@ -1,9 +1,10 @@
-//! The program `logstash`: runs or tests what its words ask for, over the real stdin, stdout, stderr and clock. What it does is
-//! the contract of the call that it makes: `logstash`, or `test_config`, as `which` says.
+//! The program `logstash`: runs or tests what its words ask for, over the real stdin, stdout, stderr and clock, with no boxes
+//! of its own. What it does is the contract of the call that it makes: `logstash`, or `test_config`, as `which` says.
 #![tactic(auto)]
 
 mod standard;
 
+use foreign_parts::{Boxes, Rack};
 use io_real::{StdinSource, SystemClock, WriteSink};
 use logstash_top::{Status, ThinWorld, Which, logstash, test_config, which};
 use standard::StandardOutput;
@@ -26,24 +27,30 @@ fn main(rt: HostRuntime) -> ExitCode {
         let _ = eprintln!(rt; "logstash: no memory");
         return ExitCode::from(NO_MEMORY);
     };
+    let mut rack = Rack::new(rt.alloc());
     let status = match call {
-        Which::Test => tested(&rt, &words, world),
+        Which::Test => tested(&rt, &words, world, &mut rack),
         Which::Run | Which::Apart => {
             let mut world = world;
-            logstash(&rt, rt.alloc(), &words, &mut world)
+            logstash(&rt, rt.alloc(), &words, &mut world, &mut rack)
         }
     };
     ExitCode::from(status.number())
 }
 
 /// Tests the configuration that the words name, over the real stdout and stderr.
-fn tested(rt: &HostRuntime, words: &[String], world: RealWorld<'_>) -> Status {
+fn tested<B: Boxes>(
+    rt: &HostRuntime,
+    words: &[String],
+    world: RealWorld<'_>,
+    boxes: &mut B,
+) -> Status {
     let ThinWorld {
         mut stdout,
         mut stderr,
         ..
     } = world;
-    test_config(rt.alloc(), words, &mut stdout, &mut stderr)
+    test_config(rt.alloc(), words, &mut stdout, &mut stderr, boxes)
 }
 
 /// The words, the call that they are for, and the real objects. The only error is want of memory.

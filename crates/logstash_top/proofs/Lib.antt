@@ -1,6 +1,10 @@
+pub mod BatchLemmas
 pub mod RowLemmas
 pub mod PumpLemmas
 pub mod PartsLemmas
 pub mod Statuses
 pub mod Answering
 pub mod Starting
+pub mod Ending
+pub mod ClosingLemmas
+pub mod TopLemmas

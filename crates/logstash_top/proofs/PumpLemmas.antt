@@ -1,12 +1,12 @@
 -- One poll after another.
-use Rattle.std.proofs.Common.{◌≡◌, ◌⊎◌, inl, inr, ⊎_elim, ◌<◌, ◌≤◌, ◌+◌, ◌-◌, ◌^◌, ℕ, ℤ, Bool, true, false, List, [], ◌∷◌, ◌++◌, map, length, take, drop, Result, Ok, Err, IsOk, IsErr, OnOk, refl, sym, ap, ◌∙◌, subst, arith, append-nil}
+use Rattle.std.proofs.Common.{◌≡◌, ◌⊎◌, inl, inr, ⊎_elim, ◌<◌, ◌≤◌, ◌+◌, ◌-◌, ◌^◌, ℕ, ℤ, Bool, true, false, List, [], ◌∷◌, ◌++◌, length, take, drop, Result, Ok, Err, IsOk, IsErr, OnOk, refl, sym, ap, ◌∙◌, subst, arith, append-nil}
 use Rattle.std.proofs.lemmas.List.{map-append}
 use Rattle.std.proofs.Math.Seq.{take-append_seam}
 use Rattle.std.proofs.lemmas.List.Concat.{flat_map-append}
 use Rattle.io_traits.specs.Pieces.{Piece, Came, End, Nothing, bytes_in, piece_list}
 use Rattle.io_traits.specs.Counts.{Rose}
-use Rattle.io_traits.specs.Telling.{Grows, GrowsInPart, Shrinks, IsAtEnd}
-use Rattle.io_traits.proofs.Growth.{grows_same, grows_by, grows_then, shrinks_same, shrinks_by, shrinks_then, in_part_none, in_part_then}
+use Rattle.io_traits.specs.Telling.{Grows, Shrinks, IsAtEnd}
+use Rattle.io_traits.proofs.Growth.{grows_same, grows_by, grows_then, shrinks_same, shrinks_by, shrinks_then}
 use Rattle.io_traits.specs.declared.sources.Source.{Ghosts as SourceWords}
 use Rattle.io_traits.specs.declared.sinks.Sink.{Ghosts as SinkWords}
 use Rattle.io_traits.specs.declared.clocks.Clock.{Ghosts as ClockWords}
@@ -14,14 +14,19 @@ use Rattle.byte_lines.specs.Lines.{whole_lines, texts_of}
 use Rattle.byte_lines.specs.Unread.{Unread, lines_left, rest_of}
 use Rattle.byte_lines.proofs.Splitting.{split_of-settled}
 use Rattle.byte_lines.proofs.Giving.{unread, rest_of-none_left}
-use Rattle.in_lines.specs.Polls.{Poll, joined, joined_with, is_ended, ended_with, received, received_at, rest_through, lines_by}
-use Rattle.in_lines.specs.Events.{event_of, events_of}
-use Rattle.in_lines.specs.Rows.{out_bytes}
-use Rattle.in_lines.proofs.Receiving.{joined-append, is_ended-append, received-nil, received-lines, received-more, rest_through-nil, rest_through-more, rest_through-nothing}
+use Rattle.in_lines.specs.Polls.{Poll, joined, joined_with, is_ended, ended_with, rest_through, lines_by}
+use Rattle.in_lines.proofs.Receiving.{joined-append, is_ended-append, received-lines, rest_through-nil, rest_through-more, rest_through-nothing}
 use Rattle.logstash_top.specs.declared.world.ThinWorld.{ThinWorld}
-use Rattle.logstash_top.specs.Rows.{rows_at}
+use Rattle.config_tree.specs.declared.tree.Config.{Config}
+use Rattle.event_tree.specs.Events.{Ev}
+use Rattle.event_flow.specs.Places.{Draws}
+use Rattle.foreign_parts.specs.declared.filter.Verdict.{Verdict}
+use Rattle.batch_rows.specs.Batches.{TookBatches, TookFirst}
+use Rattle.batch_rows.specs.Running.{batches_of}
+use Rattle.batch_rows.proofs.Batching.{batches_then, first_then, no_batches}
+use Rattle.logstash_top.specs.Rows.{batches_in, events_at}
+use Rattle.logstash_top.proofs.BatchLemmas.{batches_more, batches_still, first_still, no_batches_yet}
 use Rattle.logstash_top.specs.Runs.{line_limit, pieces_in, empty_with, empty_in, AreCounted, StopsAtEnd, Polled, Ran}
-use Rattle.logstash_top.proofs.RowLemmas.{out_bytes-append}
 
 abbrev pub poll_of : ℤ → Piece → Poll
 poll_of moment piece = record { moment = moment; piece = piece }
@@ -30,11 +35,8 @@ some : 0 < line_limit
 some = omega arith
 
 -- a room that was filled as a whole
-pub whole_room : (len : ℕ) (new items : List ℕ) → length new ≡ len → take len (new ++ drop (length new) items) ≡ new
+pub whole_room : {X : Type 0} (len : ℕ) (new items : List X) → length new ≡ len → take len (new ++ drop (length new) items) ≡ new
 whole_room len new items is = ap (λ n. take n (new ++ drop (length new) items)) (sym is) ∙ take-append_seam new (drop (length new) items)
-
-pub no_rows : out_bytes (events_of line_limit []) ≡ []
-no_rows = ap (λ r. out_bytes (map event_of r)) (received-nil line_limit)
 
 pub no_rest : rest_through line_limit [] ≡ []
 no_rest = rest_through-nil line_limit some
@@ -67,13 +69,10 @@ joined_one (Came bytes) = append-nil bytes
 joined_one End = refl
 joined_one Nothing = refl
 
--- the rows that one more poll adds
+-- the batches that one more poll adds
 pub rows_more : (polls : List Poll) (moment : ℤ) (piece : Piece) → is_ended polls ≡ false
-    → out_bytes (events_of line_limit (polls ++ poll_of moment piece ∷ [])) ≡ out_bytes (events_of line_limit polls) ++ rows_at moment (lines_by line_limit (rest_through line_limit polls) piece)
-rows_more polls moment piece still =
-    let before = received line_limit polls in
-    let added = received_at moment (lines_by line_limit (rest_through line_limit polls) piece) in
-    ap (λ r. out_bytes (map event_of r)) (received-more line_limit polls moment piece some still) ∙ ap out_bytes (map-append event_of before added) ∙ out_bytes-append (map event_of before) (map event_of added)
+    → batches_in line_limit (polls ++ poll_of moment piece ∷ []) ≡ batches_in line_limit polls ++ batches_of (events_at moment (lines_by line_limit (rest_through line_limit polls) piece))
+rows_more polls moment piece still = batches_more line_limit polls moment piece some still
 
 -- what a reader that holds a rest has to give after bytes
 pub fed_lines : (rest bytes : List ℕ) (reader : Unread) → reader ≡ unread line_limit rest false
@@ -164,48 +163,99 @@ module _ {I O K : Type 0} (source : SourceWords I) (sink : SinkWords O) (clock :
         counted = waits;
       }
 
-  -- a run that isn't done
-  pub stopped : (old new : ThinWorld I O K) (is_done is_cut_off : Type 0) (polls : List Poll) → Polled source sink clock old new polls → StopsAtEnd polls
-      → GrowsInPart (sink.taken old.stdout) (sink.taken new.stdout) (out_bytes (events_of line_limit polls))
-      → (is_cut_off → Grows (sink.taken old.stdout) (sink.taken new.stdout) (out_bytes (events_of line_limit polls))) → (is_done → ⊥)
-      → Ran source sink clock old new is_done is_cut_off
-  stopped old new is_done is_cut_off polls polled stops wrote whole other = record { polls = polls; polled = polled; stops = stops; wrote = wrote; cut_off = whole; done = λ is. absurd (other is) }
+  module _ (config : Config) (draws : Draws) (may : ℕ → Ev → Verdict → Type 0) where
+    abbrev Took : List (List Ev) → O → O → Type 0
+    Took batches old new = TookBatches config draws may batches (sink.taken old) (sink.taken new)
 
-  -- with a part of the rows of one more poll
-  pub stopped_in_part : (old mid new : ThinWorld I O K) (is_done is_cut_off : Type 0) (polls : List Poll) (moment : ℤ) (piece : Piece) (lines : List (List ℕ)) → is_ended polls ≡ false
-      → Polled source sink clock old new (polls ++ poll_of moment piece ∷ []) → lines ≡ lines_by line_limit (rest_through line_limit polls) piece
-      → Grows (sink.taken old.stdout) (sink.taken mid.stdout) (out_bytes (events_of line_limit polls)) → GrowsInPart (sink.taken mid.stdout) (sink.taken new.stdout) (rows_at moment lines)
-      → (is_cut_off → Grows (sink.taken mid.stdout) (sink.taken new.stdout) (rows_at moment lines)) → (is_done → ⊥)
-      → Ran source sink clock old new is_done is_cut_off
-  stopped_in_part old mid new is_done is_cut_off polls moment piece lines still polled are before part whole other =
-      let rows = ap (λ l. out_bytes (events_of line_limit polls) ++ rows_at moment l) are ∙ sym (rows_more polls moment piece still) in
-      stopped old new is_done is_cut_off (polls ++ poll_of moment piece ∷ []) polled (stops_there polls (poll_of moment piece) still)
-      (subst (GrowsInPart (sink.taken old.stdout) (sink.taken new.stdout)) rows (in_part_then before part)) (λ is. grows_by rows (grows_then before (whole is))) other
+    abbrev TookPart : List (List Ev) → O → O → Type 0
+    TookPart batches old new = TookFirst config draws may batches (sink.taken old) (sink.taken new)
 
-  -- a run whose last poll met the end, and whose last rows were written, or not
-  pub ended : {E : Type 0} (old mid new : ThinWorld I O K) (result : Result (Unit {0}) E) (is_cut_off : Type 0) (polls : List Poll) (moment : ℤ) (lines : List (List ℕ)) → is_ended polls ≡ false
-      → Polled source sink clock old new (polls ++ poll_of moment End ∷ []) → IsAtEnd (source.left new.stdin) → lines ≡ lines_by line_limit (rest_through line_limit polls) End
-      → Grows (sink.taken old.stdout) (sink.taken mid.stdout) (out_bytes (events_of line_limit polls))
-      → OnOk result (Grows (sink.taken mid.stdout) (sink.taken new.stdout) (rows_at moment lines)) → GrowsInPart (sink.taken mid.stdout) (sink.taken new.stdout) (rows_at moment lines) → (is_cut_off → ⊥)
-      → Ran source sink clock old new (IsOk result) is_cut_off
-  ended old mid new result is_cut_off polls moment lines still polled at_end are before whole part other =
-      let all = polls ++ poll_of moment End ∷ [] in
-      let rows = ap (λ l. out_bytes (events_of line_limit polls) ++ rows_at moment l) are ∙ sym (rows_more polls moment End still) in
-      let end : is_ended all ≡ true = is_ended-append polls (poll_of moment End ∷ []) still in
-      record {
-        polls = all;
-        polled = polled;
-        stops = stops_there polls (poll_of moment End) still;
-        wrote = subst (GrowsInPart (sink.taken old.stdout) (sink.taken new.stdout)) rows (in_part_then before part);
-        cut_off = λ is. absurd (other is);
-        done = λ ok. record {
-          ended = end;
-          at_end = at_end;
-          lines = received-lines line_limit all some ∙ ap (λ e. lines_left (unread line_limit (joined all) e)) end;
-          wrote = grows_by rows (grows_then before (on_ok result ok whole));
-        };
-      }
+    -- a run that isn't done
+    pub stopped : (old new : ThinWorld I O K) (is_done is_cut_off : Type 0) (polls : List Poll) → Polled source sink clock old new polls → StopsAtEnd polls
+        → TookPart (batches_in line_limit polls) old.stdout new.stdout
+        → (is_cut_off → Took (batches_in line_limit polls) old.stdout new.stdout) → (is_done → ⊥)
+        → Ran source sink clock config draws may old new is_done is_cut_off
+    stopped old new is_done is_cut_off polls polled stops wrote whole other = record { polls = polls; polled = polled; stops = stops; wrote = wrote; cut_off = whole; done = λ is. absurd (other is) }
 
-  -- nothing was done
-  pub unmoved : (world : ThinWorld I O K) (is_done is_cut_off : Type 0) → (is_done → ⊥) → Ran source sink clock world world is_done is_cut_off
-  unmoved world is_done is_cut_off other = stopped world world is_done is_cut_off [] (polled_none world) tt (in_part_none _ (grows_same _)) (λ is. grows_by (sym no_rows) (grows_same _)) other
+    -- the batches of one more poll, which has these lines
+    one_more : (polls : List Poll) (moment : ℤ) (piece : Piece) (lines : List (List ℕ)) → is_ended polls ≡ false → lines ≡ lines_by line_limit (rest_through line_limit polls) piece
+        → batches_in line_limit polls ++ batches_of (events_at moment lines) ≡ batches_in line_limit (polls ++ poll_of moment piece ∷ [])
+    one_more polls moment piece lines still are = ap (λ l. batches_in line_limit polls ++ batches_of (events_at moment l)) are ∙ sym (rows_more polls moment piece still)
+
+    -- batches, and then those of one more poll, or some of them
+    pub took_more : (old mid new : O) (polls : List Poll) (moment : ℤ) (piece : Piece) (lines : List (List ℕ)) → is_ended polls ≡ false → lines ≡ lines_by line_limit (rest_through line_limit polls) piece
+        → Took (batches_in line_limit polls) old mid → Took (batches_of (events_at moment lines)) mid new → Took (batches_in line_limit (polls ++ poll_of moment piece ∷ [])) old new
+    took_more old mid new polls moment piece lines still are before more =
+        subst (λ b. Took b old new) (one_more polls moment piece lines still are)
+        (batches_then config draws may (batches_in line_limit polls) (batches_of (events_at moment lines)) (sink.taken old) (sink.taken mid) (sink.taken new) before more)
+
+    took_some : (old mid new : O) (polls : List Poll) (moment : ℤ) (piece : Piece) (lines : List (List ℕ)) → is_ended polls ≡ false → lines ≡ lines_by line_limit (rest_through line_limit polls) piece
+        → Took (batches_in line_limit polls) old mid → TookPart (batches_of (events_at moment lines)) mid new → TookPart (batches_in line_limit (polls ++ poll_of moment piece ∷ [])) old new
+    took_some old mid new polls moment piece lines still are before part =
+        subst (λ b. TookPart b old new) (one_more polls moment piece lines still are)
+        (first_then config draws may (batches_in line_limit polls) (batches_of (events_at moment lines)) (sink.taken old) (sink.taken mid) (sink.taken new) before part)
+
+    -- none so far
+    pub took_none : (a : O) → Took (batches_in line_limit []) a a
+    took_none a = subst (λ b. Took b a a) (sym (no_batches_yet line_limit)) (no_batches config draws may (sink.taken a))
+
+    -- with a part of the batches of one more poll
+    pub stopped_in_part : (old mid new : ThinWorld I O K) (is_done is_cut_off : Type 0) (polls : List Poll) (moment : ℤ) (piece : Piece) (lines : List (List ℕ)) → is_ended polls ≡ false
+        → Polled source sink clock old new (polls ++ poll_of moment piece ∷ []) → lines ≡ lines_by line_limit (rest_through line_limit polls) piece
+        → Took (batches_in line_limit polls) old.stdout mid.stdout → TookPart (batches_of (events_at moment lines)) mid.stdout new.stdout
+        → (is_cut_off → Took (batches_of (events_at moment lines)) mid.stdout new.stdout) → (is_done → ⊥)
+        → Ran source sink clock config draws may old new is_done is_cut_off
+    stopped_in_part old mid new is_done is_cut_off polls moment piece lines still polled are before part whole other =
+        stopped old new is_done is_cut_off (polls ++ poll_of moment piece ∷ []) polled (stops_there polls (poll_of moment piece) still)
+        (took_some old.stdout mid.stdout new.stdout polls moment piece lines still are before part)
+        (λ is. took_more old.stdout mid.stdout new.stdout polls moment piece lines still are before (whole is)) other
+
+    -- a run whose last poll met the end, and whose last batches were written, or not
+    pub ended : {E : Type 0} (old mid new : ThinWorld I O K) (result : Result (Unit {0}) E) (is_cut_off : Type 0) (polls : List Poll) (moment : ℤ) (lines : List (List ℕ)) → is_ended polls ≡ false
+        → Polled source sink clock old new (polls ++ poll_of moment End ∷ []) → IsAtEnd (source.left new.stdin) → lines ≡ lines_by line_limit (rest_through line_limit polls) End
+        → Took (batches_in line_limit polls) old.stdout mid.stdout
+        → OnOk result (Took (batches_of (events_at moment lines)) mid.stdout new.stdout) → TookPart (batches_of (events_at moment lines)) mid.stdout new.stdout → (is_cut_off → ⊥)
+        → Ran source sink clock config draws may old new (IsOk result) is_cut_off
+    ended old mid new result is_cut_off polls moment lines still polled at_end are before whole part other =
+        let all = polls ++ poll_of moment End ∷ [] in
+        let end : is_ended all ≡ true = is_ended-append polls (poll_of moment End ∷ []) still in
+        record {
+          polls = all;
+          polled = polled;
+          stops = stops_there polls (poll_of moment End) still;
+          wrote = took_some old.stdout mid.stdout new.stdout polls moment End lines still are before part;
+          cut_off = λ is. absurd (other is);
+          done = λ ok. record {
+            ended = end;
+            at_end = at_end;
+            lines = received-lines line_limit all some ∙ ap (λ e. lines_left (unread line_limit (joined all) e)) end;
+            wrote = took_more old.stdout mid.stdout new.stdout polls moment End lines still are before (on_ok result ok whole);
+          };
+        }
+
+    -- and a flush behind it
+    still_polled : (old mid : ThinWorld I O K) (out : O) (polls : List Poll) → Polled source sink clock old mid polls → Polled source sink clock old (record mid { stdout = out }) polls
+    still_polled old mid out polls p = record { asked = p.asked; came = p.came; left = p.left; counted = p.counted }
+
+    pub flushed_after : (old mid : ThinWorld I O K) (out : O) (is_done is_cut_off : Type 0) → Grows (sink.taken mid.stdout) (sink.taken out) [] → Ran source sink clock config draws may old mid is_done is_cut_off
+        → Ran source sink clock config draws may old (record mid { stdout = out }) is_done is_cut_off
+    flushed_after old mid out is_done is_cut_off none r = record {
+      polls = r.polls;
+      polled = still_polled old mid out r.polls r.polled;
+      stops = r.stops;
+      wrote = first_still config draws may (batches_in line_limit r.polls) (sink.taken old.stdout) (sink.taken mid.stdout) (sink.taken out) r.wrote none;
+      cut_off = λ is. batches_still config draws may (batches_in line_limit r.polls) (sink.taken old.stdout) (sink.taken mid.stdout) (sink.taken out) (r.cut_off is) none;
+      done = λ is. let d = r.done is in record {
+        ended = d.ended;
+        at_end = d.at_end;
+        lines = d.lines;
+        wrote = batches_still config draws may (batches_in line_limit r.polls) (sink.taken old.stdout) (sink.taken mid.stdout) (sink.taken out) d.wrote none;
+      };
+    }
+
+    -- which failed
+    pub unflushed_after : (old mid : ThinWorld I O K) (out : O) (was_done was_cut_off is_done is_cut_off : Type 0) → Grows (sink.taken mid.stdout) (sink.taken out) [] → Ran source sink clock config draws may old mid was_done was_cut_off
+        → (is_done → ⊥) → (is_cut_off → ⊥) → Ran source sink clock config draws may old (record mid { stdout = out }) is_done is_cut_off
+    unflushed_after old mid out was_done was_cut_off is_done is_cut_off none r not_done not_cut_off =
+        stopped old (record mid { stdout = out }) is_done is_cut_off r.polls (still_polled old mid out r.polls r.polled) r.stops
+        (first_still config draws may (batches_in line_limit r.polls) (sink.taken old.stdout) (sink.taken mid.stdout) (sink.taken out) r.wrote none) (λ is. absurd (not_cut_off is)) not_done

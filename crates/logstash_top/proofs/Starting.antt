@@ -1,17 +1,29 @@
--- What stands before a run or a test, by what is asked for.
-use Rattle.std.proofs.Common.{◌≡◌, ◌⊎◌, inl, inr, ⊎_elim, ℕ, Bool, true, false, List, Option, Some, None, Result, Ok, Err, refl, ap, sym, ◌∙◌, subst}
+-- What stands before a run or a test, by what is asked for and what the text is.
+use Rattle.std.proofs.Common.{◌≡◌, ◌⊎◌, inl, inr, ⊎_elim, ℕ, Bool, true, false, List, if◌then◌else◌, Option, Some, None, Result, Ok, Err, refl, ap, sym, ◌∙◌, subst}
+use Rattle.std.proofs.lemmas.Bool.{false≢true}
+use Rattle.config_tree.specs.declared.tree.Config.{Config}
 use Rattle.config_parse.specs.declared.fault.ConfigFault.{ConfigFault}
-use Rattle.config_parse.specs.declared.fault.ConfigFault.TheVariants.{Long, Syntax, Deep, Memory}
-use Rattle.settings_lines.specs.declared.orders.Orders.{Orders}
+use Rattle.config_parse.specs.declared.fault.ConfigFault.TheVariants as text_fault
+use Rattle.foreign_parts.specs.Boxes.{Keeps, Stand}
+use Rattle.foreign_parts.specs.declared.boxes.Kind.{Kind}
+use Rattle.graph_checks.specs.Answers.{Checked, Refuses}
+use Rattle.graph_checks.specs.Whole.{Given, checked}
+use Rattle.graph_checks.specs.declared.fault.GraphFault.{GraphFault}
+use Rattle.graph_checks.specs.declared.fault.GraphFault.TheVariants as graph
+use Rattle.settings_lines.specs.declared.orders.Orders.{Orders as Order}
 use Rattle.logstash_settings.specs.declared.fault.WordsFault.{WordsFault}
 use Rattle.logstash_settings.specs.Words.{Answer, answer_of}
+use Rattle.logstash_top.specs.declared.start.Job.{Job}
 use Rattle.logstash_top.specs.declared.status.Status.{Status}
-use Rattle.logstash_top.specs.declared.status.Status.TheVariants.{Done, BadWords, WordsNotBuilt, BadConfig, NotBuilt, InputFault, OutputFault, NoMemory}
+use Rattle.logstash_top.specs.declared.status.Status.TheVariants.{Done, BadWords, WordsNotBuilt, BadConfig, Refused, NotBuilt, InputFault, OutputFault, NoMemory}
 use Rattle.logstash_top.specs.declared.words.Command.{Command}
+use Rattle.logstash_top.specs.Answers.{FailsAs, IsCauseOf, Orders, Starts, asked, begun, or_not_built, status_unbuilt}
+use Rattle.logstash_top.specs.Built.{IsBuilt, is_built}
+use Rattle.logstash_top.specs.Given.{given_by, workers}
+use Rattle.logstash_top.specs.Refused.{FailsBy, IsConfig, IsNotBuilt, IsRefusedFor, IsRun}
+use Rattle.logstash_top.specs.Status.{status_of_fault, status_of_refusal}
 use Rattle.logstash_top.specs.Words.{IsCommand, AreNotBuilt, AreRefusedFor, command_of}
-use Rattle.logstash_top.specs.Refused.{IsRun, IsNotBuilt, IsRefusedFor, Checked}
-use Rattle.logstash_top.specs.Answers.{Answers, IsCauseOf, Starts, or_not_built, asked}
-use Rattle.logstash_top.specs.Status.{IsInputFault, IsRefused, status_of_fault}
+use Rattle.logstash_top.proofs.Answering.{Parsed, not_refused, only_reason, reason}
 
 abbrev Asked : Type 0
 Asked = Result Command Status
@@ -35,159 +47,227 @@ no_command : (found : Option Command) (status : Status) → or_not_built found �
 no_command None status is = (refl, cc)
 no_command (Some other) status is = absurd cc
 
-by_answer : (answer : Answer) (c : Command) → asked answer ≡ Ok c → (orders : Orders) × (answer ≡ Ok orders) × (command_of orders ≡ Some c)
+by_answer : (answer : Answer) (c : Command) → asked answer ≡ Ok c → (orders : Order) × (answer ≡ Ok orders) × (command_of orders ≡ Some c)
 by_answer (Ok orders) c is = (orders, refl, some_command (command_of orders) c is)
 by_answer (Err fault) c is = absurd cc
 
-pub command_asked : (words : List (List ℕ)) (c : Command) → asked (answer_of words) ≡ Ok c → IsCommand words c.pipeline c.text
+command_asked : (words : List (List ℕ)) (c : Command) → asked (answer_of words) ≡ Ok c → IsCommand words c.pipeline c.text
 command_asked words c is = by_answer (answer_of words) c is
-
-cause_by_answer : (words : List (List ℕ)) (answer : Answer) (status : Status) → answer_of words ≡ answer → asked answer ≡ Err status → IsCauseOf words status
-cause_by_answer words (Ok orders) status read is =
-    let none = no_command (command_of orders) status is in
-    subst (IsCauseOf words) (sym none.1) (orders, read, none.0)
-cause_by_answer words (Err fault) status read is =
-    let one : BadWords fault ≡ status = cc in
-    subst (IsCauseOf words) one read
-
--- memory ran out
-pub starts_not : (words : List (List ℕ)) → Starts words (Err NoMemory)
-starts_not words = record {
-  runs = λ pipeline is. absurd cc;
-  cause = λ status is. inl cc;
-  only_run = λ pipeline text command run. inr refl;
-  refused = λ refusal is. inr refl;
-}
-
--- the words are refused
-refused_words : (words : List (List ℕ)) (status refusal : Status) → asked (answer_of words) ≡ Err status → IsCauseOf words refusal → status ≡ refusal
-refused_words words status (BadWords fault) is cause = let other = asked_refused words fault cause in cc
-refused_words words status WordsNotBuilt is cause = let other = asked_not_built words cause in cc
-refused_words words status (BadConfig pipeline fault) is (text, command, why) = let other = asked_command words (record { pipeline = pipeline; text = text }) command in absurd cc
-refused_words words status (NotBuilt pipeline) is (text, command, why) = let other = asked_command words (record { pipeline = pipeline; text = text }) command in absurd cc
-refused_words words status Done is cause = absurd cause
-refused_words words status (InputFault pipeline input) is cause = absurd cause
-refused_words words status (OutputFault output) is cause = absurd cause
-refused_words words status NoMemory is cause = absurd cause
-
-pub starts_refused : (words : List (List ℕ)) (status : Status) → asked (answer_of words) ≡ Err status → Starts words (Err status)
-starts_refused words status is = record {
-  runs = λ pipeline other. absurd cc;
-  cause = λ other same. let one : status ≡ other = cc in inr (subst (IsCauseOf words) one (cause_by_answer words (answer_of words) status refl is));
-  only_run = λ pipeline text command run. let other = asked_command words (record { pipeline = pipeline; text = text }) command in absurd cc;
-  refused = λ refusal cause. inl (ap Err (refused_words words status refusal is cause));
-}
 
 -- one text is run, of one pipeline
 one_command : (words : List (List ℕ)) (c : Command) (pipeline text : List ℕ) → asked (answer_of words) ≡ Ok c → IsCommand words pipeline text → c ≡ record { pipeline = pipeline; text = text }
 one_command words c pipeline text is command = let other = asked_command words (record { pipeline = pipeline; text = text }) command in cc
 
--- what a look at its text makes of it
-abbrev pub looked : List ℕ → Result Bool ConfigFault → Result (List ℕ) Status
-looked pipeline (Ok true) = Ok pipeline
-looked pipeline (Ok false) = Err (NotBuilt pipeline)
-looked pipeline (Err fault) = Err (status_of_fault pipeline fault)
+-- what is refused, and the job that there is
+abbrev failed : Status → Result Job Status
+failed status = Err status
 
-looked_runs : (p pipeline : List ℕ) (result : Result Bool ConfigFault) → looked p result ≡ Ok pipeline → (result ≡ Ok true) × (p ≡ pipeline)
-looked_runs p pipeline (Ok true) is = (refl, cc)
-looked_runs p pipeline (Ok false) is = absurd cc
-looked_runs p pipeline (Err fault) is = absurd cc
+abbrev started : Job → Result Job Status
+started job = Ok job
 
-looked_fault : (words : List (List ℕ)) (c : Command) (fault : ConfigFault) → IsCommand words c.pipeline c.text → (fault ≡ Memory) ⊎ IsRefusedFor c.text fault
-    → (status_of_fault c.pipeline fault ≡ NoMemory) ⊎ IsCauseOf words (status_of_fault c.pipeline fault)
-looked_fault words c Long command (inr why) = inr (c.text, command, why)
-looked_fault words c (Syntax at) command (inr why) = inr (c.text, command, why)
-looked_fault words c (Deep at) command (inr why) = inr (c.text, command, why)
-looked_fault words c Memory command why = inl refl
-looked_fault words c Long command (inl is) = absurd cc
-looked_fault words c (Syntax at) command (inl is) = absurd cc
-looked_fault words c (Deep at) command (inl is) = absurd cc
+abbrev job_of : Command → Config → Job
+job_of c config = record { pipeline = c.pipeline; config = config }
 
-looked_cause : (words : List (List ℕ)) (c : Command) (result : Result Bool ConfigFault) (status : Status) → IsCommand words c.pipeline c.text → Checked c.text result
-    → looked c.pipeline result ≡ Err status → (status ≡ NoMemory) ⊎ IsCauseOf words status
-looked_cause words c (Ok true) status command checked is = absurd cc
-looked_cause words c (Ok false) status command checked is =
-    let same : NotBuilt c.pipeline ≡ status = cc in
-    inr (subst (IsCauseOf words) same (c.text, command, checked.not_built refl))
-looked_cause words c (Err fault) status command checked is =
-    let same : status_of_fault c.pipeline fault ≡ status = cc in
-    subst (λ s. (s ≡ NoMemory) ⊎ IsCauseOf words s) same (looked_fault words c fault command (checked.refused fault refl))
+-- the status of a text's fault, but for want of memory
+text_status : (pipeline text : List ℕ) (fault : ConfigFault) → IsRefusedFor text fault → status_of_fault pipeline fault ≡ BadConfig pipeline fault
+text_status pipeline text text_fault.Long why = refl
+text_status pipeline text (text_fault.Syntax at) why = refl
+text_status pipeline text (text_fault.Deep at) why = refl
+text_status pipeline text text_fault.Memory why = absurd why
 
-looked_refused : (pipeline text : List ℕ) (result : Result Bool ConfigFault) (fault : ConfigFault) → IsRefusedFor text fault → (result ≡ Err fault) ⊎ (result ≡ Err Memory)
-    → (looked pipeline result ≡ Err (BadConfig pipeline fault)) ⊎ (looked pipeline result ≡ Err NoMemory)
-looked_refused pipeline text result Long why (inl is) = inl (ap (looked pipeline) is)
-looked_refused pipeline text result (Syntax at) why (inl is) = inl (ap (looked pipeline) is)
-looked_refused pipeline text result (Deep at) why (inl is) = inl (ap (looked pipeline) is)
-looked_refused pipeline text result Memory why is = absurd why
-looked_refused pipeline text result fault why (inr is) = inr (ap (looked pipeline) is)
+-- a fault of the checks: what it says of them, and its status
+pub record IsFault (fault : GraphFault) : Type 0 where
+  pub told : (said : Checked (Unit {0})) → Refuses fault said → said ≡ Err fault
+  pub shown : (pipeline : List ℕ) → status_of_refusal pipeline fault ≡ Refused pipeline fault
 
-abbrev Refuses : List ℕ → Result Bool ConfigFault → Status → Type 0
-Refuses pipeline result refusal = (looked pipeline result ≡ Err refusal) ⊎ (looked pipeline result ≡ Err NoMemory)
+-- each fault is one, but for want of memory
+pub memory_or : (fault : GraphFault) → (fault ≡ graph.Memory) ⊎ IsFault fault
+memory_or (graph.UnknownPlugin name) = inr (record { told = λ said is. is; shown = λ pipeline. refl })
+memory_or (graph.Setting id f) = inr (record { told = λ said is. is; shown = λ pipeline. refl })
+memory_or (graph.TwiceId id) = inr (record { told = λ said is. is; shown = λ pipeline. refl })
+memory_or (graph.TwicePath path) = inr (record { told = λ said is. is; shown = λ pipeline. refl })
+memory_or (graph.TwiceAddress address) = inr (record { told = λ said is. is; shown = λ pipeline. refl })
+memory_or graph.TwiceStdin = inr (record { told = λ said is. is; shown = λ pipeline. refl })
+memory_or (graph.PathLong path) = inr (record { told = λ said is. is; shown = λ pipeline. refl })
+memory_or graph.NoInput = inr (record { told = λ said is. is; shown = λ pipeline. refl })
+memory_or graph.NoOutput = inr (record { told = λ said is. is; shown = λ pipeline. refl })
+memory_or (graph.NoSpare name wanted left) = inr (record { told = λ said is. is; shown = λ pipeline. refl })
+memory_or graph.Memory = inl refl
 
-looked_only : (words : List (List ℕ)) (c : Command) (result : Result Bool ConfigFault) (refusal : Status) → asked (answer_of words) ≡ Ok c → Checked c.text result
-    → IsCauseOf words refusal → Refuses c.pipeline result refusal
-looked_only words c result (BadWords fault) is checked cause = let other = asked_refused words fault cause in absurd cc
-looked_only words c result WordsNotBuilt is checked cause = let other = asked_not_built words cause in absurd cc
-looked_only words c result (BadConfig pipeline fault) is checked (text, command, why) =
-    let same = one_command words c pipeline text is command in
-    let of_text = subst (λ (x : Command). IsRefusedFor x.text fault) (sym same) why in
-    subst (λ (x : Command). Refuses c.pipeline result (BadConfig x.pipeline fault)) same (looked_refused c.pipeline c.text result fault of_text (checked.only_refused fault of_text))
-looked_only words c result (NotBuilt pipeline) is checked (text, command, why) =
-    let same = one_command words c pipeline text is command in
-    let of_text = subst (λ (x : Command). IsNotBuilt x.text) (sym same) why in
-    subst (λ (x : Command). Refuses c.pipeline result (NotBuilt x.pipeline)) same (⊎_elim (λ e. inl (ap (looked c.pipeline) e)) (λ e. inr (ap (looked c.pipeline) e)) (checked.only_not_built of_text))
-looked_only words c result Done is checked cause = absurd cause
-looked_only words c result (InputFault pipeline input) is checked cause = absurd cause
-looked_only words c result (OutputFault output) is checked cause = absurd cause
-looked_only words c result NoMemory is checked cause = absurd cause
+-- what is handed in stays the same
+pub same_given : {B : Type 0} (stand : B → Kind → Stand) (links : B → List (List ℕ)) (old new : B) → Keeps stand links old new → given_by stand links new ≡ given_by stand links old
+same_given stand links old new keeps = λ i. record { stand = λ k. keeps.stands k i; links = keeps.links_stand i; workers = workers }
 
-pub starts_looked : (words : List (List ℕ)) (c : Command) (result : Result Bool ConfigFault) → asked (answer_of words) ≡ Ok c → Checked c.text result → Starts words (looked c.pipeline result)
-starts_looked words c result is checked = record {
-  runs = λ pipeline other.
-      let run = looked_runs c.pipeline pipeline result other in
-      (c.text, subst (λ p. IsCommand words p c.text) run.1 (command_asked words c is), checked.runs run.0);
-  cause = λ status other. looked_cause words c result status (command_asked words c is) checked other;
-  only_run = λ pipeline text command run.
+module _ (given : Given) (words : List (List ℕ)) where
+  cause_by_answer : (answer : Answer) (status : Status) → answer_of words ≡ answer → asked answer ≡ Err status → IsCauseOf given words status
+  cause_by_answer (Ok orders) status read is =
+      let none = no_command (command_of orders) status is in
+      subst (IsCauseOf given words) (sym none.1) (orders, read, none.0)
+  cause_by_answer (Err fault) status read is =
+      let one : BadWords fault ≡ status = cc in
+      subst (IsCauseOf given words) one read
+
+  -- memory ran out
+  pub starts_not : Starts given words (Err NoMemory)
+  starts_not = record {
+    job = λ job is. absurd cc;
+    cause = λ status is. inl cc;
+    only_job = λ pipeline config orders. inr refl;
+    refused = λ refusal cause. inr (inl refl);
+  }
+
+  -- the words are refused
+  refused_words : (status refusal : Status) → asked (answer_of words) ≡ Err status → IsCauseOf given words refusal → status ≡ refusal
+  refused_words status (BadWords fault) is cause = let other = asked_refused words fault cause in cc
+  refused_words status WordsNotBuilt is cause = let other = asked_not_built words cause in cc
+  refused_words status (BadConfig pipeline fault) is (text, command, why) = let other = asked_command words (record { pipeline = pipeline; text = text }) command in absurd cc
+  refused_words status (Refused pipeline fault) is (text, command, why) = let other = asked_command words (record { pipeline = pipeline; text = text }) command in absurd cc
+  refused_words status (NotBuilt pipeline) is (text, command, why) = let other = asked_command words (record { pipeline = pipeline; text = text }) command in absurd cc
+  refused_words status Done is cause = absurd cause
+  refused_words status (InputFault pipeline input) is cause = absurd cause
+  refused_words status (OutputFault output) is cause = absurd cause
+  refused_words status NoMemory is cause = absurd cause
+
+  pub starts_refused : (status : Status) → asked (answer_of words) ≡ Err status → Starts given words (Err status)
+  starts_refused status is = record {
+    job = λ job other. absurd cc;
+    cause = λ other same. let one : status ≡ other = cc in inr (subst (IsCauseOf given words) one (cause_by_answer (answer_of words) status refl is));
+    only_job = λ pipeline config (text, command, run). let other = asked_command words (record { pipeline = pipeline; text = text }) command in absurd cc;
+    refused = λ refusal cause. inl (ap failed (refused_words status refusal is cause));
+  }
+
+module _ (given : Given) (words : List (List ℕ)) (c : Command) (is : asked (answer_of words) ≡ Ok c) where
+  -- why the text that is asked for is refused, and with which status
+  abbrev Why : Status → Type 0
+  Why refusal =
+      ((fault : ConfigFault) × (refusal ≡ BadConfig c.pipeline fault) × IsRefusedFor c.text fault)
+      ⊎ (((fault : GraphFault) × (refusal ≡ Refused c.pipeline fault) × FailsBy given c.text fault) ⊎ ((refusal ≡ NotBuilt c.pipeline) × IsNotBuilt given c.text))
+
+  why : (refusal : Status) → IsCauseOf given words refusal → Why refusal
+  why (BadWords fault) cause = let other = asked_refused words fault cause in absurd cc
+  why WordsNotBuilt cause = let other = asked_not_built words cause in absurd cc
+  why (BadConfig pipeline fault) (text, command, h) =
       let same = one_command words c pipeline text is command in
-      let of_text = subst (λ (x : Command). IsRun x.text) (sym same) run in
-      subst (λ (x : Command). (looked c.pipeline result ≡ Ok x.pipeline) ⊎ (looked c.pipeline result ≡ Err NoMemory)) same (⊎_elim (λ e. inl (ap (looked c.pipeline) e)) (λ e. inr (ap (looked c.pipeline) e)) (checked.only_run of_text));
-  refused = λ refusal cause. looked_only words c result refusal is checked cause;
-}
+      inl (fault, ap (λ (x : Command). BadConfig x.pipeline fault) (sym same), subst (λ (x : Command). IsRefusedFor x.text fault) (sym same) h)
+  why (Refused pipeline fault) (text, command, h) =
+      let same = one_command words c pipeline text is command in
+      inr (inl (fault, ap (λ (x : Command). Refused x.pipeline fault) (sym same), subst (λ (x : Command). FailsBy given x.text fault) (sym same) h))
+  why (NotBuilt pipeline) (text, command, h) =
+      let same = one_command words c pipeline text is command in
+      inr (inr (ap (λ (x : Command). NotBuilt x.pipeline) (sym same), subst (λ (x : Command). IsNotBuilt given x.text) (sym same) h))
+  why Done cause = absurd cause
+  why (InputFault pipeline input) cause = absurd cause
+  why (OutputFault output) cause = absurd cause
+  why NoMemory cause = absurd cause
+
+  -- what a refusal becomes
+  abbrev Stops : Result Job Status → Status → Type 0
+  Stops result refusal = (result ≡ failed refusal) ⊎ ((result ≡ failed NoMemory) ⊎ ((job : Job) × (result ≡ started job) × FailsAs given job refusal))
+
+  -- the run that is asked for
+  run_of : (pipeline : List ℕ) (config : Config) → Orders given words pipeline config → (c.pipeline ≡ pipeline) × IsRun given c.text config
+  run_of pipeline config (text, command, run) =
+      let same = one_command words c pipeline text is command in
+      (ap (λ (x : Command). x.pipeline) same, subst (λ (x : Command). IsRun given x.text config) (sym same) run)
+
+  -- the text is a configuration
+  module _ (config : Config) (p : Parsed c.text (Ok config)) where
+    same_config : (other : Config) → IsConfig c.text other → config ≡ other
+    same_config other read = p.only other read.0 read.1
+
+    starts_built : IsBuilt config → Starts given words (started (job_of c config))
+    starts_built built = record {
+      job = λ job e.
+          let same : job_of c config ≡ job = cc in
+          subst (λ (j : Job). (text : List ℕ) × IsCommand words j.pipeline text × IsConfig text j.config × IsBuilt j.config) same (c.text, command_asked words c is, p.found, built);
+      cause = λ status e. absurd cc;
+      only_job = λ pipeline other orders.
+          let run = run_of pipeline other orders in
+          let same = same_config other run.1.0 in
+          inl (λ i. started (record { pipeline = run.0 i; config = same i }));
+      refused = λ refusal cause. by refusal (why refusal cause);
+    }
+      where
+        by : (refusal : Status) → Why refusal → Stops (started (job_of c config)) refusal
+        by refusal (inl (fault, e, h)) = absurd (not_refused c.text config p fault h)
+        by refusal (inr (inl (fault, e, (other, read, fails)))) =
+            inr (inr (job_of c config, refl, record { fault = fault; refusal_is = e; checked_as = ap (checked given) (same_config other read) ∙ fails }))
+        by refusal (inr (inr (e, (other, read, passes, none)))) = absurd (none (subst IsBuilt (same_config other read) built))
+
+    -- why it isn't run
+    unbuilt_cause : (IsBuilt config → ⊥) → (said : Checked (Unit {0})) → checked given config ≡ said → (status_unbuilt c.pipeline said ≡ NoMemory) ⊎ IsCauseOf given words (status_unbuilt c.pipeline said)
+    unbuilt_cause none (Ok u) passes = inr (c.text, command_asked words c is, (config, p.found, passes, none))
+    unbuilt_cause none (Err fault) fails = by (memory_or fault)
+      where
+        by : (fault ≡ graph.Memory) ⊎ IsFault fault → (status_of_refusal c.pipeline fault ≡ NoMemory) ⊎ IsCauseOf given words (status_of_refusal c.pipeline fault)
+        by (inl memory) = inl (ap (status_of_refusal c.pipeline) memory)
+        by (inr f) = inr (subst (IsCauseOf given words) (sym (f.shown c.pipeline)) (c.text, command_asked words c is, (config, p.found, fails)))
+
+    abbrev unbuilt : Result Job Status
+    unbuilt = failed (status_unbuilt c.pipeline (checked given config))
+
+    starts_unbuilt : (IsBuilt config → ⊥) → Starts given words unbuilt
+    starts_unbuilt none = record {
+      job = λ job e. absurd cc;
+      cause = λ status e.
+          let same : status_unbuilt c.pipeline (checked given config) ≡ status = cc in
+          subst (λ s. (s ≡ NoMemory) ⊎ IsCauseOf given words s) same (unbuilt_cause none (checked given config) refl);
+      only_job = λ pipeline other orders.
+          let run = run_of pipeline other orders in
+          absurd (none (subst IsBuilt (sym (same_config other run.1.0)) run.1.2));
+      refused = λ refusal cause. by refusal (why refusal cause);
+    }
+      where
+        as_said : (said : Checked (Unit {0})) → checked given config ≡ said → unbuilt ≡ failed (status_unbuilt c.pipeline said)
+        as_said said is = ap (λ s. failed (status_unbuilt c.pipeline s)) is
+
+        by : (refusal : Status) → Why refusal → Stops unbuilt refusal
+        by refusal (inl (fault, e, h)) = absurd (not_refused c.text config p fault h)
+        by refusal (inr (inl (fault, e, (other, read, fails)))) =
+            let said = as_said (Err fault) (ap (checked given) (same_config other read) ∙ fails) in
+            ⊎_elim (λ memory. inr (inl (said ∙ ap (λ f. failed (status_of_refusal c.pipeline f)) memory))) (λ (f : IsFault fault). inl (said ∙ ap failed (f.shown c.pipeline ∙ sym e))) (memory_or fault)
+        by refusal (inr (inr (e, (other, read, passes, none)))) =
+            inl (as_said (Ok tt) (ap (checked given) (same_config other read) ∙ passes) ∙ ap failed (sym e))
+
+    starts_begun : (built : Bool) → is_built config ≡ built → Starts given words (if built then started (job_of c config) else unbuilt)
+    starts_begun true is = starts_built is
+    starts_begun false is = starts_unbuilt (λ built. absurd (false≢true (sym is ∙ built)))
+
+  -- the text is none
+  module _ (fault : ConfigFault) (p : Parsed c.text (Err fault)) where
+    abbrev of_fault : ConfigFault → Result Job Status
+    of_fault f = failed (status_of_fault c.pipeline f)
+
+    starts_fault : Starts given words (of_fault fault)
+    starts_fault = record {
+      job = λ job e. absurd cc;
+      cause = λ status e.
+          let same : status_of_fault c.pipeline fault ≡ status = cc in
+          subst (λ s. (s ≡ NoMemory) ⊎ IsCauseOf given words s) same
+          (⊎_elim (λ memory. inl (ap (status_of_fault c.pipeline) memory)) (λ h. inr (subst (IsCauseOf given words) (sym (text_status c.pipeline c.text fault h)) (c.text, command_asked words c is, h))) (reason c.text fault p));
+      only_job = λ pipeline other orders.
+          let run = run_of pipeline other orders in
+          inr (ap of_fault (p.only other run.1.0.0 run.1.0.1));
+      refused = λ refusal cause. by refusal (why refusal cause);
+    }
+      where
+        by : (refusal : Status) → Why refusal → Stops (of_fault fault) refusal
+        by refusal (inl (other, e, h)) =
+            ⊎_elim (λ memory. inr (inl (ap of_fault memory))) (λ same. inl (ap of_fault same ∙ ap failed (text_status c.pipeline c.text other h ∙ sym e))) (only_reason c.text fault p other h)
+        by refusal (inr (inl (other, e, (config, read, fails)))) = inr (inl (ap of_fault (p.only config read.0 read.1)))
+        by refusal (inr (inr (e, (config, read, passes, none)))) = inr (inl (ap of_fault (p.only config read.0 read.1)))
 
 -- the same by what calls answered
-pub starts_by : (words : List (List ℕ)) (one : Asked) (c : Command) (text : List ℕ) (two : Result Bool ConfigFault) (result : Result (List ℕ) Status)
-    → one ≡ Ok c → (one ≡ asked (answer_of words)) ⊎ (one ≡ Err NoMemory) → text ≡ c.text → Checked text two → looked c.pipeline two ≡ result → Starts words result
-starts_by words one c text two result is (inl e) same checked made = subst (Starts words) made (starts_looked words c two (sym e ∙ is) (subst (λ t. Checked t two) same checked))
-starts_by words one c text two result is (inr e) same checked made = absurd cc
+module _ (given : Given) (words : List (List ℕ)) (one : Asked) (c : Command) (text : List ℕ) (two : Result Config ConfigFault)
+    (asks : one ≡ Ok c) (answers : (one ≡ asked (answer_of words)) ⊎ (one ≡ Err NoMemory)) (same : text ≡ c.text) (parsed : Parsed text two) where
+  asked_one : asked (answer_of words) ≡ Ok c
+  asked_one = ⊎_elim (λ e. sym e ∙ asks) (λ e. absurd cc) answers
 
--- what a start says of the status that it ends in
-pub not_done : (words : List (List ℕ)) (status : Status) → Starts words (Err status) → status ≡ Done → ⊥
-not_done words status starts is = ⊎_elim (λ e. cc) (λ cause. subst (IsCauseOf words) is cause) (starts.cause status refl)
+  pub starts_read : (config : Config) (result : Result Job Status) → two ≡ Ok config → (result ≡ begun given c.pipeline config) ⊎ (result ≡ Err NoMemory) → Starts given words result
+  starts_read config result is (inl e) =
+      subst (Starts given words) (sym e) (starts_begun given words c asked_one config (subst (Parsed c.text) is (subst (λ t. Parsed t two) same parsed)) (is_built config) refl)
+  starts_read config result is (inr e) = subst (Starts given words) (sym e) (starts_not given words)
 
-pub no_input_fault : (words : List (List ℕ)) (status : Status) → Starts words (Err status) → IsInputFault status → ⊥
-no_input_fault words (InputFault pipeline input) starts is = ⊎_elim (λ e. cc) (λ cause. cause) (starts.cause (InputFault pipeline input) refl)
-no_input_fault words Done starts is = is
-no_input_fault words (BadWords fault) starts is = is
-no_input_fault words WordsNotBuilt starts is = is
-no_input_fault words (BadConfig pipeline fault) starts is = is
-no_input_fault words (NotBuilt pipeline) starts is = is
-no_input_fault words (OutputFault output) starts is = is
-no_input_fault words NoMemory starts is = is
-
-pub no_output_fault : (words : List (List ℕ)) (status : Status) (output : List ℕ) → Starts words (Err status) → status ≡ OutputFault output → ⊥
-no_output_fault words status output starts is = ⊎_elim (λ e. cc) (λ cause. subst (IsCauseOf words) is cause) (starts.cause status refl)
-
--- the answers of a call that ends where it starts, and of one that begins
-pub answers_refused : (words : List (List ℕ)) (may : List ℕ → Status → Type 0) (status : Status) → ((pipeline : List ℕ) → may pipeline NoMemory) → Starts words (Err status) → Answers words may status
-answers_refused words may status memory starts = record {
-  refused = λ refusal cause. ⊎_elim (λ e. inl cc) (λ e. inr cc) (starts.refused refusal cause);
-  cause = λ is. ⊎_elim (λ e. absurd (subst IsRefused e is)) (λ cause. cause) (starts.cause status refl);
-  runs = λ pipeline text command run. ⊎_elim (λ e. absurd cc) (λ e. let same : NoMemory ≡ status = cc in subst (may pipeline) same (memory pipeline)) (starts.only_run pipeline text command run);
-}
-
-pub answers_begun : (words : List (List ℕ)) (may : List ℕ → Status → Type 0) (begun : List ℕ) (status : Status) → (IsRefused status → ⊥) → may begun status → Starts words (Ok begun) → Answers words may status
-answers_begun words may begun status other is starts = record {
-  refused = λ refusal cause. absurd (⊎_elim (λ e. cc) (λ e. cc) (starts.refused refusal cause));
-  cause = λ refused. absurd (other refused);
-  runs = λ pipeline text command run. ⊎_elim (λ e. let same : begun ≡ pipeline = cc in subst (λ p. may p status) same is) (λ e. absurd cc) (starts.only_run pipeline text command run);
-}
+  pub starts_not_read : (fault : ConfigFault) (status : Status) → two ≡ Err fault → status ≡ status_of_fault c.pipeline fault → Starts given words (Err status)
+  starts_not_read fault status is e =
+      subst (Starts given words) (ap failed (sym e)) (starts_fault given words c asked_one fault (subst (Parsed c.text) is (subst (λ t. Parsed t two) same parsed)))

@@ -1,31 +1,25 @@
--- The configurations that are built.
-use Rattle.std.specs.Prelude.{◌≡◌, ◌⊎◌, List, [], ◌∷◌, codes}
-use Rattle.config_tree.specs.Joining.{Entries, plugin_of}
+-- The configurations that are built: from one stdin, by any filters, to outputs that write to stdout or let events go.
+use Rattle.std.specs.Prelude.{List, [], ◌∷◌, Bool, false, ◌&&◌, ◌||◌, codes, bytes_eq, IsTrue}
+use Rattle.std.specs.List.{list_all}
 use Rattle.config_tree.specs.declared.tree.Config.{Config}
 use Rattle.config_tree.specs.declared.tree.Plugin.{Plugin}
-use Rattle.config_tree.specs.declared.tree.Statement.{Statement}
-use Rattle.config_tree.specs.declared.tree.SettingValue.TheVariants as value
-use Rattle.config_tree.specs.declared.tree.Statement.TheVariants as statement
+use Rattle.event_flow.specs.Parts.{parts_of}
 
--- `stdin {}`
-abbrev pub stdin : Plugin
-stdin = plugin_of (codes "stdin") []
+-- `stdin` without other settings than its id
+abbrev pub is_plain_stdin : Plugin → Bool
+is_plain_stdin p = bytes_eq p.name (codes "stdin") && list_all (λ e. bytes_eq e.0 (codes "id")) p.settings.list
 
--- `stdout` with its settings
-abbrev pub stdout : Entries → Statement
-stdout settings = statement.Plugin (plugin_of (codes "stdout") settings)
+abbrev pub is_one_stdin : List Plugin → Bool
+is_one_stdin [] = false
+is_one_stdin (p ∷ []) = is_plain_stdin p
+is_one_stdin (p ∷ q ∷ ps) = false
 
--- `codec => json_lines`
-abbrev pub json_lines : Entries
-json_lines = (codes "codec", value.Text (codes "json_lines")) ∷ []
+-- an output to stdout, or one that lets events go
+abbrev pub is_built_output : Plugin → Bool
+is_built_output p = bytes_eq p.name (codes "stdout") || bytes_eq p.name (codes "sink")
 
--- one `stdout`: without a codec, since this is its default, or with it
-abbrev pub IsStdout : List Statement → Type 0
-IsStdout outputs = (outputs ≡ stdout [] ∷ []) ⊎ (outputs ≡ stdout json_lines ∷ [])
+abbrev pub is_built : Config → Bool
+is_built config = is_one_stdin config.inputs && list_all is_built_output (parts_of config.outputs).plugins
 
-abbrev pub from_stdin : Entries → Config
-from_stdin settings = record { inputs = stdin ∷ []; filters = []; outputs = stdout settings ∷ [] }
-
--- from stdin to stdout as JSON lines
 abbrev pub IsBuilt : Config → Type 0
-IsBuilt config = (config ≡ from_stdin []) ⊎ (config ≡ from_stdin json_lines)
+IsBuilt config = IsTrue (is_built config)

@@ -1,10 +1,13 @@
 pub mod Words
 pub mod Built
+pub mod Given
+pub mod Faults
 pub mod Refused
 pub mod Status
 pub mod Answers
 pub mod Sinks
 pub mod Rows
 pub mod Runs
+pub mod Closings
 pub mod Outcomes
 pub mod Parts

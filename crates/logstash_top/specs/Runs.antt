@@ -3,14 +3,18 @@ use Rattle.std.specs.Prelude.{◌≡◌, ◌⊎◌, ◌≤◌, ◌<◌, ℕ, ◌
 use Rattle.std.specs.List.{flat_map}
 use Rattle.io_traits.specs.Counts.{HasCause, HasCauseUnless, Rose}
 use Rattle.io_traits.specs.Pieces.{Piece, Came, End, Nothing, piece_list}
-use Rattle.io_traits.specs.Telling.{Grows, GrowsInPart, Shrinks, IsAtEnd}
+use Rattle.io_traits.specs.Telling.{Grows, Shrinks, IsAtEnd}
 use Rattle.io_traits.specs.declared.sources.Source.{Ghosts as SourceWords}
 use Rattle.io_traits.specs.declared.sinks.Sink.{Ghosts as SinkWords}
 use Rattle.io_traits.specs.declared.clocks.Clock.{Ghosts as ClockWords}
 use Rattle.byte_lines.specs.Unread.{lines_left}
 use Rattle.in_lines.specs.Polls.{Poll, joined, is_ended, received}
-use Rattle.in_lines.specs.Events.{events_of}
-use Rattle.in_lines.specs.Rows.{out_bytes}
+use Rattle.config_tree.specs.declared.tree.Config.{Config}
+use Rattle.event_tree.specs.Events.{Ev}
+use Rattle.event_flow.specs.Places.{Draws}
+use Rattle.foreign_parts.specs.declared.filter.Verdict.{Verdict}
+use Rattle.batch_rows.specs.Batches.{TookBatches, TookFirst}
+use Rattle.logstash_top.specs.Rows.{batches_in}
 use Rattle.logstash_top.specs.Sinks.{AllFlushed, Faulted}
 use Rattle.logstash_top.specs.declared.run_fault.RunFault.{RunFault}
 use Rattle.logstash_top.specs.declared.run_fault.RunFault.TheVariants.{Input, Output}
@@ -52,27 +56,28 @@ module _ {I O K : Type 0} (source : SourceWords I) (sink : SinkWords O) (clock :
     pub left : Shrinks (source.left old.stdin) (source.left new.stdin) (joined polls)
     pub counted : AreCounted (empty_in polls) (source.waits old.stdin) (source.waits new.stdin) (Rose (source.faults old.stdin) (source.faults new.stdin))
 
-  -- stdin is at its end, and all rows of the events of its bytes were written, in order
-  pub record Finished (old new : ThinWorld I O K) (polls : List Poll) : Type 0 where
-    pub ended : is_ended polls ≡ true
-    pub at_end : IsAtEnd (source.left new.stdin)
-    pub lines : map (λ r. r.line) (received line_limit polls) ≡ lines_left (record { limit = line_limit; bytes = joined polls; ended = true })
-    pub wrote : Grows (sink.taken old.stdout) (sink.taken new.stdout) (out_bytes (events_of line_limit polls))
+  module _ (config : Config) (draws : Draws) (may : ℕ → Ev → Verdict → Type 0) where
+    -- stdin is at its end, and stdout took what it gets of all batches, one after another
+    pub record Finished (old new : ThinWorld I O K) (polls : List Poll) : Type 0 where
+      pub ended : is_ended polls ≡ true
+      pub at_end : IsAtEnd (source.left new.stdin)
+      pub lines : map (λ r. r.line) (received line_limit polls) ≡ lines_left (record { limit = line_limit; bytes = joined polls; ended = true })
+      pub wrote : TookBatches config draws may (batches_in line_limit polls) (sink.taken old.stdout) (sink.taken new.stdout)
 
-  -- a run, which is done, or which a read that failed ended, or neither: stdout got rows of the events of what was polled, from the first
-  -- on, and nothing else
-  pub record Ran (old new : ThinWorld I O K) (is_done is_cut_off : Type 0) : Type 0 where
-    pub polls : List Poll
-    pub polled : Polled old new polls
-    pub stops : StopsAtEnd polls
-    pub wrote : GrowsInPart (sink.taken old.stdout) (sink.taken new.stdout) (out_bytes (events_of line_limit polls))
-    -- where a read failed, all rows of what came before it were written
-    pub cut_off : is_cut_off → Grows (sink.taken old.stdout) (sink.taken new.stdout) (out_bytes (events_of line_limit polls))
-    pub done : is_done → Finished old new polls
+    -- a run, which is done, or which a read that failed ended, or neither: stdout took a first part of what it gets of the batches of what
+    -- was polled, from the first on, and nothing else
+    pub record Ran (old new : ThinWorld I O K) (is_done is_cut_off : Type 0) : Type 0 where
+      pub polls : List Poll
+      pub polled : Polled old new polls
+      pub stops : StopsAtEnd polls
+      pub wrote : TookFirst config draws may (batches_in line_limit polls) (sink.taken old.stdout) (sink.taken new.stdout)
+      -- where a read failed, all batches of what came before it were written
+      pub cut_off : is_cut_off → TookBatches config draws may (batches_in line_limit polls) (sink.taken old.stdout) (sink.taken new.stdout)
+      pub done : is_done → Finished old new polls
 
-  -- a run with this result
-  abbrev pub RanTo : {U : Type 0} → ThinWorld I O K → ThinWorld I O K → Result U RunFault → Type 0
-  RanTo old new result = Ran old new (IsOk result) (result ≡ Err Input)
+    -- a run with this result
+    abbrev pub RanTo : {U : Type 0} → ThinWorld I O K → ThinWorld I O K → Result U RunFault → Type 0
+    RanTo old new result = Ran old new (IsOk result) (result ≡ Err Input)
 
 module _ {I O K : Type 0} (source : SourceWords I) where
   -- the count of stdin's faults rose where there was this fault, and in no other case

@@ -1,47 +1,53 @@
-ghost use Rattle.std.specs.Prelude.{◌≡◌, ◌↔◌, ◌⊎◌, [], ◌∷◌, IsTrue};
-ghost use Rattle.logstash_top.specs.Built.{stdin, json_lines, IsBuilt, IsStdout};
+ghost use Rattle.std.specs.Prelude.{◌≡◌, bytes_eq, codes, IfOk};
+ghost use Rattle.std.specs.List.{list_all};
+ghost use Rattle.logstash_top.specs.Built as spec;
 
-use config_tree::{Config, Plugin, SettingValue, Statement};
+use batch_rows::output_plugins;
+use config_tree::{Config, Plugin, SettingValue};
 use plain_data::Text;
+use std::alloc::{AllocError, Global};
 
-/// Whether a configuration is one that the program runs: from stdin to stdout as JSON lines.
-pub(crate) fn is_built(config: &Config) -> bool
-    ensures { IsTrue result ↔ IsBuilt config.now }
+/// Whether a configuration is one that the program runs: from one stdin without other settings than its id, to
+/// outputs of which each writes to stdout or lets events go. The only error is want of memory.
+pub(crate) fn is_built(alloc: Global, config: &Config) -> Result<bool, AllocError>
+    ensures { IfOk result (λ built. built ≡ spec.is_built config.now) }
 {
-    is_stdin(config.inputs.as_slice())
-        && config.filters.is_empty()
-        && is_stdout(config.outputs.as_slice())
+    if !is_one_stdin(config.inputs.as_slice()) {
+        return Ok(false);
+    }
+    let outputs = output_plugins(alloc, config)?;
+    Ok(are_built_outputs(outputs.as_slice()))
 }
 
-fn is_stdin(inputs: &[Plugin]) -> bool
-    ensures { IsTrue result ↔ (inputs.now ≡ stdin ∷ []) }
+fn is_one_stdin(inputs: &[Plugin]) -> bool
+    ensures { result ≡ spec.is_one_stdin inputs.now }
 {
     match inputs {
-        [plugin] => plugin.name.as_str() == "stdin" && plugin.settings.list.is_empty(),
+        [plugin] => is_plain_stdin(plugin),
         _ => false,
     }
 }
 
-fn is_stdout(outputs: &[Statement]) -> bool
-    ensures { IsTrue result ↔ IsStdout outputs.now }
+fn is_plain_stdin(plugin: &Plugin) -> bool
+    ensures { result ≡ spec.is_plain_stdin plugin.now }
 {
-    match outputs {
-        [Statement::Plugin(plugin)] => {
-            plugin.name.as_str() == "stdout" && is_json_lines(plugin.settings.list.as_slice())
-        }
-        _ => false,
-    }
+    plugin.name.as_str() == "stdin" && have_id_alone(plugin.settings.list.as_slice())
 }
 
-/// Whether the settings of `stdout` name no codec but `json_lines`, which is its default.
-fn is_json_lines(settings: &[(Text, SettingValue)]) -> bool
-    ensures { IsTrue result ↔ ((settings.now ≡ []) ⊎ (settings.now ≡ json_lines)) }
+fn have_id_alone(settings: &[(Text, SettingValue)]) -> bool
+    ensures { result ≡ list_all (λ e. bytes_eq e.0 (codes "id")) settings.now }
 {
-    match settings {
-        [] => true,
-        [(name, SettingValue::Text(codec))] => {
-            name.as_str() == "codec" && codec.as_str() == "json_lines"
-        }
-        _ => false,
-    }
+    settings.iter().all(|setting| setting.0.as_str() == "id")
+}
+
+fn are_built_outputs(outputs: &[Plugin]) -> bool
+    ensures { result ≡ list_all spec.is_built_output outputs.now }
+{
+    outputs.iter().all(is_built_output)
+}
+
+fn is_built_output(plugin: &Plugin) -> bool
+    ensures { result ≡ spec.is_built_output plugin.now }
+{
+    plugin.name.as_str() == "stdout" || plugin.name.as_str() == "sink"
 }

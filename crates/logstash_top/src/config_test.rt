@@ -1,37 +1,43 @@
 ghost use Rattle.std.specs.Prelude.{◌≡◌, ◌⊎◌, IsErr, OnOk, map, string_bytes};
 ghost use Rattle.io_traits.specs.Counts.{HasCause};
+ghost use Rattle.foreign_parts.specs.Boxes.{Keeps};
 ghost use Rattle.logstash_top.specs.Answers.{Answers, MayTest};
+ghost use Rattle.logstash_top.specs.Given.{given_by};
 ghost use Rattle.logstash_top.specs.Outcomes.{Confirmed, TestCompletes, TestFaultHasCause, confirmation};
 ghost use Rattle.logstash_top.specs.Sinks.{Took, TookInPart, AllFlushed, Faulted};
 ghost use Rattle.logstash_top.specs.Status.{IsRefused, test_output_fault, line_of};
 
 use crate::line::tell;
 use crate::parts::write_parts;
-use crate::start::start;
+use crate::start::{Job, WORKERS, refused, start};
 use crate::status::Status;
+use graph_checks::{Boxes, check};
 use io_traits::{Failed, Sink};
 use plain_data::Text;
 use std::alloc::Global;
 
-/// Tests the configuration that the words of the command line name, and runs nothing. Where the program runs it, stdout
-/// gets the line `Configuration OK`, which is flushed.
+/// Tests the configuration that the words of the command line name, with the boxes that the rack holds, and runs nothing.
+/// Where the program runs it, stdout gets the line `Configuration OK`, which is flushed. No box is drawn.
 ///
 /// The line of the status goes to stderr and is flushed there, unless a fault of stderr was counted; such a fault changes
 /// nothing else.
 ///
-/// - `Status::BadWords`, `Status::WordsNotBuilt`, `Status::BadConfig` and `Status::NotBuilt` come as `logstash` says, and
-///   nothing was written to stdout.
+/// - `Status::BadWords`, `Status::WordsNotBuilt`, `Status::BadConfig`, `Status::Refused` and `Status::NotBuilt` come as
+///   `logstash` says, and nothing was written to stdout. No box is drawn from the rack.
 /// - `Status::OutputFault` of `stdout` comes only where the count of stdout's faults rose in this call, or stands at the last
 ///   value of u64. At another status none was counted, unless memory for that status ran out. A first part of the line may
 ///   stand there.
 /// - `Status::NoMemory` may come anywhere.
-pub fn test_config<O: Sink>(
+pub fn test_config<O: Sink, B: Boxes>(
     alloc: Global,
     words: &[String],
     stdout: &mut O,
     stderr: &mut O,
+    boxes: &mut B,
 ) -> Status
-    ensures answers { Answers (map string_bytes words.now) MayTest result }
+    ensures answers { Answers (given_by B.stand B.links boxes.old) (map string_bytes words.now)
+        MayTest result }
+    ensures keeps { Keeps B.stand B.links boxes.old boxes.new }
 
     // What stdout holds.
     ensures refused { IsRefused result → stdout.new ≡ stdout.old }
@@ -41,7 +47,7 @@ pub fn test_config<O: Sink>(
     // When a fault comes.
     ensures output_fault { TestFaultHasCause O.Sink stdout.old stdout.new result }
     ensures complete { let all = map string_bytes words.now in
-        TestCompletes O.Sink stdout.old stdout.new all result }
+        TestCompletes O.Sink (given_by B.stand B.links boxes.old) stdout.old stdout.new all result }
 
     // What stderr holds.
     ensures line { TookInPart O.Sink stderr.old stderr.new (line_of result) }
@@ -50,25 +56,46 @@ pub fn test_config<O: Sink>(
     ensures told_flushed { Faulted O.Sink stderr.old stderr.new
         ⊎ AllFlushed O.Sink stderr.new }
 {
-    let status = tested(alloc, words, stdout);
+    let status = tested(alloc, words, stdout, boxes);
     let _ = tell(&status, stderr);
     status
 }
 
 /// The status, before its line is told.
-fn tested<O: Sink>(alloc: Global, words: &[String], stdout: &mut O) -> Status
-    ensures answers { Answers (map string_bytes words.now) MayTest result }
+fn tested<O: Sink, B: Boxes>(
+    alloc: Global,
+    words: &[String],
+    stdout: &mut O,
+    boxes: &mut B,
+) -> Status
+    ensures answers { Answers (given_by B.stand B.links boxes.old) (map string_bytes words.now)
+        MayTest result }
+    ensures keeps { Keeps B.stand B.links boxes.old boxes.new }
     ensures refused { IsRefused result → stdout.new ≡ stdout.old }
     ensures done { result ≡ Status.Done → Confirmed O.Sink stdout.old stdout.new }
     ensures part { TookInPart O.Sink stdout.old stdout.new confirmation }
     ensures output_fault { TestFaultHasCause O.Sink stdout.old stdout.new result }
 {
-    match start(alloc, words) {
-        Ok(_) => match confirm(stdout) {
-            Ok(()) => Status::Done,
-            Err(_) => unconfirmed(alloc),
+    match start(alloc, words, boxes) {
+        Ok(Job { pipeline, config }) => match check(alloc, &config, boxes, WORKERS) {
+            Ok(()) => confirmed(alloc, stdout),
+            Err(fault) => refused(pipeline, fault),
         },
         Err(status) => status,
+    }
+}
+
+/// The status of a configuration that passed, once its line was written.
+fn confirmed<O: Sink>(alloc: Global, stdout: &mut O) -> Status
+    ensures may { (result ≡ Status.Done)
+        ⊎ ((result ≡ test_output_fault) ⊎ (result ≡ Status.NoMemory)) }
+    ensures done { result ≡ Status.Done → Confirmed O.Sink stdout.old stdout.new }
+    ensures part { TookInPart O.Sink stdout.old stdout.new confirmation }
+    ensures output_fault { TestFaultHasCause O.Sink stdout.old stdout.new result }
+{
+    match confirm(stdout) {
+        Ok(()) => Status::Done,
+        Err(_) => unconfirmed(alloc),
     }
 }
 

@@ -4,7 +4,6 @@
 
 mod built;
 mod calls;
-mod config;
 mod config_test;
 mod line;
 mod parts;
@@ -19,6 +18,8 @@ mod world;
 
 pub use calls::Which;
 pub use config_test::test_config;
+pub use foreign_parts::{Rack, Stockroom};
+pub use graph_checks::GraphFault;
 pub use logstash_settings::{RangedOption, WordsFault};
 pub use status::Status;
 pub use top::logstash;

@@ -3,11 +3,13 @@
 ghost use Rattle.std.specs.Prelude.{IsErr, OnOk};
 ghost use Rattle.io_traits.specs.Counts.{HasCause};
 ghost use Rattle.logstash_top.specs.Sinks.{Took, TookInPart, AllFlushed};
-ghost use Rattle.logstash_top.specs.Status.{config_line, placed_line, words_line, line_of};
+ghost use Rattle.logstash_top.specs.Status.{config_line, named_line, placed_line, refused_line, setting_line, spare_line, whole_line, words_line, line_of};
 
 use crate::parts::write_parts;
 use crate::status::Status;
 use config_parse::ConfigFault;
+use config_tree::SettingFault;
+use graph_checks::GraphFault;
 use io_traits::{Failed, Sink};
 use itoa::Buffer;
 use logstash_settings::WordsFault;
@@ -33,6 +35,7 @@ fn write_line<O: Sink>(status: &Status, stderr: &mut O) -> Result<(), Failed>
         Status::BadWords(fault) => write_words_line(*fault, stderr),
         Status::WordsNotBuilt => write_parts(stderr, &["logstash: words: not built\n"]),
         Status::BadConfig(pipeline, fault) => write_config_line(pipeline.as_str(), fault, stderr),
+        Status::Refused(pipeline, fault) => write_refused_line(pipeline.as_str(), fault, stderr),
         Status::NotBuilt(pipeline) => write_parts(
             stderr,
             &["logstash: pipeline ", pipeline.as_str(), ": not built\n"],
@@ -94,6 +97,62 @@ fn write_config_line<O: Sink>(
     }
 }
 
+/// Writes the line of a configuration that fails a check.
+fn write_refused_line<O: Sink>(
+    pipeline: &str,
+    fault: &GraphFault,
+    sink: &mut O,
+) -> Result<(), Failed>
+    ensures ok { OnOk result (Took O.Sink sink.old sink.new (refused_line pipeline.now fault.now)) }
+    ensures part { TookInPart O.Sink sink.old sink.new (refused_line pipeline.now fault.now) }
+    ensures cause { HasCause (O.faults sink.old) (O.faults sink.new) (IsErr result) }
+{
+    match fault {
+        GraphFault::UnknownPlugin(name) => {
+            write_placed(pipeline, ": unknown plugin ", name.as_str(), sink)
+        }
+        GraphFault::Setting(id, fault) => write_setting_line(pipeline, id.as_str(), fault, sink),
+        GraphFault::TwiceId(id) => write_placed(pipeline, ": twice id ", id.as_str(), sink),
+        GraphFault::TwicePath(path) => write_placed(pipeline, ": twice path ", path.as_str(), sink),
+        GraphFault::TwiceAddress(address) => {
+            write_placed(pipeline, ": twice address ", address.as_str(), sink)
+        }
+        GraphFault::TwiceStdin => write_whole(pipeline, ": twice stdin\n", sink),
+        GraphFault::PathLong(path) => write_placed(pipeline, ": path long ", path.as_str(), sink),
+        GraphFault::NoInput => write_whole(pipeline, ": no input\n", sink),
+        GraphFault::NoOutput => write_whole(pipeline, ": no output\n", sink),
+        GraphFault::NoSpare(name, wanted, left) => {
+            write_spare_line(pipeline, name.as_str(), *wanted, *left, sink)
+        }
+        GraphFault::Memory => write_parts(sink, &["logstash: no memory\n"]),
+    }
+}
+
+/// Writes the line of a setting that is refused.
+fn write_setting_line<O: Sink>(
+    pipeline: &str,
+    id: &str,
+    fault: &SettingFault,
+    sink: &mut O,
+) -> Result<(), Failed>
+    ensures ok { OnOk result (Took O.Sink sink.old sink.new
+        (setting_line pipeline.now id.now fault.now)) }
+    ensures part { TookInPart O.Sink sink.old sink.new
+        (setting_line pipeline.now id.now fault.now) }
+    ensures cause { HasCause (O.faults sink.old) (O.faults sink.new) (IsErr result) }
+{
+    match fault {
+        SettingFault::Missing(name) => write_named(pipeline, id, ": missing ", name.as_str(), sink),
+        SettingFault::Unknown(name) => write_named(pipeline, id, ": unknown ", name.as_str(), sink),
+        SettingFault::WrongKind(name) => {
+            write_named(pipeline, id, ": wrong kind ", name.as_str(), sink)
+        }
+        SettingFault::BadPattern(name) => {
+            write_named(pipeline, id, ": bad pattern ", name.as_str(), sink)
+        }
+    }
+}
+
 /// Writes the line of a text that is refused at a place.
 fn write_placed<'a, O: Sink>(
     pipeline: &'a str,
@@ -110,5 +169,74 @@ fn write_placed<'a, O: Sink>(
     write_parts(
         sink,
         &["logstash: pipeline ", pipeline, reason, place, "\n"],
+    )
+}
+
+/// Writes the line of a setting that is refused for a reason.
+fn write_named<'a, O: Sink>(
+    pipeline: &'a str,
+    id: &'a str,
+    reason: &'a str,
+    name: &'a str,
+    sink: &mut O,
+) -> Result<(), Failed>
+    ensures ok { let line = named_line pipeline.now id.now reason.now name.now in
+        OnOk result (Took O.Sink sink.old sink.new line) }
+    ensures part { let line = named_line pipeline.now id.now reason.now name.now in
+        TookInPart O.Sink sink.old sink.new line }
+    ensures cause { HasCause (O.faults sink.old) (O.faults sink.new) (IsErr result) }
+{
+    write_parts(
+        sink,
+        &[
+            "logstash: pipeline ",
+            pipeline,
+            ": ",
+            id,
+            reason,
+            name,
+            "\n",
+        ],
+    )
+}
+
+/// Writes the line of a configuration that is refused as a whole.
+fn write_whole<'a, O: Sink>(pipeline: &'a str, reason: &'a str, sink: &mut O) -> Result<(), Failed>
+    ensures ok { OnOk result (Took O.Sink sink.old sink.new (whole_line pipeline.now reason.now)) }
+    ensures part { TookInPart O.Sink sink.old sink.new (whole_line pipeline.now reason.now) }
+    ensures cause { HasCause (O.faults sink.old) (O.faults sink.new) (IsErr result) }
+{
+    write_parts(sink, &["logstash: pipeline ", pipeline, reason])
+}
+
+/// Writes the line of a name of which fewer boxes are left than are wanted.
+fn write_spare_line<O: Sink>(
+    pipeline: &str,
+    name: &str,
+    wanted: u64,
+    left: u64,
+    sink: &mut O,
+) -> Result<(), Failed>
+    ensures ok { OnOk result (Took O.Sink sink.old sink.new
+        (spare_line pipeline.now name.now wanted left)) }
+    ensures part { TookInPart O.Sink sink.old sink.new
+        (spare_line pipeline.now name.now wanted left) }
+    ensures cause { HasCause (O.faults sink.old) (O.faults sink.new) (IsErr result) }
+{
+    let mut more = Buffer::new();
+    let mut fewer = Buffer::new();
+    write_parts(
+        sink,
+        &[
+            "logstash: pipeline ",
+            pipeline,
+            ": no spare ",
+            name,
+            ": ",
+            more.format(wanted),
+            " wanted, ",
+            fewer.format(left),
+            " left\n",
+        ],
     )
 }

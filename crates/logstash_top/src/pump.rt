@@ -1,14 +1,21 @@
-ghost use Rattle.std.specs.Prelude.{◌≡◌, [], false, Err, OnOk};
+ghost use Rattle.std.specs.Prelude.{◌≡◌, [], false, List, Option, Err, OnOk};
 ghost use Rattle.byte_lines.specs.Unread.{lines_left, rest_of};
 ghost use Rattle.io_traits.specs.Counts.{HasCause};
-ghost use Rattle.logstash_top.specs.Rows.{fed, rows_fed};
+ghost use Rattle.config_tree.specs.declared.tree.Config.{Config};
+ghost use Rattle.event_flow.specs.Places.{Draws};
+ghost use Rattle.plugin_graph.specs.Kits.{MayAt};
+ghost use Rattle.batch_rows.specs.Batches.{TookBatches, TookFirst};
+ghost use Rattle.batch_rows.specs.Running.{IsRunnerOf, batches_of};
+ghost use Rattle.logstash_top.specs.Rows.{events_left, fed};
 ghost use Rattle.logstash_top.specs.Runs.{RanTo, FlushedUnlessFaulted, ReadHasCause, StdinHasCause, StdoutHasCause};
-ghost use Rattle.logstash_top.specs.Sinks.{Took, TookInPart, AllFlushed};
+ghost use Rattle.logstash_top.specs.Sinks.{AllFlushed};
 
-use crate::rows::write_lines;
+use crate::rows::run_lines;
 use crate::run_fault::RunFault;
 use crate::world::ThinWorld;
+use batch_rows::Runner;
 use byte_lines::LineReader;
+use foreign_parts::Asked;
 use in_lines::LINE_LIMIT;
 use io_traits::{Clock, Sink, Source, Step};
 use std::alloc::Global;
@@ -18,21 +25,26 @@ use time_instant::Instant;
 /// How many bytes one read asks for at most.
 const READ_LEN: usize = 65_536;
 
-/// Writes a row for each line of stdin until its end, and flushes what it wrote, also where it
-/// stops before.
-pub(crate) fn run<R: Wait, I: Source, O: Sink, K: Clock>(
+/// Runs the events of the lines of stdin until its end, in batches of one read each, and flushes what stdout
+/// took, also where it stops before. No event is held before.
+pub(crate) fn run<R: Wait, I: Source, O: Sink, K: Clock, X: Asked>(
     rt: &R,
     alloc: Global,
     world: &mut ThinWorld<I, O, K>,
+    runner: &mut Runner<X>,
 ) -> Result<(), RunFault>
-    ensures ran { RanTo I.Source O.Sink K.Clock world.old world.new result }
+    requires { runner.old.held ≡ [] }
+    ensures ran { (config : Config) (draws : Draws) (boxes : List (Option X))
+        → IsRunnerOf X.may config draws boxes runner.old
+        → RanTo I.Source O.Sink K.Clock config draws (MayAt X.may boxes)
+        world.old world.new result }
     ensures flushed { FlushedUnlessFaulted O.Sink world.old world.new }
     ensures done_flushed { OnOk result (AllFlushed O.Sink world.new.stdout) }
     ensures read_cause { ReadHasCause I.Source world.old world.new result }
     ensures write_cause { StdoutHasCause O.Sink world.old world.new (result ≡ Err RunFault.Output) }
     ensures stderr { world.new.stderr ≡ world.old.stderr }
 {
-    let ran = pump(rt, alloc, world);
+    let ran = pump(rt, alloc, world, runner);
     match world.stdout.flush() {
         Ok(()) => ran,
         Err(_) => Err(RunFault::Output),
@@ -40,32 +52,29 @@ pub(crate) fn run<R: Wait, I: Source, O: Sink, K: Clock>(
 }
 
 /// Writes the rows, of which the last may not be flushed.
-fn pump<R: Wait, I: Source, O: Sink, K: Clock>(
+fn pump<R: Wait, I: Source, O: Sink, K: Clock, X: Asked>(
     rt: &R,
     alloc: Global,
     world: &mut ThinWorld<I, O, K>,
+    runner: &mut Runner<X>,
 ) -> Result<(), RunFault>
-    ensures ran { RanTo I.Source O.Sink K.Clock world.old world.new result }
+    requires { runner.old.held ≡ [] }
+    ensures ran { (config : Config) (draws : Draws) (boxes : List (Option X))
+        → IsRunnerOf X.may config draws boxes runner.old
+        → RanTo I.Source O.Sink K.Clock config draws (MayAt X.may boxes)
+        world.old world.new result }
     ensures read_cause { StdinHasCause I.Source world.old world.new (result ≡ Err RunFault.Input) }
     ensures write_cause { StdoutHasCause O.Sink world.old world.new (result ≡ Err RunFault.Output) }
     ensures stderr { world.new.stderr ≡ world.old.stderr }
 {
     let mut room = vec![in alloc; 0u8; READ_LEN]?;
-    let mut row = Vec::new(alloc);
     let mut reader = LineReader::new(alloc, LINE_LIMIT);
     for _ in rt.forever() {
         let moment = world.clock.now();
         match world.stdin.read(&mut room) {
             Ok(Step::Bytes(count)) => {
                 let bytes = &room[..count];
-                match take_piece(
-                    alloc,
-                    &mut reader,
-                    bytes,
-                    moment,
-                    &mut row,
-                    &mut world.stdout,
-                ) {
+                match take_piece(alloc, &mut reader, bytes, moment, runner, &mut world.stdout) {
                     Ok(()) => {}
                     Err(stop) => return Err(stop),
                 }
@@ -73,7 +82,7 @@ fn pump<R: Wait, I: Source, O: Sink, K: Clock>(
             Ok(Step::NotYet) => world.clock.pause(),
             Ok(Step::End) => {
                 reader.end();
-                return write_lines(alloc, &mut reader, moment, &mut row, &mut world.stdout);
+                return run_lines(alloc, &mut reader, moment, runner, &mut world.stdout);
             }
             Err(_) => return Err(RunFault::Input),
         }
@@ -81,31 +90,44 @@ fn pump<R: Wait, I: Source, O: Sink, K: Clock>(
     unreachable!()
 }
 
-/// Takes the next bytes of the input, writes the rows of the lines that they make whole, and flushes
-/// them, so that whoever waits for them has them before the next read.
-fn take_piece<O: Sink>(
+/// Takes the next bytes of the input, runs the events of the lines that they make whole, and flushes what stdout
+/// took, so that whoever waits for it has it before the next read.
+fn take_piece<X: Asked, O: Sink>(
     alloc: Global,
     reader: &mut LineReader,
     bytes: &[u8],
     moment: Instant,
-    row: &mut Vec<u8>,
-    sink: &mut O,
+    runner: &mut Runner<X>,
+    stdout: &mut O,
 ) -> Result<(), RunFault>
-    requires { reader.old.ended ≡ false }
-    ensures ok { OnOk result
-        (Took O.Sink sink.old sink.new (rows_fed moment reader.old bytes.now)) }
-    ensures part { TookInPart O.Sink sink.old sink.new (rows_fed moment reader.old bytes.now) }
-    ensures cause { HasCause (O.faults sink.old) (O.faults sink.new)
+    requires open_end { reader.old.ended ≡ false }
+    requires none { runner.old.held ≡ [] }
+    requires limit { reader.old.limit ≡ 1048576 }
+    ensures ok { OnOk result ((config : Config) (draws : Draws) (boxes : List (Option X))
+        → IsRunnerOf X.may config draws boxes runner.old
+        → TookBatches config draws (MayAt X.may boxes)
+        (batches_of (events_left moment (fed reader.old bytes.now)))
+        (O.taken stdout.old) (O.taken stdout.new)) }
+    ensures part { (config : Config) (draws : Draws) (boxes : List (Option X))
+        → IsRunnerOf X.may config draws boxes runner.old
+        → TookFirst config draws (MayAt X.may boxes)
+        (batches_of (events_left moment (fed reader.old bytes.now)))
+        (O.taken stdout.old) (O.taken stdout.new) }
+    ensures stays { (config : Config) (draws : Draws) (boxes : List (Option X))
+        → IsRunnerOf X.may config draws boxes runner.old
+        → IsRunnerOf X.may config draws boxes runner.new }
+    ensures none { OnOk result (runner.new.held ≡ []) }
+    ensures cause { HasCause (O.faults stdout.old) (O.faults stdout.new)
         (result ≡ Err RunFault.Output) }
     ensures not_input { ¬ (result ≡ Err RunFault.Input) }
     ensures left { OnOk result (lines_left reader.new ≡ []) }
     ensures rest { OnOk result (rest_of reader.new ≡ rest_of (fed reader.old bytes.now)) }
-    ensures flushed { OnOk result (AllFlushed O.Sink sink.new) }
+    ensures flushed { OnOk result (AllFlushed O.Sink stdout.new) }
     ensures ended { OnOk result (reader.new.ended ≡ false) }
     ensures limit { OnOk result (reader.new.limit ≡ reader.old.limit) }
 {
     reader.feed(bytes)?;
-    write_lines(alloc, reader, moment, row, sink)?;
-    sink.flush()?;
+    run_lines(alloc, reader, moment, runner, stdout)?;
+    stdout.flush()?;
     Ok(())
 }

@@ -1,28 +1,46 @@
-ghost use Rattle.std.specs.Prelude.{◌≡◌, [], Err, OnOk};
+ghost use Rattle.std.specs.Prelude.{◌≡◌, ◌≤◌, ◌<◌, ◌∷◌, [], List, Option, Err, OnOk, length};
 ghost use Rattle.byte_lines.specs.Unread.{KeepsRest, lines_left};
+ghost use Rattle.event_tree.specs.Events.{Ev};
+ghost use Rattle.config_tree.specs.declared.tree.Config.{Config};
+ghost use Rattle.event_flow.specs.Places.{Draws};
 ghost use Rattle.io_traits.specs.Counts.{HasCause};
-ghost use Rattle.logstash_top.specs.Rows.{row_at, rows_left};
-ghost use Rattle.logstash_top.specs.Sinks.{Took, TookInPart};
+ghost use Rattle.plugin_graph.specs.Kits.{MayAt};
+ghost use Rattle.batch_rows.specs.Batches.{TookBatches, TookFirst};
+ghost use Rattle.batch_rows.specs.Running.{IsRunnerOf, RanUpTo, batch_limit, batches_behind, batches_of};
+ghost use Rattle.logstash_top.specs.Rows.{ev_of, events_left};
 
 use crate::run_fault::RunFault;
+use batch_rows::Runner;
 use byte_lines::LineReader;
-use in_lines::{line_event, write_row};
-use io_traits::{Sink, write_all};
+use foreign_parts::Asked;
+use in_lines::event_of_line;
+use io_traits::Sink;
 use std::alloc::Global;
 use time_instant::Instant;
 
-/// Writes a row for each line that the reader has left, each before the next one is made. `row` is
-/// room for one row.
-pub(crate) fn write_lines<O: Sink>(
+/// Runs the events of the lines that the reader has left, in batches. No event is held before or behind the call.
+pub(crate) fn run_lines<X: Asked, O: Sink>(
     alloc: Global,
     reader: &mut LineReader,
     moment: Instant,
-    row: &mut Vec<u8>,
-    sink: &mut O,
+    runner: &mut Runner<X>,
+    stdout: &mut O,
 ) -> Result<(), RunFault>
-    ensures ok { OnOk result (Took O.Sink sink.old sink.new (rows_left moment reader.old)) }
-    ensures part { TookInPart O.Sink sink.old sink.new (rows_left moment reader.old) }
-    ensures cause { HasCause (O.faults sink.old) (O.faults sink.new)
+    requires held { runner.old.held ≡ [] }
+    requires limit { reader.old.limit ≡ 1048576 }
+    ensures ok { OnOk result ((config : Config) (draws : Draws) (boxes : List (Option X))
+        → IsRunnerOf X.may config draws boxes runner.old
+        → TookBatches config draws (MayAt X.may boxes) (batches_of (events_left moment reader.old))
+        (O.taken stdout.old) (O.taken stdout.new)) }
+    ensures part { (config : Config) (draws : Draws) (boxes : List (Option X))
+        → IsRunnerOf X.may config draws boxes runner.old
+        → TookFirst config draws (MayAt X.may boxes) (batches_of (events_left moment reader.old))
+        (O.taken stdout.old) (O.taken stdout.new) }
+    ensures stays { (config : Config) (draws : Draws) (boxes : List (Option X))
+        → IsRunnerOf X.may config draws boxes runner.old
+        → IsRunnerOf X.may config draws boxes runner.new }
+    ensures none { OnOk result (runner.new.held ≡ []) }
+    ensures cause { HasCause (O.faults stdout.old) (O.faults stdout.new)
         (result ≡ Err RunFault.Output) }
     ensures not_input { ¬ (result ≡ Err RunFault.Input) }
     ensures left { OnOk result (lines_left reader.new ≡ []) }
@@ -32,33 +50,67 @@ pub(crate) fn write_lines<O: Sink>(
 {
     loop {
         match reader.next_line() {
-            Ok(Some(line)) => match write_line(alloc, line.as_str(), moment, row, sink) {
+            Ok(Some(line)) => match add_line(alloc, line.as_str(), moment, runner, stdout) {
                 Ok(()) => {}
                 Err(stop) => return Err(stop),
             },
-            Ok(None) => return Ok(()),
+            Ok(None) => return finish(runner, stdout),
             Err(_) => return Err(RunFault::Memory),
         }
     }
 }
 
-/// Writes the row of a line.
-fn write_line<O: Sink>(
+/// Takes the event of a line.
+fn add_line<X: Asked, O: Sink>(
     alloc: Global,
     line: &str,
     moment: Instant,
-    row: &mut Vec<u8>,
-    sink: &mut O,
+    runner: &mut Runner<X>,
+    stdout: &mut O,
 ) -> Result<(), RunFault>
-    ensures ok { OnOk result (Took O.Sink sink.old sink.new (row_at moment line.now)) }
-    ensures part { TookInPart O.Sink sink.old sink.new (row_at moment line.now) }
-    ensures cause { HasCause (O.faults sink.old) (O.faults sink.new)
+    requires short { length line.now ≤ 8388558 }
+    requires room { length runner.old.held < batch_limit }
+    ensures ok { OnOk result ((config : Config) (draws : Draws) (boxes : List (Option X))
+        → IsRunnerOf X.may config draws boxes runner.old → (es : List Ev)
+        → RanUpTo X.may config draws boxes
+        (batches_behind runner.old.held (ev_of (record { line = line.now; moment = moment }) ∷ es))
+        (batches_behind runner.new.held es) (O.taken stdout.old) (O.taken stdout.new)) }
+    ensures part { (config : Config) (draws : Draws) (boxes : List (Option X))
+        → IsRunnerOf X.may config draws boxes runner.old → (es : List Ev)
+        → TookFirst config draws (MayAt X.may boxes)
+        (batches_behind runner.old.held (ev_of (record { line = line.now; moment = moment }) ∷ es))
+        (O.taken stdout.old) (O.taken stdout.new) }
+    ensures stays { (config : Config) (draws : Draws) (boxes : List (Option X))
+        → IsRunnerOf X.may config draws boxes runner.old
+        → IsRunnerOf X.may config draws boxes runner.new }
+    ensures room { OnOk result (length runner.new.held < batch_limit) }
+    ensures cause { HasCause (O.faults stdout.old) (O.faults stdout.new)
         (result ≡ Err RunFault.Output) }
     ensures not_input { ¬ (result ≡ Err RunFault.Input) }
 {
-    let event = line_event(alloc, line, moment)?;
-    row.clear();
-    write_row(&event, row)?;
-    write_all(sink, row.as_slice())?;
+    let event = event_of_line(alloc, line, moment)?;
+    runner.add(event, stdout)?;
+    Ok(())
+}
+
+/// Runs the events that are still held.
+fn finish<X: Asked, O: Sink>(runner: &mut Runner<X>, stdout: &mut O) -> Result<(), RunFault>
+    ensures ok { OnOk result ((config : Config) (draws : Draws) (boxes : List (Option X))
+        → IsRunnerOf X.may config draws boxes runner.old
+        → TookBatches config draws (MayAt X.may boxes) (batches_behind runner.old.held [])
+        (O.taken stdout.old) (O.taken stdout.new)) }
+    ensures part { (config : Config) (draws : Draws) (boxes : List (Option X))
+        → IsRunnerOf X.may config draws boxes runner.old
+        → TookFirst config draws (MayAt X.may boxes) (batches_behind runner.old.held [])
+        (O.taken stdout.old) (O.taken stdout.new) }
+    ensures stays { (config : Config) (draws : Draws) (boxes : List (Option X))
+        → IsRunnerOf X.may config draws boxes runner.old
+        → IsRunnerOf X.may config draws boxes runner.new }
+    ensures none { OnOk result (runner.new.held ≡ []) }
+    ensures cause { HasCause (O.faults stdout.old) (O.faults stdout.new)
+        (result ≡ Err RunFault.Output) }
+    ensures not_input { ¬ (result ≡ Err RunFault.Input) }
+{
+    runner.finish(stdout)?;
     Ok(())
 }

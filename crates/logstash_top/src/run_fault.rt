@@ -1,6 +1,7 @@
 ghost use Rattle.std.specs.Prelude.{◌≡◌};
 ghost use Rattle.logstash_top.specs.declared.run_fault.RunFault.TheVariants.{Memory, Output};
 
+use batch_rows::BatchFault;
 use io_traits::Failed;
 use std::alloc::AllocError;
 
@@ -28,5 +29,18 @@ impl From<Failed> for RunFault {
 
     fn from(_failed: Failed) -> RunFault {
         RunFault::Output
+    }
+}
+
+impl From<BatchFault> for RunFault {
+    ghost use Rattle.logstash_top.specs.Faults.{run_fault_of};
+
+    ghost from_gives = { λ fault stop. stop ≡ run_fault_of fault };
+
+    fn from(fault: BatchFault) -> RunFault {
+        match fault {
+            BatchFault::Output => RunFault::Output,
+            BatchFault::Memory => RunFault::Memory,
+        }
     }
 }

@@ -2,6 +2,7 @@ ghost use Rattle.std.specs.Prelude.{◌≡◌};
 ghost use Rattle.logstash_top.specs.Status.{number_of};
 
 use config_parse::ConfigFault;
+use graph_checks::GraphFault;
 use logstash_settings::WordsFault;
 use plain_data::Text;
 
@@ -16,11 +17,14 @@ pub enum Status {
     WordsNotBuilt,
     /// The text of this pipeline is no configuration. The fault is never want of memory.
     BadConfig(Text, ConfigFault),
-    /// The configuration of this pipeline is one that the program doesn't run yet.
+    /// The configuration of this pipeline fails a check. The fault is never want of memory.
+    Refused(Text, GraphFault),
+    /// The configuration of this pipeline passes its checks, and is one that the program doesn't run yet.
     NotBuilt(Text),
     /// A read of this pipeline's input failed.
     InputFault(Text, Text),
-    /// A write or a flush of this output failed.
+    /// A write or a flush of stdout failed. All outputs to stdout share it, and this is the id of the first, or `stdout`
+    /// where there is none, as in a test.
     OutputFault(Text),
     /// Memory ran out.
     NoMemory,
@@ -34,7 +38,7 @@ impl Status {
         match self {
             Status::Done => 0,
             Status::BadWords(_) | Status::WordsNotBuilt => 1,
-            Status::BadConfig(_, _) | Status::NotBuilt(_) => 3,
+            Status::BadConfig(_, _) | Status::Refused(_, _) | Status::NotBuilt(_) => 3,
             Status::InputFault(_, _) => 5,
             Status::OutputFault(_) => 6,
             Status::NoMemory => 8,

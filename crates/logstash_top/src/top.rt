@@ -1,32 +1,48 @@
-ghost use Rattle.std.specs.Prelude.{◌≡◌, ◌⊎◌, IfOk, map, string_bytes};
+ghost use Rattle.std.specs.Prelude.{◌≡◌, ◌⊎◌, ℕ, IfOk, map, string_bytes};
+ghost use Rattle.foreign_parts.specs.Boxes.{Keeps};
+ghost use Rattle.foreign_parts.specs.declared.boxes.Kind.TheVariants as kind;
 ghost use Rattle.logstash_top.specs.Answers.{Answers, MayRun};
-ghost use Rattle.logstash_top.specs.Outcomes.{RanAs, FlushedOrUntouched, InputFaultHasCause, OutputFaultHasCause, CompletesUnlessFaulted};
+ghost use Rattle.plugin_graph.specs.Graphs.{boxes_in};
+ghost use Rattle.graph_checks.specs.OwnIds.{HaveOwnIds};
+ghost use Rattle.graph_checks.specs.Plans.{IsPlanOf};
+ghost use Rattle.logstash_top.specs.Given.{given_by, workers};
+ghost use Rattle.logstash_top.specs.Outcomes.{RanAs, RanPlan, RunsBy, FlushedOrUntouched, InputFaultHasCause, OutputFaultHasCause, CompletesUnlessFaulted};
 ghost use Rattle.logstash_top.specs.Runs.{IsUntouched};
 ghost use Rattle.logstash_top.specs.Sinks.{Took, TookInPart, AllFlushed, Faulted};
+ghost use Rattle.batch_rows.specs.Codecs.{codecs_of};
+ghost use Rattle.logstash_top.specs.Closings.{all_once_more, closes_in};
+ghost use Rattle.logstash_top.specs.Status as spec;
 ghost use Rattle.logstash_top.specs.Status.{IsRefused, status_of, line_of};
 
 use crate::line::tell;
 use crate::pump::run;
 use crate::run_fault::RunFault;
-use crate::start::start;
+use crate::start::{Job, WORKERS, refused, start};
 use crate::status::Status;
 use crate::world::ThinWorld;
+use batch_rows::{Closed, OutputCodec, Runner, close_kit, codecs_of_config};
+use config_tree::{Config, Plugin};
+use foreign_parts::{Asked, Stockroom};
+use graph_checks::{Plan, compile};
 use io_traits::{Clock, Sink, Source};
-use plain_data::Text;
+use plain_data::{Items, Text};
+use plugin_graph::{Kit, plugin_id};
 use std::alloc::{AllocError, Global};
 use std::sync::Wait;
 
-/// Does what the words of the command line ask for: runs the configuration of `-e`, if it is one that
-/// reads lines from stdin and writes their events to stdout as JSON lines. `-t` changes nothing here:
-/// a test is `test_config`'s, and `which` says what the words are for. The numbers of workers and of
-/// events in a batch have no effect on such a run, and neither have the folders.
+/// Does what the words of the command line ask for: runs the configuration of `-e`, if it is one that reads lines from
+/// stdin and whose outputs write to stdout or let events go, by any filters. Boxes are drawn from the rack for two
+/// workers; the kit of one of them is used, and each box is closed once at the end. `-t` changes nothing here: a test is
+/// `test_config`'s, and `which` says what the words are for. The numbers of workers and of events in a batch have no
+/// effect on such a run, and neither have the folders.
 ///
-/// Each event's row is written before the next one is made. The rows of what one read brought are
-/// flushed before the next read, and all rows are flushed before the call returns, unless a fault of
-/// stdout was counted in it. The line of the status goes to stderr and is flushed there, unless a fault
-/// of stderr was counted; such a fault changes nothing else. Where stdin has nothing yet, the clock is
-/// paused before the next read. No clause says what happens between two reads: the flush and the pause
-/// there, and that each row is written before the next.
+/// The events of the lines that one read made whole are cut into batches of at most 125, in order. stdout gets, of one
+/// batch after another, what the configuration has due there: of each output to stdout in the order of the text the
+/// bytes of the events that it sends there, by the codec of the output. Dead events are let go at the end of their batch.
+/// What one read brought is flushed before the next read, and all is flushed before the call returns, unless a fault of
+/// stdout was counted in it. The line of the status goes to stderr and is flushed there, unless a fault of stderr was
+/// counted; such a fault changes nothing else. Where stdin has nothing yet, the clock is paused before the next read. No
+/// clause says what happens between two reads: the flush and the pause there.
 ///
 /// - `Status::BadWords` comes exactly where `logstash_settings::read_words` refuses the words, with that fault,
 ///   unless memory ran out.
@@ -35,36 +51,46 @@ use std::sync::Wait;
 /// - `Status::BadConfig` comes exactly where the text is no configuration, with the id of its pipeline and
 ///   the reason: it is longer than 1,048,576 bytes, its first token that no configuration has there stands
 ///   at the place, or its token at the place opens level 65; unless memory ran out.
-/// - `Status::NotBuilt` comes exactly where it is a configuration that isn't built, unless memory ran
-///   out. At these four nothing was read and nothing written to stdout.
-/// - `Status::InputFault` and `Status::OutputFault` come only where the count of stdin's, or of
-///   stdout's, faults rose in this call, or stands at the last value of u64. At another status no fault
-///   was counted: but for a fault of stdin where the last flush of stdout failed too, which ends in
-///   `OutputFault`, and for any fault where memory for its status ran out.
-/// - `Status::NoMemory` may come anywhere. At each status stdout holds what stood there and then
-///   rows of the events of stdin's lines, from the first on. At `Status::InputFault` these are all
-///   rows of the lines that the reads before made whole.
+/// - `Status::Refused` comes exactly where it is a configuration that fails a check of `graph_checks::compile` with this
+///   rack and two workers, with the first fault, unless memory ran out.
+/// - `Status::NotBuilt` comes exactly where it passes these checks and its inputs are other than one stdin without
+///   settings but `id`, or an output is other than stdout and sink, unless memory ran out. At these five nothing was read
+///   and nothing written to stdout, and no box was drawn.
+/// - `Status::InputFault` and `Status::OutputFault` come only where the count of stdin's, or of stdout's, faults rose in
+///   this call, or stands at the last value of u64. An output fault names the first output to stdout of the text, and
+///   `stdout` where there is none. At another status no fault was counted: but for a fault of stdin where the last flush
+///   of stdout failed too, which ends in `OutputFault`, and for any fault where memory for its status ran out.
+/// - `Status::NoMemory` may come anywhere. At each status stdout holds what stood there and then a first part of what it
+///   gets of the first few batches. At `Status::InputFault` these are all batches of the lines that the reads before made
+///   whole.
 ///
 /// Nothing is read behind the end of stdin.
-pub fn logstash<R: Wait, I: Source, O: Sink, K: Clock>(
+pub fn logstash<R: Wait, I: Source, O: Sink, K: Clock, F: Asked + Closed, B: Stockroom<Filter = F>>(
     rt: &R,
     alloc: Global,
     words: &[String],
     world: &mut ThinWorld<I, O, K>,
+    rack: &mut B,
 ) -> Status
-    ensures answers { Answers (map string_bytes words.now) MayRun result }
+    ensures answers { Answers (given_by B.stand B.links rack.old) (map string_bytes words.now)
+        MayRun result }
     ensures refused { IsRefused result → IsUntouched world.old world.new }
+    ensures keeps { IsRefused result → Keeps B.stand B.links rack.old rack.new }
 
     // What stdout holds.
-    ensures ran { RanAs I.Source O.Sink K.Clock world.old world.new result }
+    ensures ran { RanAs I.Source O.Sink K.Clock F.may (given_by B.stand B.links rack.old)
+        (RunsBy B.filter_number B.output_number (B.given rack.new)
+        (B.stand rack.old kind.Filter).stocks (B.stand rack.old kind.Output).stocks
+        (B.stand rack.new kind.Filter).stocks (B.stand rack.new kind.Output).stocks)
+        world.old world.new (map string_bytes words.now) result }
     ensures flushed { FlushedOrUntouched O.Sink world.old world.new }
     ensures done_flushed { result ≡ Status.Done → AllFlushed O.Sink world.new.stdout }
 
     // When a fault comes.
     ensures input_fault { InputFaultHasCause I.Source world.old world.new result }
     ensures output_fault { OutputFaultHasCause O.Sink world.old world.new result }
-    ensures complete { let all = map string_bytes words.now in
-        CompletesUnlessFaulted I.Source O.Sink world.old world.new all result }
+    ensures complete { CompletesUnlessFaulted I.Source O.Sink (given_by B.stand B.links rack.old)
+        world.old world.new (map string_bytes words.now) result }
 
     // What stderr holds.
     ensures line { TookInPart O.Sink world.old.stderr world.new.stderr (line_of result) }
@@ -73,52 +99,147 @@ pub fn logstash<R: Wait, I: Source, O: Sink, K: Clock>(
     ensures told_flushed { Faulted O.Sink world.old.stderr world.new.stderr
         ⊎ AllFlushed O.Sink world.new.stderr }
 {
-    let status = outcome(rt, alloc, words, world);
+    let status = outcome(rt, alloc, words, world, rack);
     let _ = tell(&status, &mut world.stderr);
     status
 }
 
 /// The status, before its line is told.
-fn outcome<R: Wait, I: Source, O: Sink, K: Clock>(
+fn outcome<R: Wait, I: Source, O: Sink, K: Clock, F: Asked + Closed, B: Stockroom<Filter = F>>(
     rt: &R,
     alloc: Global,
     words: &[String],
     world: &mut ThinWorld<I, O, K>,
+    rack: &mut B,
 ) -> Status
-    ensures answers { Answers (map string_bytes words.now) MayRun result }
+    ensures answers { Answers (given_by B.stand B.links rack.old) (map string_bytes words.now)
+        MayRun result }
     ensures refused { IsRefused result → IsUntouched world.old world.new }
-    ensures ran { RanAs I.Source O.Sink K.Clock world.old world.new result }
+    ensures keeps { IsRefused result → Keeps B.stand B.links rack.old rack.new }
+    ensures ran { RanAs I.Source O.Sink K.Clock F.may (given_by B.stand B.links rack.old)
+        (RunsBy B.filter_number B.output_number (B.given rack.new)
+        (B.stand rack.old kind.Filter).stocks (B.stand rack.old kind.Output).stocks
+        (B.stand rack.new kind.Filter).stocks (B.stand rack.new kind.Output).stocks)
+        world.old world.new (map string_bytes words.now) result }
     ensures flushed { FlushedOrUntouched O.Sink world.old world.new }
     ensures done_flushed { result ≡ Status.Done → AllFlushed O.Sink world.new.stdout }
     ensures input_fault { InputFaultHasCause I.Source world.old world.new result }
     ensures output_fault { OutputFaultHasCause O.Sink world.old world.new result }
     ensures stderr { world.new.stderr ≡ world.old.stderr }
 {
-    match start(alloc, words) {
-        Ok(pipeline) => match run(rt, alloc, world) {
-            Ok(()) => Status::Done,
-            Err(stop) => stopped(alloc, pipeline, stop),
-        },
-        Err(status) => status,
+    let Job { pipeline, config } = match start(alloc, words, rack) {
+        Ok(job) => job,
+        Err(status) => return status,
+    };
+    let Ok(codecs) = codecs_of_config(alloc, &config) else {
+        return Status::NoMemory;
+    };
+    match compile(alloc, config, rack, WORKERS) {
+        Ok(plan) => run_plan(rt, alloc, pipeline, plan, codecs, world),
+        Err(fault) => refused(pipeline, fault),
+    }
+}
+
+/// Runs a plan with the kit of one worker, whose outputs to stdout have these codecs, and closes the boxes of all kits.
+fn run_plan<R: Wait, I: Source, O: Sink, K: Clock, F: Asked + Closed, P: Drop>(
+    rt: &R,
+    alloc: Global,
+    pipeline: Text,
+    plan: Plan<F, P>,
+    codecs: Items<OutputCodec>,
+    world: &mut ThinWorld<I, O, K>,
+) -> Status
+    requires codecs { codecs ≡ codecs_of plan.config }
+    ensures may { MayRun pipeline plan.config result }
+    ensures ran { (number : P → ℕ) → IsPlanOf number plan.config workers plan
+        → HaveOwnIds plan.config
+        → RanPlan I.Source O.Sink K.Clock F.may plan.config plan.draws
+        (map boxes_in plan.kits.items) world.old world.new result }
+    ensures flushed { FlushedOrUntouched O.Sink world.old world.new }
+    ensures done_flushed { result ≡ Status.Done → AllFlushed O.Sink world.new.stdout }
+    ensures input_fault { InputFaultHasCause I.Source world.old world.new result }
+    ensures output_fault { OutputFaultHasCause O.Sink world.old world.new result }
+    ensures stderr { world.new.stderr ≡ world.old.stderr }
+{
+    let Plan {
+        config,
+        graph,
+        mut kits,
+        ..
+    } = plan;
+    let Some(kit) = kits.pop() else {
+        return Status::NoMemory;
+    };
+    let mut runner = Runner::new(graph, kit, codecs);
+    let ran = run(rt, alloc, world, &mut runner);
+    let Runner { mut kit, .. } = runner;
+    close_kit(&mut kit);
+    close_kits(&mut kits);
+    match ran {
+        Ok(()) => Status::Done,
+        Err(stop) => stopped(alloc, pipeline, &config, stop),
+    }
+}
+
+/// Closes each box of some kits once.
+fn close_kits<F: Closed>(kits: &mut Vec<Kit<F>>)
+    ensures { closes_in F.closes kits.new.items
+        ≡ all_once_more (closes_in F.closes kits.old.items) }
+{
+    for kit in kits.iter_mut() {
+        close_kit(kit);
     }
 }
 
 /// The status of a run that stopped before its end.
-fn stopped(alloc: Global, pipeline: Text, stop: RunFault) -> Status
-    ensures { (result ≡ status_of pipeline stop) ⊎ (result ≡ Status.NoMemory) }
+fn stopped(alloc: Global, pipeline: Text, config: &Config, stop: RunFault) -> Status
+    ensures { (result ≡ status_of pipeline config.now stop) ⊎ (result ≡ Status.NoMemory) }
 {
-    match fault_status(alloc, pipeline, stop) {
+    match fault_status(alloc, pipeline, config, stop) {
         Ok(status) => status,
         Err(_) => Status::NoMemory,
     }
 }
 
-fn fault_status(alloc: Global, pipeline: Text, stop: RunFault) -> Result<Status, AllocError>
-    ensures { IfOk result (λ status. status ≡ status_of pipeline stop) }
+fn fault_status(
+    alloc: Global,
+    pipeline: Text,
+    config: &Config,
+    stop: RunFault,
+) -> Result<Status, AllocError>
+    ensures { IfOk result (λ status. status ≡ status_of pipeline config.now stop) }
 {
     match stop {
-        RunFault::Input => Ok(Status::InputFault(pipeline, Text::of(alloc, "input_1")?)),
-        RunFault::Output => Ok(Status::OutputFault(Text::of(alloc, "output_1")?)),
+        RunFault::Input => Ok(Status::InputFault(
+            pipeline,
+            input_id(alloc, config.inputs.as_slice())?,
+        )),
+        RunFault::Output => Ok(Status::OutputFault(output_id(alloc, config)?)),
         RunFault::Memory => Ok(Status::NoMemory),
+    }
+}
+
+fn input_id(alloc: Global, inputs: &[Plugin]) -> Result<Text, AllocError>
+    ensures { IfOk result (λ id. id ≡ spec.input_id inputs.now) }
+{
+    match inputs {
+        [plugin, ..] => plugin_id(alloc, "input", 1, plugin),
+        [] => Text::of(alloc, ""),
+    }
+}
+
+fn output_id(alloc: Global, config: &Config) -> Result<Text, AllocError>
+    ensures { IfOk result (λ id. id ≡ spec.first_output (codecs_of config.now)) }
+{
+    let codecs = codecs_of_config(alloc, config)?;
+    first_output(alloc, codecs.as_slice())
+}
+
+fn first_output(alloc: Global, codecs: &[OutputCodec]) -> Result<Text, AllocError>
+    ensures { IfOk result (λ id. id ≡ spec.first_output codecs.now) }
+{
+    match codecs {
+        [codec, ..] => codec.output.copy(),
+        [] => Text::of(alloc, "stdout"),
     }
 }

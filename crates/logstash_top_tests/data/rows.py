@@ -1,15 +1,25 @@
 """Makes the tables of this folder, and `../stdout`: run it in this folder.
 
-The answers follow from the rules: when a line ends, what its row is, when stdout and stderr are flushed, and which line of stderr
-a status has, part by part. Nothing of the program is called.
+The answers follow from the rules: when a line ends, what its row is, how lines are cut into batches, when stdout and stderr are
+flushed, and which line of stderr a status has, part by part. What configurations make of lines is said by hand, or by `flow.py`.
+Nothing of the program is called.
 """
 
 import json
+import re
+from decimal import Decimal
+
+from configurations import CONFIGURATIONS, EVERY, SEVERAL
+from events import json_text
+from flow import BATCH, Flow
 
 ROWS = {}
 LIMIT, ROOM, MANY = 1_048_576, 65_536, 8
 BUILT = "input { stdin {} } output { stdout { codec => json_lines } }"
 PLAIN = "input { stdin {} } output { stdout {} }"
+LF = 'stdout { codec => line { format => "%{message}" } }'
+# The tables whose runs aren't compared with the rows of their lines.
+CONFIGURED = ["worked", "configurations", "failing", "named", "refused"]
 
 
 class Failed(Exception):
@@ -98,10 +108,22 @@ def text_of(data):
     return text
 
 
-def row_of(line):
-    message = json.dumps(text_of(line), ensure_ascii=False)
-    start = '{"@timestamp":"2024-01-01T00:00:00.000Z","@version":"1","event":{"original":'
-    return f'{start}{message}}},"message":{message}}}\n'.encode()
+def row_of(line, **fields):
+    """The row of a line whose event has these fields besides."""
+    event = {"@timestamp": "2024-01-01T00:00:00.000Z", "@version": "1", "event": {"original": line}, "message": line, **fields}
+    return json.dumps(event, ensure_ascii=False, separators=(",", ":"), sort_keys=True) + "\n"
+
+
+class Rows:
+    """What a configuration writes of each line: its row, or what is said by hand."""
+
+    def __init__(self, said=None):
+        self.said = said
+
+    def poll(self, lines):
+        """What stdout gets of the lines that one read made whole, batch by batch."""
+        rows = [row_of(line) if self.said is None else self.said[line] for line in lines]
+        return ["".join(rows[at : at + BATCH]) for at in range(0, len(rows), BATCH)]
 
 
 class Lines:
@@ -131,16 +153,16 @@ class StdoutFailed(Exception):
 class Run:
     """What a run leaves of its objects, for which it reads all of `data`."""
 
-    def __init__(self, stdin, stdout, data):
-        self.stdin, self.stdout, self.data = stdin, stdout, data
+    def __init__(self, stdin, stdout, data, flow):
+        self.stdin, self.stdout, self.data, self.flow = stdin, stdout, data, flow
         self.lines, self.pauses, self.defined = Lines(), 0, b""
 
     def write(self, lines, flushes):
-        rows = b"".join(map(row_of, lines))
-        self.defined += rows
+        batches = [batch.encode() for batch in self.flow.poll([text_of(line) for line in lines])]
+        self.defined += b"".join(batches)
         try:
-            for row in rows.splitlines(True):
-                self.stdout.write(row)
+            for batch in batches:
+                self.stdout.write(batch)
             if flushes:
                 self.stdout.flush()
         except Failed:
@@ -185,25 +207,38 @@ def tell(stderr, parts):
         pass
 
 
-OUTPUT_FAULT = ["logstash: output fault ", "output_1", "\n"]
-
-
-def run(table, words, data, read=None, fails=(), waits=(), write=None, breaks=(), quiet=(), name="main", refused=None):
-    """Adds a run; `refused` is the status with the parts of its line where nothing is read. Gives how many calls of stdout were made."""
+def run(
+    table,
+    words,
+    data,
+    read=None,
+    fails=(),
+    waits=(),
+    write=None,
+    breaks=(),
+    quiet=(),
+    name="main",
+    refused=None,
+    flow=None,
+    input_id="input_1",
+    output_id="output_1",
+):
+    """Adds a run, of `flow` where it isn't of rows alone; `refused` is the status with the parts of its line where nothing is read.
+    Gives how many calls of stdout were made."""
     stdin, stdout, stderr = Object(read, fails, waits), Object(write, breaks), Object(None, quiet)
     waiting = ",".join(map(str, waits)) or "-"
     row = f"{stdin.written()} {waiting}, {stdout.written()}, {stderr.written()} | {words_written(words)} | {written(data)}"
-    made = Run(stdin, stdout, data)
+    made = Run(stdin, stdout, data, flow or Rows())
     if refused:
         status, line = refused
     else:
         status = made.end()
-        fault = ["logstash: pipeline ", name, ": input fault ", "input_1", "\n"]
-        line = {0: [], 5: fault, 6: OUTPUT_FAULT}[status]
+        input_fault = ["logstash: pipeline ", name, ": input fault ", input_id, "\n"]
+        line = {0: [], 5: input_fault, 6: ["logstash: output fault ", output_id, "\n"]}[status]
     tell(stderr, line)
-    same = " as defined" if stdout.taken == made.defined else " not as defined"
-    same = same if len(stdout.taken) <= 4_000 else ""
-    answer = f"{status}; {stdin.made} reads {made.pauses} pauses{stdout.told('stdout')}{same}{stderr.told('stderr')}"
+    same = "; as defined" if stdout.taken == made.defined else "; not as defined"
+    same = "" if table in CONFIGURED or len(stdout.taken) > 4_000 else same
+    answer = f"{status}; {stdin.made} reads {made.pauses} pauses{stdout.told('stdout')}{stderr.told('stderr')}{same}"
     ROWS.setdefault(table, []).append((row, answer))
     return stdout.made
 
@@ -217,10 +252,15 @@ def words_line(reason):
 
 def config_line(name, reason):
     """The parts of the line that a refused text has."""
-    if reason in ("not built", "long"):
-        return ["logstash: pipeline ", name, f": {reason}\n"]
-    what, place = reason.rsplit(" ", 1)
-    return ["logstash: pipeline ", name, f": {what} ", place, "\n"]
+    start = ["logstash: pipeline ", name]
+    setting = re.fullmatch("(.*): (missing|unknown|wrong kind|bad pattern) (.*)", reason)
+    placed = re.fullmatch("(syntax at|deep at|unknown plugin|twice id|twice path|twice address|path long) (.*)", reason)
+    spare = re.fullmatch("no spare (.*): (.*) wanted, (.*) left", reason)
+    if setting:
+        return [*start, ": ", setting[1], f": {setting[2]} ", setting[3], "\n"]
+    if spare:
+        return [*start, ": no spare ", spare[1], ": ", spare[2], " wanted, ", spare[3], " left\n"]
+    return [*start, f": {placed[1]} ", placed[2], "\n"] if placed else [*start, f": {reason}\n"]
 
 
 def texts():
@@ -303,14 +343,8 @@ def words_run():
 
 def texts_refused():
     for text, reason in [
-        ("", "not built"),
-        ("input { stdin {} }", "not built"),
-        ("input { stdin {} stdin {} } output { stdout {} }", "not built"),
-        ("input { stdin { id => a } } output { stdout {} }", "not built"),
-        ("input { stdin {} } filter { drop {} } output { stdout {} }", "not built"),
-        ("input { stdin {} } output { if [a] { stdout {} } }", "not built"),
-        ("input { stdin {} } output { stdout { codec => line } }", "not built"),
-        ("input { stdin {} } output { stdout { codec => json_lines {} } }", "not built"),
+        ("input { generator { count => 1 } } output { stdout {} }", "not built"),
+        ("", "no input"),
         ("input { stdin {} } output { stdout {} } }", "syntax at 40"),
         ("input { stdin {} ", "syntax at 17"),
         ("inputs { stdin {} }", "syntax at 0"),
@@ -322,6 +356,156 @@ def texts_refused():
             for name, more in (("main", []), ("up-2", ["--pipeline.id", "up-2"])):
                 refused = (3, config_line(name, reason))
                 run("texts_refused", [*more, "-e", text], b"hello\n", quiet=quiet, refused=refused)
+
+
+NOT_BUILT = [
+    "input { stdin { codec => json } } output { stdout {} }",
+    'input { stdin { type => "t" } } output { stdout {} }',
+    'input { stdin { id => "a" tags => ["t"] } } output { sink {} }',
+    'input { stdin { add_field => { "a" => "b" } } } output { stdout {} }',
+    'input { generator { message => "x" count => 2 } } output { stdout {} }',
+    'input { file { path => "a" } } output { stdout {} }',
+    "input { tcp { port => 5000 } } output { stdout {} }",
+    'input { pipeline { address => "q" } } output { stdout {} }',
+    "input { stdin {} generator { count => 1 } } output { stdout {} }",
+    'input { stdin {} } output { file { path => "x" } }',
+    'input { stdin {} } output { stdout {} if [a] { pipeline { send_to => ["q"] } } }',
+    'input { stdin {} } filter { drop {} } output { sink {} file { path => "x" codec => line } }',
+]
+LONG = "x" * 248
+REFUSED = [
+    ("input { nope {} } output { stdout {} }", "unknown plugin nope"),
+    ("input { stdin {} } filter { nope {} } output { stdout {} }", "unknown plugin nope"),
+    ("input { stdin {} } filter { tagger {} } output { stdout {} }", "unknown plugin tagger"),
+    ("input { stdin {} } output { grok {} }", "unknown plugin grok"),
+    ("input { generator {} } filter { nope {} } output { stdout {} }", "unknown plugin nope"),
+    ("input { stdin {} } filter { clone {} } output { stdout {} }", "filter_1: missing clones"),
+    ('input { stdin {} } filter { drop {} mutate { nope => 1 id => "own" } } output { stdout {} }', "own: unknown nope"),
+    ("input { stdin { type => 5 } } output { stdout {} }", "input_1: wrong kind type"),
+    ("input { stdin {} } output { sink {} stdout { codec => dots } }", "output_2: wrong kind codec"),
+    ("input { stdin {} } output { stdout { codec => json { format => x } } }", "output_1: unknown format"),
+    ('input { stdin {} } filter { grok { match => { "message" => "(" } } } output { stdout {} }', "filter_1: bad pattern match"),
+    ('input { stdin {} } filter { if [a] { } else if [b] =~ "(" { drop {} } } output { stdout {} }', "filter_if_2: bad pattern condition"),
+    ('input { stdin {} } filter { drop { id => "a" } } output { stdout { id => "a" } }', "twice id a"),
+    ("input { stdin { id => \"output_1\" } } output { stdout {} }", "twice id output_1"),
+    ('input { file { path => "a" } file { path => "a" } } output { stdout {} }', "twice path a"),
+    ('input { stdin {} } output { file { path => "x/y" } file { path => "x/y" } }', "twice path x/y"),
+    ('input { pipeline { address => "q" } pipeline { address => "q" } } output { stdout {} }', "twice address q"),
+    ("input { stdin {} stdin {} } output { stdout {} }", "twice stdin"),
+    (f'input {{ file {{ path => "{LONG}" }} }} output {{ stdout {{}} }}', f"path long {LONG}"),
+    ("output { stdout {} }", "no input"),
+    ("input { stdin {} }", "no output"),
+    ("input { stdin {} } filter { drop {} } output { if [a] { } else { } }", "no output"),
+    ("input { http {} } output { stdout {} }", "no spare http:8080: 1 wanted, 0 left"),
+]
+
+
+def refused():
+    """Each fault of a configuration, and configurations without one that the program doesn't run yet."""
+    for text, reason in REFUSED + [(text, "not built") for text in NOT_BUILT]:
+        for name, more in (("main", []), ("up-2", ["--pipeline.id", "up-2"])):
+            line = (3, config_line(name, reason))
+            run("refused", [*more, "-e", text], b"hello\n", quiet=(4,), refused=line)
+            add_test([*more, "-te", text], breaks=(0,), refused=line)
+
+
+def worked():
+    """Worked out by hand, line by line."""
+    jl = "stdout { codec => json_lines }"
+    time = {"@timestamp": "2000-10-10T20:55:36.000Z"}
+    line = '127.0.0.1 - frank [10/Oct/2000:13:55:36 -0700] "GET /a.gif HTTP/1.0" 200 2326'
+    found = {"clientip": "127.0.0.1", "ident": "-", "auth": "frank", "timestamp": "10/Oct/2000:13:55:36 -0700", "verb": "GET"}
+    found |= {"request": "/a.gif", "httpversion": "1.0", "response": "200", "bytes": "2326"}
+    for filters, outputs, said in [
+        ("", jl, {"hello": row_of("hello")}),
+        ("", LF, {"a": "a\n", "b": "b\n"}),
+        (
+            'json { source => "message" } mutate { replace => { "b" => "x" } rename => { "a" => "b" } }',
+            'stdout { codec => line { format => "%{a} %{b}" } }',
+            {'{"a":"1","b":"2"}': "%{a} x\n"},
+        ),
+        (
+            'json { source => "message" }',
+            "if [foo] { stdout { codec => line { format => Yes } } } else { stdout { codec => line { format => No } } }",
+            {"{}": "No\n", '{"foo":null}': "No\n", '{"foo":false}': "No\n"},
+        ),
+        (
+            'json { source => "message" }',
+            "if [foo] { stdout { codec => line { format => Yes } } } else { stdout { codec => line { format => No } } }",
+            {'{"foo":0}': "Yes\n", '{"foo":""}': "Yes\n"},
+        ),
+        (
+            'clone { clones => ["audit"] } if "audit" in [tags] { mutate { replace => { "message" => "copy" } } }',
+            LF,
+            {"a": "a\ncopy\n"},
+        ),
+        ('split { terminator => "," } if [message] == "b" { drop {} }', LF, {"a,b,c": "a\nc\n"}),
+        ('grok { match => { "message" => "%{COMMONAPACHELOG}" } }', jl, {line: row_of(line, **found)}),
+        (
+            'grok { match => { "message" => "%{WORD:m} %{NUMBER:n:int}" } }',
+            jl,
+            {"GET 200": row_of("GET 200", m="GET", n=200)},
+        ),
+        ('grok { match => { "message" => "%{WORD:m} %{INT:n}" } }', jl, {"!!": row_of("!!", tags=["_grokparsefailure"])}),
+        (
+            "kv {}",
+            jl,
+            {'a=1 b="two words" c a=3': row_of('a=1 b="two words" c a=3', a=["1", "3"], b="two words")},
+        ),
+        ('csv { columns => ["x"] }', jl, {'a,"b,c",': row_of('a,"b,c",', x="a", column2="b,c", column3="")}),
+        (
+            'json { source => "message" } csv { source => "n" columns => ["x"] }',
+            jl,
+            {'{"n":5}': row_of('{"n":5}', n=5, tags=["_csvparsefailure"])},
+        ),
+        (
+            'date { match => ["message", "dd/MMM/yyyy:HH:mm:ss Z"] }',
+            jl,
+            {"10/Oct/2000:13:55:36 -0700": row_of("10/Oct/2000:13:55:36 -0700", **time), "soon": row_of("soon", tags=["_dateparsefailure"])},
+        ),
+        ('json { source => "message" }', jl, {'{"k":[1]}': row_of('{"k":[1]}', k=[1]), "{": row_of("{", tags=["_jsonparsefailure"])}),
+        ("if [message] > 5 { drop {} }", jl, {"7": ""}),
+    ]:
+        text = f"input {{ stdin {{}} }} filter {{ {filters} }} output {{ {outputs} }}"
+        for read in (None, 1):
+            run("worked", ["-e", text], "".join(f"{line}\n" for line in said).encode(), read=read, flow=Rows(said))
+    run("worked", ["-e", f"input {{ stdin {{}} }} output {{ {LF} }}"], b"a\nb", read=1, flow=Rows({"a": "a\n", "b": "b\n"}))
+    run("worked", ["-e", f"input {{ stdin {{}} }} output {{ {jl} }}"], b"", flow=Rows({}))
+
+
+def configurations():
+    for text, data in [*CONFIGURATIONS, EVERY]:
+        run("configurations", ["-e", text], data.encode(), flow=Flow(text))
+    lines = "".join(f"{number} \n" for number in range(375))
+    for count in (0, 1, 124, 125, 126, 250, 251, 375):
+        text = f"input {{ stdin {{}} }} output {{ {LF} stdout {{ codec => plain }} sink {{}} }}"
+        run("configurations", ["-e", text], "".join(lines.splitlines(True)[:count]).encode(), flow=Flow(text))
+
+
+def failing():
+    """stdout fails at each of its calls, in runs of several outputs and of several batches."""
+    text, data = SEVERAL
+    calls = run("failing", ["-e", text], data.encode(), read=20, write=50, flow=Flow(text))
+    for number in range(calls):
+        run("failing", ["-e", text], data.encode(), read=20, write=50, breaks=(number,), flow=Flow(text), output_id="plain")
+    text = f'input {{ stdin {{}} }} filter {{ if [message] in ["7", "130"] {{ drop {{}} }} }} output {{ sink {{}} stdout {{ codec => plain }} {LF} }}'
+    lines = "".join(f"{number}\n" for number in range(300)).encode()
+    calls = run("failing", ["-e", text], lines, flow=Flow(text))
+    for number in range(calls):
+        run("failing", ["-e", text], lines, breaks=(number,), flow=Flow(text), output_id="output_2")
+
+
+def named():
+    """The ids of inputs and outputs in lines of faults."""
+    for text, input_id, output_id in [
+        ('input { stdin { id => "lines" } } output { stdout { id => "rows" } }', "lines", "rows"),
+        ("input { stdin {} } output { sink {} if [a] { stdout {} } }", "input_1", "output_2"),
+        ('input { stdin {} } output { if [a] { stdout { id => "in" } } else { stdout {} } }', "input_1", "in"),
+        ("input { stdin {} } output { sink {} }", "input_1", "stdout"),
+    ]:
+        run("named", ["-e", text], b"a\n", fails=(0,), flow=Flow(text), input_id=input_id)
+        run("named", ["-e", text], b"a\n", breaks=(0, 1), flow=Flow(text), output_id=output_id)
+        run("named", ["-e", text], b"a\n", fails=(1,), breaks=(1, 2), flow=Flow(text), output_id=output_id)
 
 
 def long_texts():
@@ -390,10 +574,10 @@ def tests():
         for number in (0, 1):
             add_test(words, breaks=(number,))
     for words, status, line in [
-        (["-t", "-e", "input { stdin {} }"], 3, config_line("main", "not built")),
+        (["-t", "-e", "input { stdin {} }"], 3, config_line("main", "no output")),
         (["-te", "input { stdin {} "], 3, config_line("main", "syntax at 17")),
         (["-te", "inputs", "--pipeline.id=up"], 3, config_line("up", "syntax at 0")),
-        (["-te", "", "--pipeline.id=up"], 3, config_line("up", "not built")),
+        (["-te", "", "--pipeline.id=up"], 3, config_line("up", "no input")),
         (["-t", "-w", "0", "-e", BUILT], 1, words_line("range --pipeline.workers")),
         (["-t", "-e", "x", "-f", "y"], 1, words_line("both")),
         (["-t", "-t", "-e", BUILT], 1, words_line("unread")),
@@ -423,6 +607,100 @@ def calls():
         ROWS.setdefault("calls", []).append((words_written(words), answer))
 
 
+FIELDS = {"@timestamp": "2024-01-01T00:00:00.000Z", "@version": "1"}
+
+
+def message(line, **more):
+    return {**FIELDS, "event": {"original": line}, "message": line, **more}
+
+
+def members(line, **more):
+    return {**FIELDS, "event": {"original": line}, **more}
+
+
+def add_decoded(codec, line, fields, meta=None):
+    row = f"{codec} | {written(line.encode() if isinstance(line, str) else line)}"
+    ROWS.setdefault("decoded", []).append((row, f"{json_text(fields)} {json_text(meta or {})}"))
+
+
+def decoded():
+    """Each line by hand: what a codec makes of it is said by the rules of inputs alone."""
+    for codec in ("plain", "line"):
+        for line in ("", "a b", '{"a":1}', "\u20ac"):
+            add_decoded(codec, line, message(line))
+    failed = {"tags": ["_jsonparsefailure"]}
+    for codec in ("json", "json_lines"):
+        add_decoded(codec, "{}", members("{}"))
+        for line in ("", "a", "{", "1", "null", "[]", '"a"', '{"a":1} x', "{'a':1}"):
+            add_decoded(codec, line, message(line, **failed))
+    line = '{"a":{"b":[1,null,true]},"message":"m","@version":"7","event":{"id":3}}'
+    add_decoded("json", line, {**members(line), "a": {"b": [Decimal(1), None, True]}, "message": "m", "@version": "7", "event": {"id": Decimal(3), "original": line}})
+    line = '{"event":{"original":"mine"}}'
+    add_decoded("json", line, members(line))
+    line = '{"event":"mine"}'
+    add_decoded("json", line, {**FIELDS, "event": "mine"})
+    line = '{"a":1,"a":2}'
+    add_decoded("json", line, members(line, a=Decimal(2)))
+    line = '{"[a]":1,"b.c":2,"":3}'
+    add_decoded("json", line, {**members(line), "[a]": Decimal(1), "b.c": Decimal(2), "": Decimal(3)})
+    for text, moment in (
+        ("2020-02-29T12:00:00Z", "2020-02-29T12:00:00.000Z"),
+        ("2020-02-29T12:00:00+01:00", "2020-02-29T11:00:00.000Z"),
+        ("2020-02-29T12:00:00.25", "2020-02-29T12:00:00.250Z"),
+    ):
+        line = f'{{"@timestamp":"{text}"}}'
+        add_decoded("json", line, {**members(line), "@timestamp": moment})
+    tags = {"tags": ["_timestampparsefailure"]}
+    for text, value in (('"yesterday"', "yesterday"), ("7", Decimal(7)), ("null", None), ("{}", {}), ('"2020-02-30T00:00:00Z"', "2020-02-30T00:00:00Z")):
+        line = f'{{"@timestamp":{text}}}'
+        add_decoded("json", line, {**members(line), "_@timestamp": value, **tags})
+    for text, value in (('"a"', ["a"]), ("[]", []), ('["a","b"]', ["a", "b"])):
+        line = f'{{"tags":{text}}}'
+        add_decoded("json", line, members(line, tags=value))
+    for text, value in (("1", Decimal(1)), ("null", None), ('["a",1]', ["a", Decimal(1)]), ('{"a":1}', {"a": Decimal(1)})):
+        line = f'{{"tags":{text}}}'
+        add_decoded("json", line, members(line, _tags=value, tags=["_tagsparsefailure"]))
+    line = '{"@timestamp":1,"tags":["a","_tagsparsefailure"]}'
+    add_decoded("json", line, {**members(line), "_@timestamp": Decimal(1), "tags": ["a", "_tagsparsefailure", "_timestampparsefailure"]})
+    line = '{"@timestamp":1,"tags":2}'
+    add_decoded("json", line, {**members(line), "_@timestamp": Decimal(1), "_tags": Decimal(2), "tags": ["_timestampparsefailure", "_tagsparsefailure"]})
+    line = '{"@metadata":{"k":"v"},"a":1}'
+    add_decoded("json", line, members(line, a=Decimal(1)), {"k": "v"})
+    for text in ("1", "null", "[]", '"a"'):
+        line = f'{{"@metadata":{text}}}'
+        add_decoded("json", line, members(line))
+    deep = "[" * 99 + "]" * 99
+    value = []
+    for _ in range(98):
+        value = [value]
+    line = f'{{"a":{deep}}}'
+    add_decoded("json", line, members(line, a=value))
+    line = f'{{"a":[{deep}]}}'
+    add_decoded("json", line, message(line, **failed))
+    # Each byte that begins no character is replaced before the line is read.
+    add_decoded("json", b'{"a":"\xff"}', members('{"a":"\ufffd"}', a="\ufffd"))
+    add_decoded("line", b"\xe2\x82", message("\ufffd\ufffd"))
+
+
+def sample(number):
+    upper = number >> 33
+    return (
+        f"user=u{upper % 100} took={upper % 1000}",
+        f'{{"user":"u{upper % 100}","took":{upper % 1000}}}',
+        f'10.0.0.{upper % 250} - - [10/Oct/2000:13:55:36 +0000] "GET /p{upper % 1000} HTTP/1.1" 200 {upper % 10000}',
+        f"junk {upper}",
+    )[upper % 4]
+
+
+def samples():
+    for start in (0, 1, 2, 20000, 2**64 - 1):
+        for count in (0, 1, 2, 3, 4, 5, 6, 7, 8, 100):
+            number = start
+            for _ in range(count):
+                number = (number * 6364136223846793005 + 1442695040888963407) % 2**64
+            ROWS.setdefault("samples", []).append((f"{start} {count}", sample(number)))
+
+
 for table in (
     texts,
     lines,
@@ -434,8 +712,15 @@ for table in (
     pauses,
     long_lines,
     defined,
+    worked,
+    configurations,
+    failing,
+    named,
     tests,
+    refused,
     calls,
+    decoded,
+    samples,
 ):
     table()
 # What is told of settings stands behind these tables, and was worked out by hand.

@@ -5,9 +5,12 @@
 //!
 //! - `runs`: `STDIN, STDOUT, STDERR | WORDS | BYTES`: a run with these words, to whose stdin these bytes come. Of stdin there are
 //!   the most bytes that a read gives, the reads that fail and those that find nothing yet; of stdout and stderr the most bytes
-//!   that a write takes, and the calls that fail. Calls are counted from 0, commas stand between numbers, and `-` is none.
+//!   that a write takes, and the calls that fail. Calls are counted from 0, commas stand between numbers, and `-` is none. Where
+//!   the configuration writes the rows of its lines alone, they are compared with those that the definition gives.
 //! - `tests`: `STDOUT, STDERR | WORDS`: the test of the configuration that the words name.
 //! - `calls`: words, and the call that they are for, with how many workers they want.
+//! - `decoded`: a codec of inputs, ` | ` and a line, and the fields and the metadata of its event.
+//! - `samples`: the number that a sample begins with, a blank and how manieth line it is.
 //! - `words`: the words of a command line, around blanks, and what they order. A row without bytes has no words.
 //! - `pipelines`: a text that is read as `pipelines.yml`, with the orders of no words.
 //! - `defaults`: words, ` => `, and such a text, with the orders of those words.
@@ -17,12 +20,13 @@
 //! in what is told `%0a;` is a line feed, and a character that stands more than eight times in a row is told as such a text.
 //! The clock shows 2024-01-01T00:00:00Z.
 //!
-//! `data/rows.py` made the tables and `stdout` from the rules of lines and rows, and of what is flushed when; but for the last
-//! four. In their rows `%n`, `%r`, `%t` and `%s` are a line feed, a carriage return, a tab and a blank, `%e` is nothing, `%p` is
+//! No box is handed in. `data/rows.py` made the tables and `stdout` from the rules of lines and rows, and of what is flushed when,
+//! with `data/flow.py` for what configurations make of lines; but for the last four. In their rows `%n`, `%r`, `%t` and `%s` are a line feed, a carriage return, a tab and a blank, `%e` is nothing, `%p` is
 //! `%`, `%x` is the byte 255, which is no text, and `%(N*TEXT)` is a text so many times, and their answers were worked out by hand
 //! from the tables of options and keys in `docs/settings.md`, and from what a `*` stands for.
 #![tactic(auto)]
 
+mod decoded;
 mod marked;
 mod objects;
 mod runs;
@@ -31,6 +35,8 @@ mod told;
 mod words;
 mod written;
 
+use batch_rows::Closed;
+use foreign_parts::{Asked, Rack, Stockroom};
 use std::alloc::AllocError;
 use std::sync::Wait;
 use std::{fs, io};
@@ -39,15 +45,18 @@ use std::{fs, io};
 #[derive(Clone, Copy)]
 enum Table {
     Runs,
+    Configured,
     Tests,
     Calls,
+    Decoded,
+    Samples,
     Words,
     Pipelines,
     Defaults,
     Paths,
 }
 
-const TABLES: [(&str, Table); 16] = [
+const TABLES: [(&str, Table); 23] = [
     ("texts", Table::Runs),
     ("lines", Table::Runs),
     ("words_refused", Table::Runs),
@@ -58,8 +67,15 @@ const TABLES: [(&str, Table); 16] = [
     ("pauses", Table::Runs),
     ("long_lines", Table::Runs),
     ("defined", Table::Runs),
+    ("worked", Table::Configured),
+    ("configurations", Table::Configured),
+    ("failing", Table::Configured),
+    ("named", Table::Configured),
     ("tests", Table::Tests),
+    ("refused", Table::Configured),
     ("calls", Table::Calls),
+    ("decoded", Table::Decoded),
+    ("samples", Table::Samples),
     ("words", Table::Words),
     ("pipelines", Table::Pipelines),
     ("defaults", Table::Defaults),
@@ -67,23 +83,33 @@ const TABLES: [(&str, Table); 16] = [
 ];
 
 fn main(rt: HostRuntime) -> io::Result<()> {
+    let mut rack = Rack::new(rt.alloc());
     for (name, table) in &TABLES {
         let rows = fs::read_to_string(&rt, *name)?;
         println!(rt; "# {name}")?;
         for row in rows.lines() {
             let mut answer = String::new(rt.alloc());
-            add_answer(&rt, &mut answer, *table, row)?;
+            add_answer(&rt, &mut answer, *table, row, &mut rack)?;
             println!(rt; "{answer}")?;
         }
     }
     Ok(())
 }
 
-fn add_answer<R: Wait>(rt: &R, to: &mut String, table: Table, row: &str) -> Result<(), AllocError> {
+fn add_answer<R: Wait, F: Asked + Closed, B: Stockroom<Filter = F>>(
+    rt: &R,
+    to: &mut String,
+    table: Table,
+    row: &str,
+    rack: &mut B,
+) -> Result<(), AllocError> {
     match table {
-        Table::Runs => runs::add_run(rt, to, row),
-        Table::Tests => words::add_test(to, row),
+        Table::Runs => runs::add_run(rt, to, row, rack),
+        Table::Configured => runs::add_configured(rt, to, row, rack),
+        Table::Tests => words::add_test(to, row, rack),
         Table::Calls => words::add_call(to, row),
+        Table::Decoded => decoded::add_decoded(to, row),
+        Table::Samples => decoded::add_sample(to, row),
         Table::Words => settings::add_words(to, row),
         Table::Pipelines => settings::add_pipelines(to, "", row),
         Table::Defaults => settings::add_defaults(to, row),

@@ -7,6 +7,8 @@ ghost use Rattle.io_memory.specs.Gave.{piece_of as given_piece};
 use crate::objects::{PausedClock, new_year, sink, source};
 use crate::told::add_sink;
 use crate::written::{bytes_of, cut, words_of};
+use batch_rows::Closed;
+use foreign_parts::{Asked, Stockroom};
 use in_lines::{LINE_LIMIT, Piece, Poll, events_of_polls, write_row};
 use logstash_top::{ThinWorld, logstash};
 use std::alloc::{AllocError, Global};
@@ -18,15 +20,43 @@ type World = ThinWorld<MemorySource, MemorySink, PausedClock>;
 /// How many bytes of stdout are compared with those that the definition of rows gives.
 const COMPARED: usize = 4_000;
 
+/// Adds what a run leaves, and whether stdout holds the rows that the definition gives for what stdin gave.
+pub fn add_run<R: Wait, F: Asked + Closed, B: Stockroom<Filter = F>>(
+    rt: &R,
+    to: &mut String,
+    row: &str,
+    rack: &mut B,
+) -> Result<(), AllocError> {
+    let world = ran(rt, to, row, rack)?;
+    add_comparison(to, world.stdin.given(), world.stdout.taken())
+}
+
 /// Adds what a run leaves.
-pub fn add_run<R: Wait>(rt: &R, to: &mut String, row: &str) -> Result<(), AllocError> {
+pub fn add_configured<R: Wait, F: Asked + Closed, B: Stockroom<Filter = F>>(
+    rt: &R,
+    to: &mut String,
+    row: &str,
+    rack: &mut B,
+) -> Result<(), AllocError> {
+    let _ = ran(rt, to, row, rack)?;
+    Ok(())
+}
+
+/// Adds what a run leaves, and gives it.
+fn ran<R: Wait, F: Asked + Closed, B: Stockroom<Filter = F>>(
+    rt: &R,
+    to: &mut String,
+    row: &str,
+    rack: &mut B,
+) -> Result<World, AllocError> {
     let alloc = *to.allocator();
     let (objects, asked) = cut(row, " | ");
     let (words, stdin) = cut(asked, " | ");
     let words = words_of(alloc, words)?;
     let mut world = world(alloc, objects, stdin)?;
-    let status = logstash(rt, alloc, &words, &mut world);
-    add_left(to, status.number(), &world)
+    let status = logstash(rt, alloc, &words, &mut world, rack);
+    add_left(to, status.number(), &world)?;
+    Ok(world)
 }
 
 fn world(alloc: Global, objects: &str, stdin: &str) -> Result<World, AllocError> {
@@ -45,20 +75,18 @@ fn add_left(to: &mut String, status: u8, world: &World) -> Result<(), AllocError
     let pauses = world.clock.pauses();
     write!(to, "{status}; {reads} reads {pauses} pauses")?;
     add_sink(to, "stdout", &world.stdout)?;
-    add_comparison(to, world.stdin.given(), world.stdout.taken())?;
     add_sink(to, "stderr", &world.stderr)
 }
 
-/// Adds whether stdout holds the rows that the definition gives for what the source gave.
 fn add_comparison(to: &mut String, given: &[Gave], taken: &[u8]) -> Result<(), AllocError> {
     if taken.len() > COMPARED {
         return Ok(());
     }
     let rows = defined_rows(*to.allocator(), given)?;
     to.push_str(if taken == rows.as_slice() {
-        " as defined"
+        "; as defined"
     } else {
-        " not as defined"
+        "; not as defined"
     })
 }
 

@@ -3,19 +3,20 @@
 use crate::objects::sink;
 use crate::told::add_sink;
 use crate::written::{cut, words_of};
+use foreign_parts::Boxes;
 use logstash_top::{test_config, which, workers_wanted};
 use std::alloc::AllocError;
 use store_disk::MemorySink;
 
 /// Adds what a test of a configuration leaves.
-pub fn add_test(to: &mut String, row: &str) -> Result<(), AllocError> {
+pub fn add_test<B: Boxes>(to: &mut String, row: &str, rack: &mut B) -> Result<(), AllocError> {
     let alloc = *to.allocator();
     let (sinks, words) = cut(row, " | ");
     let (out, err) = cut(sinks, ", ");
     let words = words_of(alloc, words)?;
     let mut stdout = sink(alloc, out)?;
     let mut stderr = sink(alloc, err)?;
-    let status = test_config(alloc, &words, &mut stdout, &mut stderr);
+    let status = test_config(alloc, &words, &mut stdout, &mut stderr, rack);
     add_left(to, status.number(), &stdout, &stderr)
 }
 

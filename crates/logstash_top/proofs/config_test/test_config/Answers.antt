@@ -17,7 +17,7 @@ pub returns-clause-output_fault : goal.returns-clause-output_fault
 returns-clause-output_fault g c = c.tested-status.ensures.output_fault
 
 pub returns-clause-complete : goal.returns-clause-complete
-returns-clause-complete g c = test_completes _ c.tested-status.result _ _ c.tested-status.ensures.answers c.tested-status.ensures.output_fault
+returns-clause-complete g c = test_completes _ _ c.tested-status.result _ _ c.tested-status.ensures.answers c.tested-status.ensures.output_fault
 
 pub returns-clause-line : goal.returns-clause-line
 returns-clause-line g c = c.tell.ensures.part

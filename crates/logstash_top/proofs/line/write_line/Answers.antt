@@ -1,7 +1,7 @@
 use Rattle.std.proofs.Common.{OnOk, sym, ap, subst}
 use Rattle.io_traits.specs.Telling.{Grows, GrowsInPart}
 use Rattle.logstash_top.specs.Status.{line_of}
-use Rattle.logstash_top.proofs.Statuses.{config_lines, input_line, unbuilt_line}
+use Rattle.logstash_top.proofs.Statuses.{config_lines, input_line, output_line, refused_lines, unbuilt_line}
 use Rattle.logstash_top.proofs.line.write_line.Goals as goal
 
 pub returns-in-BadConfig-clause-ok : goal.returns-in-BadConfig-clause-ok
@@ -42,3 +42,23 @@ pub returns-in-NotBuilt-clause-part : goal.returns-in-NotBuilt-clause-part
 returns-in-NotBuilt-clause-part g c =
     subst (λ l. GrowsInPart (g.O.Sink.taken c.args.stderr.now) (g.O.Sink.taken c.write_parts-in-NotBuilt.new.sink) l)
     (unbuilt_line c.args.status.now c.in-NotBuilt.pipeline c.as_str-in-NotBuilt.result.now c.in-NotBuilt.is c.as_str-in-NotBuilt.ensures) c.write_parts-in-NotBuilt.ensures.part
+
+pub returns-in-Refused-clause-ok : goal.returns-in-Refused-clause-ok
+returns-in-Refused-clause-ok g c =
+    subst (λ l. OnOk c.write_refused_line.result (Grows (g.O.Sink.taken c.args.stderr.now) (g.O.Sink.taken c.write_refused_line.new.sink) l))
+    (refused_lines c.args.status.now c.in-Refused.pipeline c.as_str-in-Refused.result.now c.in-Refused.fault c.in-Refused.is c.as_str-in-Refused.ensures) c.write_refused_line.ensures.ok
+
+pub returns-in-Refused-clause-part : goal.returns-in-Refused-clause-part
+returns-in-Refused-clause-part g c =
+    subst (λ l. GrowsInPart (g.O.Sink.taken c.args.stderr.now) (g.O.Sink.taken c.write_refused_line.new.sink) l)
+    (refused_lines c.args.status.now c.in-Refused.pipeline c.as_str-in-Refused.result.now c.in-Refused.fault c.in-Refused.is c.as_str-in-Refused.ensures) c.write_refused_line.ensures.part
+
+pub returns-in-OutputFault-clause-ok : goal.returns-in-OutputFault-clause-ok
+returns-in-OutputFault-clause-ok g c =
+    subst (λ l. OnOk c.write_parts-in-OutputFault.result (Grows (g.O.Sink.taken c.args.stderr.now) (g.O.Sink.taken c.write_parts-in-OutputFault.new.sink) l))
+    (output_line c.args.status.now c.in-OutputFault.output c.as_str-in-OutputFault.result.now c.in-OutputFault.is c.as_str-in-OutputFault.ensures) c.write_parts-in-OutputFault.ensures.ok
+
+pub returns-in-OutputFault-clause-part : goal.returns-in-OutputFault-clause-part
+returns-in-OutputFault-clause-part g c =
+    subst (λ l. GrowsInPart (g.O.Sink.taken c.args.stderr.now) (g.O.Sink.taken c.write_parts-in-OutputFault.new.sink) l)
+    (output_line c.args.status.now c.in-OutputFault.output c.as_str-in-OutputFault.result.now c.in-OutputFault.is c.as_str-in-OutputFault.ensures) c.write_parts-in-OutputFault.ensures.part

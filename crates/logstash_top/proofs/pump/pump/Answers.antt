@@ -1,20 +1,23 @@
-use Rattle.std.proofs.Common.{◌≡◌, ◌++◌, [], ◌∷◌, false, take, refl, sym, ap, ◌∙◌, arith, append-nil}
+use Rattle.std.proofs.Common.{◌≡◌, ◌++◌, [], ◌∷◌, false, take, refl, sym, ap, ◌∙◌, arith}
 use Rattle.io_traits.specs.Pieces.{Came, End, Nothing}
-use Rattle.io_traits.proofs.Growth.{grows_same, grows_by, grows_then, grows_still, shrinks_by, in_part_none}
+use Rattle.io_traits.proofs.Growth.{grows_by, grows_still, shrinks_by}
 use Rattle.io_traits.proofs.Causes.{cause_from, cause_of, no_cause}
 use Rattle.in_lines.specs.Polls.{rest_through}
-use Rattle.in_lines.specs.Events.{events_of}
-use Rattle.in_lines.specs.Rows.{out_bytes}
+use Rattle.plugin_graph.specs.Kits.{MayAt}
+use Rattle.batch_rows.proofs.Batching.{no_batches, none_took, on_ok_as}
 use Rattle.byte_lines.specs.Unread.{lines_left}
 use Rattle.byte_lines.proofs.Giving.{unread}
-use Rattle.logstash_top.specs.Rows.{rows_at}
+use Rattle.logstash_top.specs.Rows.{batches_in}
 use Rattle.logstash_top.specs.Runs.{line_limit}
-use Rattle.logstash_top.proofs.PumpLemmas.{poll_of, whole_room, no_rows, no_rest, not_both, ended, still_more, rows_more, fed_lines, fed_rest, waited_rest, ended_lines, polled_none, polled_more, waited_none, waited_same, waited_more, counted, counted_failed, stopped, stopped_in_part}
+use Rattle.logstash_top.proofs.PumpLemmas.{poll_of, whole_room, no_rest, not_both, ended, still_more, fed_lines, fed_rest, waited_rest, ended_lines, polled_none, polled_more, waited_none, waited_same, waited_more, counted, counted_failed, stopped, stopped_in_part, took_more, took_none}
 use Rattle.logstash_top.proofs.pump.pump.Goals as goal
 
 pub returns-in_err-room-clause-ran : goal.returns-in_err-room-clause-ran
-returns-in_err-room-clause-ran g c =
-    stopped g.I.Source g.O.Sink g.K.Clock _ _ _ _ [] (polled_none g.I.Source g.O.Sink g.K.Clock _) tt (in_part_none _ (grows_same _)) (λ is. grows_by (sym no_rows) (grows_same _)) (λ ok. not_both c.from_residual.result ok c.from_residual.ensures.0)
+returns-in_err-room-clause-ran g c config draws boxes runner =
+    let may = MayAt g.X.Asked.may boxes in
+    let stdout = c.args.world.now.stdout in
+    stopped g.I.Source g.O.Sink g.K.Clock config draws may _ _ _ _ [] (polled_none g.I.Source g.O.Sink g.K.Clock _) tt
+    (none_took config draws may (batches_in line_limit []) (g.O.Sink.taken stdout)) (λ is. took_none g.I.Source g.O.Sink g.K.Clock config draws may stdout) (λ ok. not_both c.from_residual.result ok c.from_residual.ensures.0)
 
 pub loop-init : goal.loop-init
 loop-init g c = record {
@@ -24,7 +27,9 @@ loop-init g c = record {
   polled = polled_none g.I.Source g.O.Sink g.K.Clock _;
   waited = waited_none _;
   still = refl;
-  wrote = grows_by (sym no_rows) (grows_same _);
+  held = c.requires;
+  stays = λ config draws boxes runner. runner;
+  wrote = λ config draws boxes runner. took_none g.I.Source g.O.Sink g.K.Clock config draws (MayAt g.X.Asked.may boxes) c.args.world.now.stdout;
   reader = c.new-reader.ensures ∙ ap (λ b. unread line_limit b false) (sym no_rest);
   stderr = refl;
   read_same = refl;
@@ -33,12 +38,14 @@ loop-init g c = record {
 
 -- nothing came
 pub returns-in-Err-clause-ran : goal.returns-in-Err-clause-ran
-returns-in-Err-clause-ran g c =
+returns-in-Err-clause-ran g c config draws boxes runner =
     let i = c.loop.invariant in
     let e = c.in-Err.ensures in
     let m = c.now-moment.result in
-    stopped_in_part g.I.Source g.O.Sink g.K.Clock _ c.loop.world _ _ _ i.polls m Nothing [] i.still
-    (polled_more g.I.Source g.O.Sink g.K.Clock _ c.loop.world _ i.polls m Nothing i.still i.polled c.now-moment.ensures e.given e.left (counted_failed i.polls m _ _ _ _ (e.waits.same (λ is. cc)) ((cause_from i.read_same e.cause).rose refl) i.waited)) refl i.wrote (in_part_none [] (grows_same _)) (λ is. grows_same _) (λ is. cc)
+    let may = MayAt g.X.Asked.may boxes in
+    let taken = g.O.Sink.taken c.loop.world.stdout in
+    stopped_in_part g.I.Source g.O.Sink g.K.Clock config draws may _ c.loop.world _ _ _ i.polls m Nothing [] i.still
+    (polled_more g.I.Source g.O.Sink g.K.Clock _ c.loop.world _ i.polls m Nothing i.still i.polled c.now-moment.ensures e.given e.left (counted_failed i.polls m _ _ _ _ (e.waits.same (λ is. cc)) ((cause_from i.read_same e.cause).rose refl) i.waited)) refl (i.wrote config draws boxes runner) (none_took config draws may [] taken) (λ is. no_batches config draws may taken) (λ is. cc)
 
 pub returns-in-Err-clause-read_cause : goal.returns-in-Err-clause-read_cause
 returns-in-Err-clause-read_cause g c = cause_from c.loop.invariant.read_same (cause_of (λ _. refl) (λ _. refl) c.in-Err.ensures.cause)
@@ -59,7 +66,11 @@ loop-preserved g c =
       polled = polled_more g.I.Source g.O.Sink g.K.Clock _ c.loop.world _ i.polls m Nothing i.still i.polled (grows_still c.now-moment.ensures c.pause.ensures) e.given e.left (counted _ _ _ _ waits);
       waited = waits;
       still = still_more i.polls m Nothing i.still refl;
-      wrote = grows_by (sym (rows_more i.polls m Nothing i.still ∙ append-nil _)) i.wrote;
+      held = i.held;
+      stays = i.stays;
+      wrote = λ config draws boxes runner.
+          took_more g.I.Source g.O.Sink g.K.Clock config draws (MayAt g.X.Asked.may boxes) c.args.world.now.stdout c.loop.world.stdout c.loop.world.stdout i.polls m Nothing [] i.still refl
+          (i.wrote config draws boxes runner) (no_batches config draws (MayAt g.X.Asked.may boxes) (g.O.Sink.taken c.loop.world.stdout));
       reader = waited_rest i.polls m _ i.still i.reader;
       stderr = i.stderr;
       read_same = e.cause.same (λ is. cc) ∙ i.read_same;
@@ -83,7 +94,11 @@ loop-preserved-in-Ok g c =
       polled = polled_more g.I.Source g.O.Sink g.K.Clock _ c.loop.world _ i.polls m (Came bytes) i.still i.polled c.now-moment.ensures (grows_by (ap (λ t. Came (take c.in-Ok-Bytes.count t) ∷ []) same) e.given) (shrinks_by (ap (take c.in-Ok-Bytes.count) same) e.left) (counted _ _ _ _ waits);
       waited = waits;
       still = still_more i.polls m (Came bytes) i.still refl;
-      wrote = grows_by (ap (λ l. out_bytes (events_of line_limit i.polls) ++ rows_at m l) lines ∙ sym (rows_more i.polls m (Came bytes) i.still)) (grows_then i.wrote c.in-Ok.ensures.ok);
+      held = c.in-Ok.ensures.none;
+      stays = λ config draws boxes runner. c.in-Ok.ensures.stays config draws boxes (i.stays config draws boxes runner);
+      wrote = λ config draws boxes runner.
+          took_more g.I.Source g.O.Sink g.K.Clock config draws (MayAt g.X.Asked.may boxes) c.args.world.now.stdout c.loop.world.stdout c.take_piece.new.stdout i.polls m (Came bytes) _ i.still lines
+          (i.wrote config draws boxes runner) (c.in-Ok.ensures.ok config draws boxes (i.stays config draws boxes runner));
       reader = fed_rest i.polls m bytes c.loop.reader c.take_piece.new.reader i.still i.reader c.in-Ok.ensures.left c.in-Ok.ensures.rest c.in-Ok.ensures.ended c.in-Ok.ensures.limit;
       stderr = i.stderr;
       read_same = e.cause.same (λ is. cc) ∙ i.read_same;
@@ -91,15 +106,15 @@ loop-preserved-in-Ok g c =
     }
 
 pub returns-in-Err-take_piece-clause-ran : goal.returns-in-Err-take_piece-clause-ran
-returns-in-Err-take_piece-clause-ran g c =
+returns-in-Err-take_piece-clause-ran g c config draws boxes runner =
     let i = c.loop.invariant in
     let e = rw c.in-Ok-Bytes.field-0-is at c.in-Ok-Bytes.ensures in
     let m = c.now-moment.result in
     let same : c.read.new.into ≡ c.deref.result.now = sym (c.deref.ensures.value ∙ whole_room _ _ _ (omega (arith, c.read.auto.into, c.deref_mut.ensures.len))) in
     let bytes = take c.in-Ok-Bytes.count c.deref.result.now in
-    stopped_in_part g.I.Source g.O.Sink g.K.Clock _ c.loop.world _ _ _ i.polls m (Came bytes) _ i.still
+    stopped_in_part g.I.Source g.O.Sink g.K.Clock config draws (MayAt g.X.Asked.may boxes) _ c.loop.world _ _ _ i.polls m (Came bytes) _ i.still
     (polled_more g.I.Source g.O.Sink g.K.Clock _ c.loop.world _ i.polls m (Came bytes) i.still i.polled c.now-moment.ensures (grows_by (ap (λ t. Came (take c.in-Ok-Bytes.count t) ∷ []) same) e.given) (shrinks_by (ap (take c.in-Ok-Bytes.count) same) e.left) (counted _ _ _ _ (waited_same i.polls m (Came bytes) _ _ _ refl (e.waits.same (λ is. cc)) i.waited)))
-    (fed_lines (rest_through line_limit i.polls) bytes c.loop.reader i.reader) i.wrote c.in-Err-take_piece.ensures.part (λ is. absurd (c.in-Err-take_piece.ensures.not_input is)) (λ is. cc)
+    (fed_lines (rest_through line_limit i.polls) bytes c.loop.reader i.reader) (i.wrote config draws boxes runner) (c.in-Err-take_piece.ensures.part config draws boxes (i.stays config draws boxes runner)) (λ is. absurd (c.in-Err-take_piece.ensures.not_input is)) (λ is. cc)
 
 pub returns-in-Err-take_piece-clause-read_cause : goal.returns-in-Err-take_piece-clause-read_cause
 returns-in-Err-take_piece-clause-read_cause g c =
@@ -110,18 +125,18 @@ returns-in-Err-take_piece-clause-write_cause g c = cause_from c.loop.invariant.w
 
 -- the end came
 pub returns-in-Ok-End-clause-ran : goal.returns-in-Ok-End-clause-ran
-returns-in-Ok-End-clause-ran g c =
+returns-in-Ok-End-clause-ran g c config draws boxes runner =
     let i = c.loop.invariant in
     let e = rw c.in-Ok-End.field-0-is at c.in-Ok-End.ensures in
     let m = c.now-moment.result in
     let lines = ap lines_left c.end.ensures ∙ ended_lines i.polls c.loop.reader i.reader in
-    ended g.I.Source g.O.Sink g.K.Clock _ c.loop.world _ c.write_lines.result _ i.polls m _ i.still
+    ended g.I.Source g.O.Sink g.K.Clock config draws (MayAt g.X.Asked.may boxes) _ c.loop.world _ c.run_lines.result _ i.polls m _ i.still
     (polled_more g.I.Source g.O.Sink g.K.Clock _ c.loop.world _ i.polls m End i.still i.polled c.now-moment.ensures e.given e.left (counted _ _ _ _ (waited_same i.polls m End _ _ _ refl (e.waits.same (λ is. cc)) i.waited)))
-    (e.end refl) lines i.wrote c.write_lines.ensures.ok c.write_lines.ensures.part c.write_lines.ensures.not_input
+    (e.end refl) lines (i.wrote config draws boxes runner) (on_ok_as c.run_lines.result (λ took. took config draws boxes (i.stays config draws boxes runner)) c.run_lines.ensures.ok) (c.run_lines.ensures.part config draws boxes (i.stays config draws boxes runner)) c.run_lines.ensures.not_input
 
 pub returns-in-Ok-End-clause-read_cause : goal.returns-in-Ok-End-clause-read_cause
 returns-in-Ok-End-clause-read_cause g c =
-    no_cause (c.in-Ok-End.ensures.cause.same (λ is. cc) ∙ c.loop.invariant.read_same) c.write_lines.ensures.not_input
+    no_cause (c.in-Ok-End.ensures.cause.same (λ is. cc) ∙ c.loop.invariant.read_same) c.run_lines.ensures.not_input
 
 pub returns-in-Ok-End-clause-write_cause : goal.returns-in-Ok-End-clause-write_cause
-returns-in-Ok-End-clause-write_cause g c = cause_from c.loop.invariant.write_same c.write_lines.ensures.cause
+returns-in-Ok-End-clause-write_cause g c = cause_from c.loop.invariant.write_same c.run_lines.ensures.cause

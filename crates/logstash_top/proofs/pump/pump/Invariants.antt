@@ -1,8 +1,11 @@
-use Rattle.std.proofs.Common.{◌≡◌, List, false}
-use Rattle.io_traits.specs.Telling.{Grows}
+use Rattle.std.proofs.Common.{◌≡◌, [], List, Option, false}
+use Rattle.config_tree.specs.declared.tree.Config.{Config}
+use Rattle.event_flow.specs.Places.{Draws}
+use Rattle.plugin_graph.specs.Kits.{MayAt}
+use Rattle.batch_rows.specs.Batches.{TookBatches}
+use Rattle.batch_rows.specs.Running.{IsRunnerOf}
 use Rattle.in_lines.specs.Polls.{Poll, is_ended, rest_through}
-use Rattle.in_lines.specs.Events.{events_of}
-use Rattle.in_lines.specs.Rows.{out_bytes}
+use Rattle.logstash_top.specs.Rows.{batches_in}
 use Rattle.logstash_top.specs.Runs.{Polled, empty_in, line_limit}
 use Rattle.logstash_top.proofs.PumpLemmas.{Waited}
 use Rattle.logstash_top.proofs.pump.pump.Given as goal
@@ -15,7 +18,10 @@ invariant-loop g l = record {
   polled : Polled g.I.Source g.O.Sink g.K.Clock l.fn.world l.world polls;
   still : is_ended polls ≡ false;
   waited : Waited (empty_in polls) (g.I.Source.waits l.fn.world.stdin) (g.I.Source.waits l.world.stdin);
-  wrote : Grows (g.O.Sink.taken l.fn.world.stdout) (g.O.Sink.taken l.world.stdout) (out_bytes (events_of line_limit polls));
+  held : l.runner.held ≡ [];
+  stays : (config : Config) (draws : Draws) (boxes : List (Option g.row.X.Denot)) → IsRunnerOf g.X.Asked.may config draws boxes l.fn.runner → IsRunnerOf g.X.Asked.may config draws boxes l.runner;
+  wrote : (config : Config) (draws : Draws) (boxes : List (Option g.row.X.Denot)) → IsRunnerOf g.X.Asked.may config draws boxes l.fn.runner
+      → TookBatches config draws (MayAt g.X.Asked.may boxes) (batches_in line_limit polls) (g.O.Sink.taken l.fn.world.stdout) (g.O.Sink.taken l.world.stdout);
   reader : l.reader ≡ record { limit = line_limit; bytes = rest_through line_limit polls; ended = false };
   stderr : l.world.stderr ≡ l.fn.world.stderr;
   read_same : g.I.Source.faults l.world.stdin ≡ g.I.Source.faults l.fn.world.stdin;

@@ -1,18 +1,17 @@
-use Rattle.std.proofs.Common.{Ok, Err, refl, sym, ap, ◌∙◌}
-use Rattle.logstash_top.proofs.Starting.{looked, starts_by}
+use Rattle.std.proofs.Common.{Ok, refl}
+use Rattle.logstash_top.proofs.Starting.{starts_read, starts_not_read}
 use Rattle.logstash_top.proofs.start.start.Goals as goal
 
-pub returns-in-Ok-true : goal.returns-in-Ok-true
-returns-in-Ok-true c =
+pub returns-in-Ok-clause-starts : goal.returns-in-Ok-clause-starts
+returns-in-Ok-clause-starts g c =
     let e = c.in_ok-pipeline in
-    starts_by _ (Ok e.field-0) e.field-0 c.as_str.result.now c.is_run.result _ refl e.ensures c.as_str.ensures c.is_run.ensures (ap (looked e.field-0.pipeline) (c.in-Ok-true.is ∙ ap Ok c.in-Ok-true.field-0-test))
+    let p = c.parse.ensures in
+    starts_read _ _ (Ok e.field-0) e.field-0 c.as_str.result.now c.parse.result refl e.ensures c.as_str.ensures (record { found = p.found; only = p.only; long = p.long; syntax = p.syntax; only_syntax = p.only_syntax; deep = p.deep; only_deep = p.only_deep })
+    c.in-Ok.config c.begin.result c.in-Ok.is c.begin.ensures.begun
 
-pub returns-in-Ok-false : goal.returns-in-Ok-false
-returns-in-Ok-false c =
+pub returns-clause-starts : goal.returns-clause-starts
+returns-clause-starts g c =
     let e = c.in_ok-pipeline in
-    starts_by _ (Ok e.field-0) e.field-0 c.as_str.result.now c.is_run.result _ refl e.ensures c.as_str.ensures c.is_run.ensures (ap (looked e.field-0.pipeline) (c.in-Ok-false.is ∙ ap Ok c.in-Ok-false.field-0-test))
-
-pub returns : goal.returns
-returns c =
-    let e = c.in_ok-pipeline in
-    starts_by _ (Ok e.field-0) e.field-0 c.as_str.result.now c.is_run.result _ refl e.ensures c.as_str.ensures c.is_run.ensures (ap (looked e.field-0.pipeline) c.in-Err.is ∙ ap Err (sym c.refused.ensures))
+    let p = c.parse.ensures in
+    starts_not_read _ _ (Ok e.field-0) e.field-0 c.as_str.result.now c.parse.result refl e.ensures c.as_str.ensures (record { found = p.found; only = p.only; long = p.long; syntax = p.syntax; only_syntax = p.only_syntax; deep = p.deep; only_deep = p.only_deep })
+    c.in-Err.fault c.refused_text.result c.in-Err.is c.refused_text.ensures

@@ -1,0 +1,48 @@
+-- The batches that one more poll adds.
+use Rattle.std.proofs.Common.{◌≡◌, ◌<◌, ℕ, ℤ, false, List, [], ◌∷◌, ◌++◌, length, drop, Option, refl, sym, ap, ◌∙◌, append_assoc, append-nil}
+use Rattle.std.proofs.Math.Seq.{drop-append_seam}
+use Rattle.io_traits.specs.Pieces.{Piece}
+use Rattle.io_traits.specs.Telling.{Grows}
+use Rattle.io_traits.proofs.Growth.{grows_still, in_part_still}
+use Rattle.config_tree.specs.declared.tree.Config.{Config}
+use Rattle.event_tree.specs.Events.{Ev}
+use Rattle.event_flow.specs.Places.{Draws}
+use Rattle.foreign_parts.specs.declared.filter.Verdict.{Verdict}
+use Rattle.batch_rows.specs.Batches.{TookBatches, TookFirst}
+use Rattle.in_lines.specs.Polls.{Poll, is_ended, lines_by, lines_through, rest_through}
+use Rattle.in_lines.proofs.Receiving.{lines_through-more}
+use Rattle.batch_rows.specs.Running.{batches_of}
+use Rattle.logstash_top.specs.Rows.{batches_after, batches_in, events_at}
+
+batches_after-append : (limit : ℕ) (before polls more : List Poll) → batches_after limit before (polls ++ more) ≡ batches_after limit before polls ++ batches_after limit (before ++ polls) more
+batches_after-append limit before [] more = ap (λ t. batches_after limit t more) (sym (append-nil before))
+batches_after-append limit before (poll ∷ polls) more =
+    let after = before ++ poll ∷ [] in
+    let first = batches_of (events_at poll.moment (drop (length (lines_through limit before)) (lines_through limit after))) in
+    ap (λ t. first ++ t) (batches_after-append limit after polls more ∙ ap (λ t. batches_after limit after polls ++ batches_after limit t more) (append_assoc before (poll ∷ []) polls))
+    ∙ sym (append_assoc first (batches_after limit after polls) (batches_after limit (before ++ poll ∷ polls) more))
+
+-- one more poll adds those of the lines that its piece makes whole, at its moment
+pub batches_more : (limit : ℕ) (polls : List Poll) (moment : ℤ) (piece : Piece) → 0 < limit → is_ended polls ≡ false
+    → batches_in limit (polls ++ record { moment = moment; piece = piece } ∷ []) ≡ batches_in limit polls ++ batches_of (events_at moment (lines_by limit (rest_through limit polls) piece))
+unfolding batches_in
+batches_more limit polls moment piece some still =
+    let one : List Poll = record { moment = moment; piece = piece } ∷ [] in
+    let before = lines_through limit polls in
+    let added = lines_by limit (rest_through limit polls) piece in
+    batches_after-append limit [] polls one
+    ∙ ap (λ t. batches_after limit [] polls ++ t) (append-nil (batches_of (events_at moment (drop (length before) (lines_through limit (polls ++ one))))))
+    ∙ ap (λ t. batches_after limit [] polls ++ batches_of (events_at moment (drop (length before) t))) (lines_through-more limit polls moment piece some still)
+    ∙ ap (λ t. batches_after limit [] polls ++ batches_of (events_at moment t)) (drop-append_seam before added)
+
+pub no_batches_yet : (limit : ℕ) → batches_in limit [] ≡ []
+unfolding batches_in
+no_batches_yet limit = refl
+
+module _ (config : Config) (draws : Draws) (may : ℕ → Ev → Verdict → Type 0) where
+  -- and then nothing more
+  pub batches_still : (batches : List (List Ev)) (a b c : Option (List ℕ)) → TookBatches config draws may batches a b → Grows b c [] → TookBatches config draws may batches a c
+  batches_still batches a b c one none = record { bytes = one.bytes; are = one.are; took = grows_still one.took none }
+
+  pub first_still : (batches : List (List Ev)) (a b c : Option (List ℕ)) → TookFirst config draws may batches a b → Grows b c [] → TookFirst config draws may batches a c
+  first_still batches a b c one none = record { first = one.first; others = one.others; whole = one.whole; bytes = one.bytes; are = one.are; took = in_part_still one.took none }
