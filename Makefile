@@ -36,8 +36,10 @@ bench: all
 	bash bench/store.sh
 	bash bench/page.sh
 	bash bench/outputs.sh
+	bash bench/letters.sh
 	bash bench/folder.sh
 	bash bench/threads.sh
+	bash bench/runs.sh
 	bash bench/graphs.sh
 
 clean:

@@ -9,6 +9,7 @@ mod elements;
 mod events;
 mod jobs;
 mod json;
+mod letters;
 mod outputs;
 mod pages;
 mod parcels;
@@ -29,6 +30,7 @@ elements size|encode|decode ROUNDS
 events get|put|take|copy ROUNDS
 jobs WORKERS TURNS JOBS
 json read|write ROUNDS FILE
+letters hold|drop_newer|drop_older LIMIT BATCHES LETTERS
 outputs FILE SLOT BATCHES BYTES
 pages write|scan FILE ROWS EVERY
 parcels PARCELS
@@ -90,6 +92,7 @@ fn run_on_files(rt: &HostRuntime, part: &str, given: &[String]) -> Option<u64> {
     match part {
         "crc" => crc::run(rt, given),
         "json" => json::run(rt, given),
+        "letters" => letters::run(rt, given),
         "outputs" => outputs::run(rt, given),
         "pages" => pages::run(rt, given),
         "parse" => parse::run(rt, given),
