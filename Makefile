@@ -8,6 +8,7 @@ RUNS = 'input { stdin {} } output { stdout {} }'
 
 # Proves the program and builds it.
 all:
+	if command -v python3 >/dev/null 2>&1; then python3 .ci/libraries.py logstash_cli; fi
 	cd $(PROGRAM) && rt run -- -e $(RUNS) </dev/null
 	mkdir -p bin
 	cp $(PROGRAM)/out/logstash_cli bin/logstash
