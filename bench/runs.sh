@@ -175,7 +175,7 @@ event_time() {
 
 # The nanoseconds that the rows of a hundred thousand lines take to be written as JSON, for a line each.
 write_time() {
-    "$logstash" -e "$2" <"$work/few" >"$work/rows"
+    "$logstash" -e "$1" <"$work/few" >"$work/rows"
     once=$(least_time "$parts" json write 1 "$work/rows")
     many=$(least_time "$parts" json write 11 "$work/rows")
     echo $(((many - once) / 10 / $(wc -l <"$work/few")))
@@ -204,7 +204,7 @@ whole() {
     told_run "$kind" python3 python3 "$work/peer.py" "$kind" "$work/$kind" "$root/bench/access_log.regex"
     best_run "$work/$kind" "$logstash" -e "$(configuration "" sink)"
     reading=$(of_line)
-    writing=$(write_time "$kind" "$config")
+    writing=$(write_time "$config")
     sum=$((reading + $3 + writing))
     echo "  a line: $run ns; the sum of reading $reading, filters $3 and writing $writing ns: $sum ns"
     best_run "$work/few" "$logstash" -e "$config"

@@ -10,7 +10,7 @@ use Rattle.plugin_settings.specs.Outputs.{stdout_of}
 use Rattle.plugin_settings.specs.declared.outputs.StdoutSettings.{StdoutSettings}
 use Rattle.batch_rows.specs.declared.codecs.OutputCodec.{OutputCodec}
 
--- the codec that settings say; none where they are refused, as those of no configuration are that passes its checks
+-- the codec that settings say; none where they are refused, as the checks refuse them
 abbrev pub made_codec : Made StdoutSettings → Option OutCodec
 made_codec (Ok s) = Some s.codec
 made_codec (Err fault) = None

@@ -16,6 +16,7 @@ use std::mem;
 pub struct OutputCodec {
     /// The output's id.
     pub output: Text,
+    /// How it writes events.
     pub codec: OutCodec,
 }
 
@@ -30,8 +31,8 @@ impl Drop for OutputCodec {
 }
 
 /// The codecs of the outputs of a configuration that write to stdout, in the order of the text. The
-/// settings are read; an output whose settings are refused is left out, and no configuration that passes its
-/// checks has one.
+/// settings are read; an output whose settings are refused is left out. The checks refuse such a configuration; no
+/// law says so of outputs.
 #[tactic(auto, unfolding(crate::specs::Codecs::codecs_of))]
 pub fn codecs_of_config(alloc: Global, config: &Config) -> Result<Items<OutputCodec>, AllocError>
     ensures { IfOk result (λ codecs. codecs ≡ spec.codecs_of config.now) }

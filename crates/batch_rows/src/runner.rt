@@ -24,8 +24,11 @@ pub const BATCH_LIMIT: usize = 125;
 /// A configuration that is run over events, batch after batch.
 #[derive(Drop)]
 pub struct Runner<X> {
+    /// The steps of the configuration.
     pub graph: Graph,
+    /// Its filters, with their boxes.
     pub kit: Kit<X>,
+    /// The codecs of its outputs to stdout.
     pub codecs: Items<OutputCodec>,
     /// The events of the next batch so far.
     pub held: Events,
@@ -51,7 +54,7 @@ impl<X: Asked> Runner<X> {
         }
     }
 
-    /// Takes one more event. Where the batch is full with it, it is run. Where memory runs out the event is lost, and
+    /// Takes one more event, where fewer than 125 are held. Where the batch is full with it, it is run. Where memory runs out the event is lost, and
     /// with a full batch all that it has; so are they where a write fails, and stdout has a first part of their rows.
     pub fn add<O: Sink>(&mut self, event: Event, stdout: &mut O) -> Result<(), BatchFault>
         requires { length self.old.held < batch_limit }
@@ -68,7 +71,7 @@ impl<X: Asked> Runner<X> {
         ensures stays { (config : Config) (draws : Draws) (boxes : List (Option X))
             → IsRunnerOf X.may config draws boxes self.old
             → IsRunnerOf X.may config draws boxes self.new }
-        ensures room { OnOk result (length self.new.held < batch_limit) }
+        ensures room { length self.new.held < batch_limit }
         ensures cause { HasCause (O.faults stdout.old) (O.faults stdout.new)
             (result ≡ Err BatchFault.Output) }
     {
@@ -93,7 +96,7 @@ impl<X: Asked> Runner<X> {
         ensures stays { (config : Config) (draws : Draws) (boxes : List (Option X))
             → IsRunnerOf X.may config draws boxes self.old
             → IsRunnerOf X.may config draws boxes self.new }
-        ensures none { OnOk result (self.new.held ≡ []) }
+        ensures none { self.new.held ≡ [] }
         ensures cause { HasCause (O.faults stdout.old) (O.faults stdout.new)
             (result ≡ Err BatchFault.Output) }
     {

@@ -1,5 +1,5 @@
 -- The event of a line, by the codec of its input (this project's rules for inputs).
-use Rattle.std.specs.Prelude.{ℕ, List, [], ◌∷◌, codes, map, false, Option}
+use Rattle.std.specs.Prelude.{ℕ, List, [], ◌∷◌, codes, false, Option}
 use Rattle.event_tree.specs.Values.{Members}
 use Rattle.event_tree.specs.Events.{Ev, Way, both, event_at, to}
 use Rattle.event_tree.specs.Paths.{over}
@@ -11,7 +11,7 @@ use Rattle.decoded_fields.specs.Decoded.{failure_tags, json_in, named, placed}
 use Rattle.line_codecs.specs.declared.codec.Codec.{Codec}
 use Rattle.line_codecs.specs.declared.codec.Codec.TheVariants as codec
 use Rattle.in_lines.specs.Events.{event_of}
-use Rattle.in_lines.specs.Polls.{Poll, Received, received}
+use Rattle.in_lines.specs.Polls.{Received}
 
 -- the line as the message of an event, with nothing in its meta
 abbrev pub message_event : Received → Ev
@@ -68,7 +68,3 @@ event_by codec.Plain r = message_event r
 event_by codec.Line r = message_event r
 event_by codec.Json r = json_event r (json_in r.line)
 event_by codec.JsonLines r = json_event r (json_in r.line)
-
--- the events of what a source gave, in order
-abbrev pub events_by : Codec → ℕ → List Poll → List Ev
-events_by c limit polls = map (event_by c) (received limit polls)

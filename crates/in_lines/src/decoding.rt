@@ -22,7 +22,8 @@ use time_instant::Instant;
 ///   `[event][original]` is the line. A line that is no JSON object is read as by `Line`, and tagged
 ///   `_jsonparsefailure`.
 ///
-/// What an event can't hold is not set. The only error is want of memory.
+/// What an event can't hold is not set. The line has at most 8,388,558 bytes, as for [`event_of_line`]. The only error is
+/// want of memory.
 pub fn event_by_codec(
     alloc: Global,
     codec: Codec,

@@ -20,13 +20,15 @@ pub fn line_event(alloc: Global, line: &str, moment: Instant) -> Result<Value, A
     Ok(Value::Object(line_fields(alloc, line, moment)?))
 }
 
-/// The same as an event, with nothing in its meta. A line of at most `LINE_LIMIT` bytes has a text that is short enough.
+/// The same as an event, with nothing in its meta. The line has at most 8,388,558 bytes, since the event
+/// holds it twice, has 100 bytes more, and at most 16,777,216 in all; the text of a line of `LINE_LIMIT` bytes has at
+/// most three times as many. The only error is want of memory.
 pub fn event_of_line(alloc: Global, line: &str, moment: Instant) -> Result<Event, AllocError>
     requires { length line.now ≤ 8388558 }
     ensures { IfOk result (λ event. event
         ≡ both (event_of (record { line = line.now; moment = moment })) (v.Object [])) }
 {
-    // Whoever reads a moment knows that it lies in its years.
+    // For the proof alone: this call's clause says that the moment lies in its years.
     let _nanos = moment.nanos();
     let fields = line_fields(alloc, line, moment)?;
     let size = 100 + 2 * line.len() as u64;

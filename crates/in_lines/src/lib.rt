@@ -1,4 +1,5 @@
-//! Lines as events: what an input makes of the lines of its bytes, and what an output writes of events.
+//! Lines as events: what an input makes of the lines of its bytes, by its codec; the rows that the codec `json_lines`
+//! writes of events; and the lines of samples.
 //!
 //! - An input looks at its source again and again. Each look is a poll: the moment of the clock at which it was
 //!   made, and what the read gave. A line has the moment of the poll that made it whole.

@@ -19,7 +19,8 @@ pub fn next_number(number: u64) -> u64
 }
 
 /// The line of a number: `user=u7 took=307`, a JSON object of the same two fields, an access line in the common log
-/// format, or `junk` with a number, a fourth of the lines each.
+/// format, or `junk` with a number, as the upper 31 bits of the number say, modulo 4. The only error is want of
+/// memory.
 pub fn sample_line(alloc: Global, number: u64) -> Result<Text, AllocError>
     ensures { IfOk result (λ line. line ≡ spec.sample_line number) }
 {

@@ -25,8 +25,8 @@ use time_instant::Instant;
 /// How many bytes one read asks for at most.
 const READ_LEN: usize = 65_536;
 
-/// Runs the events of the lines of stdin until its end, in batches of one read each, and flushes what stdout
-/// took, also where it stops before. No event is held before.
+/// Runs the events of the lines of stdin until its end, in batches of at most 125, none with events of two
+/// reads, and flushes what stdout took, also where it stops before. No event is held before.
 pub(crate) fn run<R: Wait, I: Source, O: Sink, K: Clock, X: Asked>(
     rt: &R,
     alloc: Global,
@@ -51,7 +51,7 @@ pub(crate) fn run<R: Wait, I: Source, O: Sink, K: Clock, X: Asked>(
     }
 }
 
-/// Writes the rows, of which the last may not be flushed.
+/// Runs these events; what stdout took last may not be flushed.
 fn pump<R: Wait, I: Source, O: Sink, K: Clock, X: Asked>(
     rt: &R,
     alloc: Global,

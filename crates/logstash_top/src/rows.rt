@@ -18,7 +18,8 @@ use io_traits::Sink;
 use std::alloc::Global;
 use time_instant::Instant;
 
-/// Runs the events of the lines that the reader has left, in batches. No event is held before or behind the call.
+/// Runs the events of the lines that the reader has left, in batches. No event is held before the call, and
+/// none behind it where it succeeds.
 pub(crate) fn run_lines<X: Asked, O: Sink>(
     alloc: Global,
     reader: &mut LineReader,

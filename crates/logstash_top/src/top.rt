@@ -32,9 +32,9 @@ use std::sync::Wait;
 
 /// Does what the words of the command line ask for: runs the configuration of `-e`, if it is one that reads lines from
 /// stdin and whose outputs write to stdout or let events go, by any filters. Boxes are drawn from the rack for two
-/// workers; the kit of one of them is used, and each box is closed once at the end. `-t` changes nothing here: a test is
-/// `test_config`'s, and `which` says what the words are for. The numbers of workers and of events in a batch have no
-/// effect on such a run, and neither have the folders.
+/// workers; the kit of one of them is used. At the end the boxes of both are closed, which no clause of this call says; they
+/// don't go back to the rack. `-t` changes nothing here: a test is `test_config`'s, and `which` says what the words are
+/// for. The numbers of workers and of events in a batch have no effect on such a run, and neither have the folders.
 ///
 /// The events of the lines that one read made whole are cut into batches of at most 125, in order. stdout gets, of one
 /// batch after another, what the configuration has due there: of each output to stdout in the order of the text the
@@ -60,7 +60,7 @@ use std::sync::Wait;
 ///   this call, or stands at the last value of u64. An output fault names the first output to stdout of the text, and
 ///   `stdout` where there is none. At another status no fault was counted: but for a fault of stdin where the last flush
 ///   of stdout failed too, which ends in `OutputFault`, and for any fault where memory for its status ran out.
-/// - `Status::NoMemory` may come anywhere. At each status stdout holds what stood there and then a first part of what it
+/// - `Status::NoMemory` may come anywhere; boxes may have been drawn then. At each status stdout holds what stood there and then a first part of what it
 ///   gets of the first few batches. At `Status::InputFault` these are all batches of the lines that the reads before made
 ///   whole.
 ///

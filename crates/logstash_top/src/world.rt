@@ -3,7 +3,7 @@
 pub struct ThinWorld<I, O, K> {
     /// Where the lines come from.
     pub stdin: I,
-    /// Where the rows of events go, and nothing else.
+    /// Where what outputs to stdout write of events goes, and nothing else.
     pub stdout: O,
     /// Where the line on a refusal or a fault goes.
     pub stderr: O,
