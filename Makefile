@@ -1,5 +1,5 @@
-# The program goes to bin/logstash. Proving all that it stands on takes some twenty minutes the first time, and
-# seconds after that.
+# The program goes to bin/logstash. Proving all that it stands on takes some three quarters of an hour the first time,
+# and seconds after that.
 
 PROGRAM = crates/logstash_cli
 RUNS = 'input { stdin {} } output { stdout {} }'
@@ -8,7 +8,6 @@ RUNS = 'input { stdin {} } output { stdout {} }'
 
 # Proves the program and builds it.
 all:
-	if command -v python3 >/dev/null 2>&1; then python3 .ci/libraries.py logstash_cli; fi
 	cd $(PROGRAM) && rt run -- -e $(RUNS) </dev/null
 	mkdir -p bin
 	cp $(PROGRAM)/out/logstash_cli bin/logstash
