@@ -4,8 +4,8 @@
 # awk, perl and python3 write the same rows from the same lines; the rows of the first thousand lines are compared. Beside that stands the sum of
 # the parts, nanoseconds for a line each: the program that reads the same lines and lets their events go, each filter and each condition alone in batches of 125
 # (by filter_tests, as in graphs.sh), and the rows written as JSON (by bench_parts, as in json_lines.sh). Fails where a run takes more
-# than 1.3 times the sum, where rows differ, or where a run of a million lines holds 512 KiB more than one of 100,000 (one and the same run holds up to
-# 300 KiB more or less from time to time). Needs GNU time.
+# than 1.3 times the sum, where rows differ, or where a million lines hold more than 1.1 times the memory of 100,000, each by the least of three runs (one
+# and the same run holds up to a tenth more from time to time). Needs GNU time.
 . "$(dirname "$0")/common.sh"
 
 logstash=${LOGSTASH:-$root/bin/logstash}
@@ -174,6 +174,14 @@ event_time() {
         END { printf "%d\n", (work - copies) / events }'
 }
 
+# The least memory that three runs of a configuration over some lines hold, in KiB.
+least_memory() {
+    for run in 1 2 3; do
+        /usr/bin/time -f %M -o "$work/held" "$logstash" -e "$2" <"$1" >"$work/output"
+        cat "$work/held"
+    done | sort -n | head -n 1
+}
+
 # The nanoseconds that the rows of a hundred thousand lines take to be written as JSON, for a line each.
 write_time() {
     "$logstash" -e "$1" <"$work/few" >"$work/rows"
@@ -199,7 +207,7 @@ whole() {
     same_rows "$kind" "$config"
     told_run "$kind" logstash "$logstash" -e "$config"
     run=$(of_line)
-    memory=$(awk '{ print $4 }' "$work/best")
+    memory=$(least_memory "$work/$kind" "$config")
     told_run "$kind" awk awk -f "$work/$kind.awk"
     told_run "$kind" perl perl "$work/peer.pl" "$kind" "$work/$kind" "$root/bench/access_log.regex"
     told_run "$kind" python3 python3 "$work/peer.py" "$kind" "$work/$kind" "$root/bench/access_log.regex"
@@ -208,10 +216,9 @@ whole() {
     writing=$(write_time "$config")
     sum=$((reading + $3 + writing))
     echo "  a line: $run ns; the sum of reading $reading, filters $3 and writing $writing ns: $sum ns"
-    best_run "$work/few" "$logstash" -e "$config"
-    few=$(awk '{ print $4 }' "$work/best")
+    few=$(least_memory "$work/few" "$config")
     echo "  memory: $few KiB for 100,000 lines, $memory KiB for $count"
-    if [ $((10 * run)) -gt $((13 * sum)) ] || [ "$memory" -gt $((few + 512)) ]; then
+    if [ $((10 * run)) -gt $((13 * sum)) ] || [ $((10 * memory)) -gt $((11 * few)) ]; then
         echo "  more than 1.3 times the sum, or memory that grows"
         failed=1
     fi
