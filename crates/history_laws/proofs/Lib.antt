@@ -1,0 +1,11 @@
+pub mod Lists
+pub mod Outs
+pub mod Batches
+pub mod Numbers
+pub mod Histories
+pub mod Opening
+pub mod Telling
+pub mod Files
+pub mod DeadLetters
+pub mod Rejections
+pub mod Standing
