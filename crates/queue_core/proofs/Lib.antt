@@ -26,3 +26,4 @@ pub mod QueueOpens
 pub mod QueueTrim
 pub mod QueueReads
 pub mod QueueReady
+pub mod Lengths

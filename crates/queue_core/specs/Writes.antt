@@ -61,3 +61,7 @@ module _ {S : Type 0} (store : StoreWords S) where
   pub record Settled (start : S) (writes : List Write) (s : S) : Type 0 where
     pub wrote : IsTrue store.tells → Wrote writes (store.seen start) (store.seen s)
     pub rests : (i : Image) → MayLeaveNow store s i → IsAtRest (store.seen s) i
+
+-- no file has fewer bytes than before
+abbrev pub NoneShorter : Content → Content → Type 0
+NoneShorter old new = (name : List ℕ) → file_length (old name) ≤ file_length (new name)

@@ -9,6 +9,7 @@ use queue_checkpoint::Checkpoint;
 use store_disk::{Failed, PageState, Store};
 
 /// What is to be recorded of a page in its checkpoint file.
+#[derive(Drop)]
 pub struct Mark {
     /// The path of the checkpoint file.
     pub file: Text,

@@ -3,6 +3,7 @@ ghost use Rattle.io_traits.specs.Counts.{HasCause};
 ghost use Rattle.io_traits.specs.Reads.{file_length};
 ghost use Rattle.crc_frame.specs.Slots.{place_of};
 ghost use Rattle.queue_core.specs.Ready.{PageKeeps, PageReady};
+ghost use Rattle.queue_core.specs.Writes.{NoneShorter};
 
 use plain_data::Text;
 use queue_checkpoint::Checkpoint;
@@ -39,6 +40,13 @@ pub fn begin_page<S: Store>(store: &mut S, next: &NextPage) -> Result<(), Failed
 
     ensures keeps { PageKeeps S.Store next.now store.old store.new }
     ensures ready { OnOk result (PageReady S.Store next.now store.old store.new) }
+
+    // No file became shorter, and the checkpoint of the page that was the head has a slot.
+    ensures longer { OnOk result (IsTrue S.tells
+        → NoneShorter (S.seen store.old) (S.seen store.new)) }
+    ensures slotted { OnOk result (IsTrue S.tells
+        → 48 ≤ file_length (S.seen store.new next.now.checkpoint)) }
+
     ensures cause { HasCause (S.faults store.old) (S.faults store.new) (IsErr result) }
 {
     Checkpoint::write_slot(store, next.checkpoint.as_str(), 0, &next.sealed)?;

@@ -1,3 +1,5 @@
+use Rattle.std.proofs.Common.{inl, inr, ap, ◌∙◌}
+use Rattle.io_traits.specs.Folders.{Content}
 use Rattle.queue_core.proofs.PurgeRun.{run_removed, run_gone, run_purged, is_purged, ok_then}
 use Rattle.queue_core.proofs.purging.remove_page.Goals as goal
 
@@ -21,3 +23,15 @@ returns-clause-ready g c =
     ok_then c.remove-2.result (λ names q front behind p apart ready goes.
     is_purged g.S.Store g.met.S.Store.images_tell names apart q front behind p c.args.page.now c.args.checkpoint.now c.args.store.now ready goes
     c.remove.new.self c.remove.ensures.change c.in_ok-remove.ensures.removed c.sync.new.self c.sync.ensures.settled c.in_ok-sync.ensures.durable c.remove-2.new.self c.remove-2.ensures.change)
+
+pub returns-in_err-remove-clause-beside : goal.returns-in_err-remove-clause-beside
+returns-in_err-remove-clause-beside g c told name none = c.remove.ensures.change.beside told name (λ is. none (inl is))
+
+pub returns-in_err-sync-clause-beside : goal.returns-in_err-sync-clause-beside
+returns-in_err-sync-clause-beside g c told name none =
+    ap (λ (content : Content). content name) (c.sync.ensures.settled.reads told) ∙ c.remove.ensures.change.beside told name (λ is. none (inl is))
+
+pub returns-clause-beside : goal.returns-clause-beside
+returns-clause-beside g c told name none =
+    c.remove-2.ensures.change.beside told name (λ is. none (inr is)) ∙ ap (λ (content : Content). content name) (c.sync.ensures.settled.reads told)
+    ∙ c.remove.ensures.change.beside told name (λ is. none (inl is))

@@ -1,6 +1,11 @@
-use Rattle.std.proofs.Common.{refl}
+use Rattle.std.proofs.Common.{[], ◌∷◌, refl}
+use Rattle.io_traits.specs.Reads.{bytes_of}
+use Rattle.crc_frame.specs.Slots.{place_of}
+use Rattle.queue_checkpoint.specs.Checkpoints.{slot_spelling}
+use Rattle.queue_checkpoint.proofs.SlotBytes.{length-spelling}
 use Rattle.store_trait.proofs.TailRuns.{on_ok_so}
 use Rattle.queue_core.proofs.RollRun.{run_sealed, run_begun, run_grown, run_headed, run_rolled, is_rolled}
+use Rattle.queue_core.proofs.Lengths.{behind, longer_slot, longer_then, on_ok, slotted_there}
 use Rattle.queue_core.proofs.rolling.begin_page.Goals as goal
 
 pub returns-in_err-write_slot-clause-keeps : goal.returns-in_err-write_slot-clause-keeps
@@ -33,3 +38,32 @@ returns-clause-ready g c =
     on_ok_so c.sync-2.result c.sync-2.ensures.durable (λ durable names q apart ready can are.
     is_rolled g.S.Store g.met.S.Store.images_tell names apart q can c.args.next.now c.args.store.now ready are c.as_str.result.now c.as_str-2.result.now c.as_str-3.result.now c.as_str.ensures c.as_str-2.ensures c.as_str-3.ensures
     c.write_slot.new.store c.write_slot.ensures.change c.append.new.self c.append.ensures.change c.sync.new.self c.sync.ensures.settled c.in_ok-write_slot.ensures.written c.in_ok-append.ensures.written c.in_ok-sync.ensures.durable c.write_slot-2.new.store c.write_slot-2.ensures.change c.in_ok-write_slot-2.ensures.written c.sync-2.new.self c.sync-2.ensures.settled durable)
+
+pub returns-clause-longer : goal.returns-clause-longer
+returns-clause-longer g c = on_ok c.sync-2.result (λ told.
+    let seen = g.S.Store.seen in
+    let next = c.args.next.now in
+    let s0 = seen c.args.store.now in
+    let s1 = seen c.write_slot.new.store in
+    let s2 = seen c.append.new.self in
+    let s3 = seen c.sync.new.self in
+    let s4 = seen c.write_slot-2.new.store in
+    let s5 = seen c.sync-2.new.self in
+    longer_then s0 s1 s5 (longer_slot c.as_str.result.now (place_of 48 0) (slot_spelling 0 next.sealed) s0 s1 (c.in_ok-write_slot.ensures.written told) (c.write_slot.ensures.change.beside told))
+    (behind s1 s2 s3 s4 s5 c.as_str-2.result.now c.as_str-3.result.now (2 ∷ []) (place_of 48 next.turn) (slot_spelling next.turn next.state) (c.in_ok-append.ensures.written told) (c.append.ensures.change.beside told)
+    (c.sync.ensures.settled.reads told) (c.in_ok-write_slot-2.ensures.written told) (c.write_slot-2.ensures.change.beside told) (c.sync-2.ensures.settled.reads told)))
+
+pub returns-clause-slotted : goal.returns-clause-slotted
+returns-clause-slotted g c = on_ok c.sync-2.result (λ told.
+    let seen = g.S.Store.seen in
+    let next = c.args.next.now in
+    let s0 = seen c.args.store.now in
+    let s1 = seen c.write_slot.new.store in
+    let s2 = seen c.append.new.self in
+    let s3 = seen c.sync.new.self in
+    let s4 = seen c.write_slot-2.new.store in
+    let s5 = seen c.sync-2.new.self in
+    let name = c.as_str.result.now in
+    let more = behind s1 s2 s3 s4 s5 c.as_str-2.result.now c.as_str-3.result.now (2 ∷ []) (place_of 48 next.turn) (slot_spelling next.turn next.state) (c.in_ok-append.ensures.written told) (c.append.ensures.change.beside told)
+    (c.sync.ensures.settled.reads told) (c.in_ok-write_slot-2.ensures.written told) (c.write_slot-2.ensures.change.beside told) (c.sync-2.ensures.settled.reads told) in
+    slotted_there name next.checkpoint (slot_spelling 0 next.sealed) (bytes_of (s0 name)) s1 s5 (place_of 48 0) (length-spelling 0 next.sealed) (c.in_ok-write_slot.ensures.written told) more c.as_str.ensures)
