@@ -1,0 +1,37 @@
+-- The next rows of a page, as many as a batch may have, in terms of rows.
+use Rattle.std.specs.Prelude.{◌≡◌, ◌≤◌, ◌-◌, ℕ, suc, zero, false, List, [], ◌∷◌, ◌++◌, length, map, Option, Some, None, Ok}
+use Rattle.queue_page.specs.Blocks.{left_of}
+use Rattle.queue_page.specs.Bodies.{body_spelling}
+use Rattle.queue_page.specs.Grammar.{AreElements}
+use Rattle.queue_page.specs.Views.{PageView}
+use Rattle.queue_page.specs.declared.row.PageRow.{PageRow}
+use Rattle.queue_laws.specs.Found.{Row, since}
+use Rattle.persistent_queue.specs.Batching.{with_more, rows_read}
+use Rattle.persistent_queue.specs.declared.page_rows.QueueRow.{QueueRow}
+use Rattle.persistent_queue.specs.declared.page_rows.Reading.{Reading}
+
+abbrev pub told : QueueRow → Row
+told r = record { number = r.number; origin = r.origin; event = r.event }
+
+-- how many bytes the body of a row has
+abbrev pub body_size : Row → ℕ
+body_size r = length (body_spelling r.origin r.event)
+
+-- The first of these rows, at most so many, as long as their bodies have no more bytes than these at most, with those before them; a first row of a
+-- batch may have any number.
+abbrev pub taken_with : Option ℕ → Row → (Option ℕ → List Row) → List Row
+taken_with None row rest = []
+taken_with (Some bytes) row rest = row ∷ rest (Some bytes)
+
+abbrev pub taken : ℕ → ℕ → Option ℕ → List Row → List Row
+taken most zero bytes rows = []
+taken most (suc count) bytes [] = []
+taken most (suc count) bytes (row ∷ rows) = taken_with (with_more most bytes (body_size row)) row (λ b. taken most count b rows)
+
+-- Where the elements of rows stand in a page from the next row on, those that are read for a batch are the first of them that aren't below a number,
+-- as many as the batch may have.
+abbrev pub NextRowsAreRead : Type 0
+NextRowsAreRead =
+    (name : List ℕ) (p : PageView) (from : ℕ) (file : List ℕ) (rows : List PageRow) (r : Reading) → r.closed ≡ false → p.state.length ≤ length file → r.place ≤ p.state.length
+    → AreElements p.version r.number r.place rows (left_of file r.place p.state.length)
+    → (next : Reading) × (rows_read name p from file (length rows) r ≡ Ok next) × (map told next.rows ≡ map told r.rows ++ taken r.most_bytes (r.most_rows - length r.rows) r.bytes (since from rows))

@@ -1,0 +1,23 @@
+use queue_page::Block;
+use std::marker::Model;
+
+/// The place of the next unread row of a queue.
+#[derive(Drop)]
+pub(crate) struct Cursor {
+    /// The number of the page in which it stands.
+    pub(crate) page: u32,
+    /// The number of the row.
+    pub(crate) number: u64,
+    /// Where it begins in the file of its page.
+    pub(crate) place: u64,
+    /// The part of that file that was read last.
+    pub(crate) block: Block,
+}
+
+impl Model for Cursor {
+    ghost use Rattle.persistent_queue.specs.Views.{CursorView};
+
+    ghost Value = { CursorView };
+
+    ghost view = { λ c. record { page = c.page; number = c.number; place = c.place; block = c.block } };
+}
