@@ -4,3 +4,4 @@ pub mod Cutting
 pub mod Polled
 pub mod Sound
 pub mod Short
+pub mod Rounds

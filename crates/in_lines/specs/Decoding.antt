@@ -27,9 +27,13 @@ with_member m e = over (λ p. set_at p.0 p.1 e) e (placed m)
 abbrev pub set_missing : Way → Value → Ev → Ev
 set_missing w x e = over (λ old. e) (set_at w x e) (event_at w e)
 
--- where an event keeps its line
+-- what an event keeps of its own coming
+abbrev pub in_event : List ℕ → Way
+in_event name = to false (codes "event" ∷ name ∷ [])
+
+-- where it keeps its line
 abbrev pub original : Way
-original = to false (codes "event" ∷ codes "original" ∷ [])
+original = in_event (codes "original")
 
 -- The members of the object in their order, then the tags of those that are not what they should be, then what each event has and this one lacks,
 -- and the line.

@@ -4,3 +4,6 @@ pub mod Decoding
 pub mod Rows
 pub mod Given
 pub mod Samples
+pub mod Settings
+pub mod Generators
+pub mod Inputs

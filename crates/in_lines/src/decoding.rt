@@ -124,7 +124,12 @@ fn add_tags(event: &mut Event, tags: &[Text]) -> Result<(), AllocError>
 }
 
 // Sets the field of a name, where it is missing.
-fn put_missing(alloc: Global, event: &mut Event, name: &str, value: Value) -> Result<(), AllocError>
+pub(crate) fn put_missing(
+    alloc: Global,
+    event: &mut Event,
+    name: &str,
+    value: Value,
+) -> Result<(), AllocError>
     ensures { OnOk result (event.new ≡ spec.set_missing (named name.now) value event.old) }
 {
     let path = field_path(Text::of(alloc, name)?)?;
@@ -139,15 +144,16 @@ fn put_original(alloc: Global, event: &mut Event, line: &str) -> Result<(), Allo
     ensures { OnOk result (event.new
         ≡ set_at spec.original (v.Text line.now) event.old) }
 {
-    let path = original_path(alloc)?;
+    let path = event_path(alloc, "original")?;
     try_put(event, &path, Value::Text(Text::of(alloc, line)?))
 }
 
-fn original_path(alloc: Global) -> Result<Path, AllocError>
-    ensures { IfOk result (λ path. path ≡ spec.original) }
+// The path of a name in `[event]`.
+pub(crate) fn event_path(alloc: Global, name: &str) -> Result<Path, AllocError>
+    ensures { IfOk result (λ path. path ≡ spec.in_event name.now) }
 {
     let mut parts = Names::new(alloc);
     parts.push(Text::of(alloc, "event")?)?;
-    parts.push(Text::of(alloc, "original")?)?;
+    parts.push(Text::of(alloc, name)?)?;
     Ok(Path::of_parts(parts))
 }

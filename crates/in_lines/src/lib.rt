@@ -1,5 +1,5 @@
 //! Lines as events: what an input makes of the lines of its bytes, by its codec; the rows that the codec `json_lines`
-//! writes of events; and the lines of samples.
+//! writes of events; the events that a generator gives; and the lines of samples.
 //!
 //! - An input looks at its source again and again. Each look is a poll: the moment of the clock at which it was
 //!   made, and what the read gave. A line has the moment of the poll that made it whole.
@@ -10,14 +10,20 @@
 mod by_poll;
 mod decoding;
 mod event;
+mod generator;
+mod input;
 mod laws;
 mod poll;
 mod row;
 mod sample;
+mod settings;
 
 pub use by_poll::events_of_polls;
 pub use decoding::event_by_codec;
 pub use event::{LINE_LIMIT, event_of_line, line_event};
+pub use event_text::Options;
+pub use generator::{GeneratedLines, Generator, Progress};
+pub use input::LineInput;
 pub use laws::{
     cutting_a_piece_changes_no_line, each_poll_adds_the_lines_that_it_makes_whole,
     received_lines_are_those_of_all_bytes,
@@ -25,3 +31,4 @@ pub use laws::{
 pub use poll::{Piece, Poll};
 pub use row::write_row;
 pub use sample::{next_number, sample_line};
+pub use settings::EventSettings;
