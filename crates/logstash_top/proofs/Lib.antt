@@ -1,6 +1,7 @@
 pub mod BatchLemmas
 pub mod RowLemmas
 pub mod PumpLemmas
+pub mod GenerateLemmas
 pub mod PartsLemmas
 pub mod Statuses
 pub mod Answering

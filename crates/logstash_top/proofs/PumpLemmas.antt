@@ -16,6 +16,10 @@ use Rattle.byte_lines.proofs.Splitting.{split_of-settled}
 use Rattle.byte_lines.proofs.Giving.{unread, rest_of-none_left}
 use Rattle.in_lines.specs.Polls.{Poll, joined, joined_with, is_ended, ended_with, rest_through, lines_by}
 use Rattle.in_lines.proofs.Receiving.{joined-append, is_ended-append, received-lines, rest_through-nil, rest_through-more, rest_through-nothing}
+use Rattle.in_lines.specs.Inputs.{new_events}
+use Rattle.in_lines.specs.declared.input.LineInput.{LineInput}
+use Rattle.in_lines.specs.declared.input.LineInput.TheVariants.{Stdin}
+use Rattle.in_lines.specs.declared.settings.EventSettings.{EventSettings}
 use Rattle.logstash_top.specs.declared.world.ThinWorld.{ThinWorld}
 use Rattle.config_tree.specs.declared.tree.Config.{Config}
 use Rattle.event_tree.specs.Events.{Ev}
@@ -23,10 +27,10 @@ use Rattle.event_flow.specs.Places.{Draws}
 use Rattle.foreign_parts.specs.declared.filter.Verdict.{Verdict}
 use Rattle.batch_rows.specs.Batches.{TookBatches, TookFirst}
 use Rattle.batch_rows.specs.Running.{batches_of}
-use Rattle.batch_rows.proofs.Batching.{batches_then, first_then, no_batches}
+use Rattle.batch_rows.proofs.Batching.{batches_then, first_then, no_batches, none_took}
 use Rattle.logstash_top.specs.Rows.{batches_in, events_at}
-use Rattle.logstash_top.proofs.BatchLemmas.{batches_more, batches_still, first_still, no_batches_yet}
-use Rattle.logstash_top.specs.Runs.{line_limit, pieces_in, empty_with, empty_in, AreCounted, StopsAtEnd, Polled, Ran}
+use Rattle.logstash_top.proofs.BatchLemmas.{batches_by, batches_still, first_still, new_lines, no_batches_yet}
+use Rattle.logstash_top.specs.Runs.{line_limit, pieces_in, empty_with, empty_in, AreCounted, IsOver, IsReadOut, StopsAtEnd, StopsWith, Polled, Ran}
 
 abbrev pub poll_of : ℤ → Piece → Poll
 poll_of moment piece = record { moment = moment; piece = piece }
@@ -69,10 +73,10 @@ joined_one (Came bytes) = append-nil bytes
 joined_one End = refl
 joined_one Nothing = refl
 
--- the batches that one more poll adds
-pub rows_more : (polls : List Poll) (moment : ℤ) (piece : Piece) → is_ended polls ≡ false
-    → batches_in line_limit (polls ++ poll_of moment piece ∷ []) ≡ batches_in line_limit polls ++ batches_of (events_at moment (lines_by line_limit (rest_through line_limit polls) piece))
-rows_more polls moment piece still = batches_more line_limit polls moment piece some still
+-- the events that one more poll of stdin brings, where its piece makes these lines whole
+pub stdin_events : (s : EventSettings) (polls : List Poll) (moment : ℤ) (piece : Piece) (lines : List (List ℕ)) → is_ended polls ≡ false → lines ≡ lines_by line_limit (rest_through line_limit polls) piece
+    → events_at s moment lines ≡ new_events line_limit (Stdin s) polls (poll_of moment piece)
+stdin_events s polls moment piece lines still are = ap (events_at s moment) are ∙ sym (new_lines line_limit s polls moment piece some still)
 
 -- what a reader that holds a rest has to give after bytes
 pub fed_lines : (rest bytes : List ℕ) (reader : Unread) → reader ≡ unread line_limit rest false
@@ -146,116 +150,132 @@ counted_failed polls moment before mid now failed same fault so_far =
 pub counted : (empty before now : ℕ) (failed : Type 0) → Waited empty before now → AreCounted empty before now failed
 counted empty before now failed so_far = record { most = λ less. ⊎_elim (λ last. absurd (omega (arith, last, less))) (λ most. inl most) so_far }
 
-module _ {I O K : Type 0} (source : SourceWords I) (sink : SinkWords O) (clock : ClockWords K) where
-  pub polled_none : (world : ThinWorld I O K) → Polled source sink clock world world []
-  polled_none world = record { asked = grows_same (clock.given world.clock); came = grows_same (source.given world.stdin); left = shrinks_same (source.left world.stdin); counted = counted 0 (source.waits world.stdin) (source.waits world.stdin) _ (waited_none (source.waits world.stdin)) }
+module _ {I O K : Type 0} (source : SourceWords I) (sink : SinkWords O) (clock : ClockWords K) (s : EventSettings) where
+  pub polled_none : (world : ThinWorld I O K) → Polled source sink clock (Stdin s) world world []
+  polled_none world = record {
+    asked = grows_same (clock.given world.clock);
+    took = record { came = grows_same (source.given world.stdin); left = shrinks_same (source.left world.stdin); counted = counted 0 (source.waits world.stdin) (source.waits world.stdin) _ (waited_none (source.waits world.stdin)) };
+  }
 
-  pub polled_more : (old mid new : ThinWorld I O K) (polls : List Poll) (moment : ℤ) (piece : Piece) → is_ended polls ≡ false → Polled source sink clock old mid polls
+  pub polled_more : (old mid new : ThinWorld I O K) (polls : List Poll) (moment : ℤ) (piece : Piece) → is_ended polls ≡ false → Polled source sink clock (Stdin s) old mid polls
       → Grows (clock.given mid.clock) (clock.given new.clock) (moment ∷ []) → Grows (source.given mid.stdin) (source.given new.stdin) (piece_list piece) → Shrinks (source.left mid.stdin) (source.left new.stdin) (bytes_in piece)
       → AreCounted (empty_in (polls ++ poll_of moment piece ∷ [])) (source.waits old.stdin) (source.waits new.stdin) (Rose (source.faults old.stdin) (source.faults new.stdin))
-      → Polled source sink clock old new (polls ++ poll_of moment piece ∷ [])
+      → Polled source sink clock (Stdin s) old new (polls ++ poll_of moment piece ∷ [])
   polled_more old mid new polls moment piece still so_far asked came left waits =
       let one : List Poll = poll_of moment piece ∷ [] in
       record {
         asked = grows_by (sym (map-append (λ poll. poll.moment) polls one)) (grows_then so_far.asked asked);
-        came = grows_by (ap (λ t. pieces_in polls ++ t) (sym (append-nil (piece_list piece))) ∙ sym (pieces_in-append polls one)) (grows_then so_far.came came);
-        left = shrinks_by (ap (λ t. joined polls ++ t) (sym (joined_one piece)) ∙ sym (joined-append polls one still)) (shrinks_then so_far.left left);
-        counted = waits;
+        took = record {
+          came = grows_by (ap (λ t. pieces_in polls ++ t) (sym (append-nil (piece_list piece))) ∙ sym (pieces_in-append polls one)) (grows_then so_far.took.came came);
+          left = shrinks_by (ap (λ t. joined polls ++ t) (sym (joined_one piece)) ∙ sym (joined-append polls one still)) (shrinks_then so_far.took.left left);
+          counted = waits;
+        };
       }
 
-  module _ (config : Config) (draws : Draws) (may : ℕ → Ev → Verdict → Type 0) where
-    abbrev Took : List (List Ev) → O → O → Type 0
-    Took batches old new = TookBatches config draws may batches (sink.taken old) (sink.taken new)
+  -- stdin at its end
+  pub read_out : (now : I) (polls : List Poll) (moment : ℤ) → is_ended polls ≡ false → IsAtEnd (source.left now) → IsReadOut source now (polls ++ poll_of moment End ∷ [])
+  read_out now polls moment still at_end =
+      let all = polls ++ poll_of moment End ∷ [] in
+      let end : is_ended all ≡ true = is_ended-append polls (poll_of moment End ∷ []) still in
+      record { ended = end; at_end = at_end; lines = received-lines line_limit all some ∙ ap (λ e. lines_left (unread line_limit (joined all) e)) end }
 
-    abbrev TookPart : List (List Ev) → O → O → Type 0
-    TookPart batches old new = TookFirst config draws may batches (sink.taken old) (sink.taken new)
+module _ {I O K : Type 0} (source : SourceWords I) (sink : SinkWords O) (clock : ClockWords K) (input : LineInput) (config : Config) (draws : Draws) (may : ℕ → Ev → Verdict → Type 0) where
+  abbrev Took : List (List Ev) → O → O → Type 0
+  Took batches old new = TookBatches config draws may batches (sink.taken old) (sink.taken new)
 
-    -- a run that isn't done
-    pub stopped : (old new : ThinWorld I O K) (is_done is_cut_off : Type 0) (polls : List Poll) → Polled source sink clock old new polls → StopsAtEnd polls
-        → TookPart (batches_in line_limit polls) old.stdout new.stdout
-        → (is_cut_off → Took (batches_in line_limit polls) old.stdout new.stdout) → (is_done → ⊥)
-        → Ran source sink clock config draws may old new is_done is_cut_off
-    stopped old new is_done is_cut_off polls polled stops wrote whole other = record { polls = polls; polled = polled; stops = stops; wrote = wrote; cut_off = whole; done = λ is. absurd (other is) }
+  abbrev TookPart : List (List Ev) → O → O → Type 0
+  TookPart batches old new = TookFirst config draws may batches (sink.taken old) (sink.taken new)
 
-    -- the batches of one more poll, which has these lines
-    one_more : (polls : List Poll) (moment : ℤ) (piece : Piece) (lines : List (List ℕ)) → is_ended polls ≡ false → lines ≡ lines_by line_limit (rest_through line_limit polls) piece
-        → batches_in line_limit polls ++ batches_of (events_at moment lines) ≡ batches_in line_limit (polls ++ poll_of moment piece ∷ [])
-    one_more polls moment piece lines still are = ap (λ l. batches_in line_limit polls ++ batches_of (events_at moment l)) are ∙ sym (rows_more polls moment piece still)
+  -- a run that isn't done
+  pub stopped : (old new : ThinWorld I O K) (is_done is_cut_off : Type 0) (polls : List Poll) → Polled source sink clock input old new polls → StopsWith input polls
+      → TookPart (batches_in line_limit input polls) old.stdout new.stdout
+      → (is_cut_off → Took (batches_in line_limit input polls) old.stdout new.stdout) → (is_done → ⊥)
+      → Ran source sink clock input config draws may old new is_done is_cut_off
+  stopped old new is_done is_cut_off polls polled stops wrote whole other = record { polls = polls; polled = polled; stops = stops; wrote = wrote; cut_off = whole; done = λ is. absurd (other is) }
 
-    -- batches, and then those of one more poll, or some of them
-    pub took_more : (old mid new : O) (polls : List Poll) (moment : ℤ) (piece : Piece) (lines : List (List ℕ)) → is_ended polls ≡ false → lines ≡ lines_by line_limit (rest_through line_limit polls) piece
-        → Took (batches_in line_limit polls) old mid → Took (batches_of (events_at moment lines)) mid new → Took (batches_in line_limit (polls ++ poll_of moment piece ∷ [])) old new
-    took_more old mid new polls moment piece lines still are before more =
-        subst (λ b. Took b old new) (one_more polls moment piece lines still are)
-        (batches_then config draws may (batches_in line_limit polls) (batches_of (events_at moment lines)) (sink.taken old) (sink.taken mid) (sink.taken new) before more)
+  -- the batches of one more poll, which brings these events
+  one_more : (polls : List Poll) (poll : Poll) (es : List Ev) → es ≡ new_events line_limit input polls poll → batches_in line_limit input polls ++ batches_of es ≡ batches_in line_limit input (polls ++ poll ∷ [])
+  one_more polls poll es are = ap (λ l. batches_in line_limit input polls ++ batches_of l) are ∙ sym (batches_by line_limit input polls poll)
 
-    took_some : (old mid new : O) (polls : List Poll) (moment : ℤ) (piece : Piece) (lines : List (List ℕ)) → is_ended polls ≡ false → lines ≡ lines_by line_limit (rest_through line_limit polls) piece
-        → Took (batches_in line_limit polls) old mid → TookPart (batches_of (events_at moment lines)) mid new → TookPart (batches_in line_limit (polls ++ poll_of moment piece ∷ [])) old new
-    took_some old mid new polls moment piece lines still are before part =
-        subst (λ b. TookPart b old new) (one_more polls moment piece lines still are)
-        (first_then config draws may (batches_in line_limit polls) (batches_of (events_at moment lines)) (sink.taken old) (sink.taken mid) (sink.taken new) before part)
+  -- batches, and then those of one more poll, or some of them
+  pub took_more : (old mid new : O) (polls : List Poll) (poll : Poll) (es : List Ev) → es ≡ new_events line_limit input polls poll
+      → Took (batches_in line_limit input polls) old mid → Took (batches_of es) mid new → Took (batches_in line_limit input (polls ++ poll ∷ [])) old new
+  took_more old mid new polls poll es are before more =
+      subst (λ b. Took b old new) (one_more polls poll es are)
+      (batches_then config draws may (batches_in line_limit input polls) (batches_of es) (sink.taken old) (sink.taken mid) (sink.taken new) before more)
 
-    -- none so far
-    pub took_none : (a : O) → Took (batches_in line_limit []) a a
-    took_none a = subst (λ b. Took b a a) (sym (no_batches_yet line_limit)) (no_batches config draws may (sink.taken a))
+  took_some : (old mid new : O) (polls : List Poll) (poll : Poll) (es : List Ev) → es ≡ new_events line_limit input polls poll
+      → Took (batches_in line_limit input polls) old mid → TookPart (batches_of es) mid new → TookPart (batches_in line_limit input (polls ++ poll ∷ [])) old new
+  took_some old mid new polls poll es are before part =
+      subst (λ b. TookPart b old new) (one_more polls poll es are)
+      (first_then config draws may (batches_in line_limit input polls) (batches_of es) (sink.taken old) (sink.taken mid) (sink.taken new) before part)
 
-    -- with a part of the batches of one more poll
-    pub stopped_in_part : (old mid new : ThinWorld I O K) (is_done is_cut_off : Type 0) (polls : List Poll) (moment : ℤ) (piece : Piece) (lines : List (List ℕ)) → is_ended polls ≡ false
-        → Polled source sink clock old new (polls ++ poll_of moment piece ∷ []) → lines ≡ lines_by line_limit (rest_through line_limit polls) piece
-        → Took (batches_in line_limit polls) old.stdout mid.stdout → TookPart (batches_of (events_at moment lines)) mid.stdout new.stdout
-        → (is_cut_off → Took (batches_of (events_at moment lines)) mid.stdout new.stdout) → (is_done → ⊥)
-        → Ran source sink clock config draws may old new is_done is_cut_off
-    stopped_in_part old mid new is_done is_cut_off polls moment piece lines still polled are before part whole other =
-        stopped old new is_done is_cut_off (polls ++ poll_of moment piece ∷ []) polled (stops_there polls (poll_of moment piece) still)
-        (took_some old.stdout mid.stdout new.stdout polls moment piece lines still are before part)
-        (λ is. took_more old.stdout mid.stdout new.stdout polls moment piece lines still are before (whole is)) other
+  -- none so far
+  pub took_none : (a : O) → Took (batches_in line_limit input []) a a
+  took_none a = subst (λ b. Took b a a) (sym (no_batches_yet line_limit input)) (no_batches config draws may (sink.taken a))
 
-    -- a run whose last poll met the end, and whose last batches were written, or not
-    pub ended : {E : Type 0} (old mid new : ThinWorld I O K) (result : Result (Unit {0}) E) (is_cut_off : Type 0) (polls : List Poll) (moment : ℤ) (lines : List (List ℕ)) → is_ended polls ≡ false
-        → Polled source sink clock old new (polls ++ poll_of moment End ∷ []) → IsAtEnd (source.left new.stdin) → lines ≡ lines_by line_limit (rest_through line_limit polls) End
-        → Took (batches_in line_limit polls) old.stdout mid.stdout
-        → OnOk result (Took (batches_of (events_at moment lines)) mid.stdout new.stdout) → TookPart (batches_of (events_at moment lines)) mid.stdout new.stdout → (is_cut_off → ⊥)
-        → Ran source sink clock config draws may old new (IsOk result) is_cut_off
-    ended old mid new result is_cut_off polls moment lines still polled at_end are before whole part other =
-        let all = polls ++ poll_of moment End ∷ [] in
-        let end : is_ended all ≡ true = is_ended-append polls (poll_of moment End ∷ []) still in
-        record {
-          polls = all;
-          polled = polled;
-          stops = stops_there polls (poll_of moment End) still;
-          wrote = took_some old.stdout mid.stdout new.stdout polls moment End lines still are before part;
-          cut_off = λ is. absurd (other is);
-          done = λ ok. record {
-            ended = end;
-            at_end = at_end;
-            lines = received-lines line_limit all some ∙ ap (λ e. lines_left (unread line_limit (joined all) e)) end;
-            wrote = took_more old.stdout mid.stdout new.stdout polls moment End lines still are before (on_ok result ok whole);
-          };
-        }
+  -- with a part of the batches of one more poll
+  pub stopped_in_part : (old mid new : ThinWorld I O K) (is_done is_cut_off : Type 0) (polls : List Poll) (poll : Poll) (es : List Ev) → es ≡ new_events line_limit input polls poll → StopsWith input (polls ++ poll ∷ [])
+      → Polled source sink clock input old new (polls ++ poll ∷ [])
+      → Took (batches_in line_limit input polls) old.stdout mid.stdout → TookPart (batches_of es) mid.stdout new.stdout
+      → (is_cut_off → Took (batches_of es) mid.stdout new.stdout) → (is_done → ⊥)
+      → Ran source sink clock input config draws may old new is_done is_cut_off
+  stopped_in_part old mid new is_done is_cut_off polls poll es are stops polled before part whole other =
+      stopped old new is_done is_cut_off (polls ++ poll ∷ []) polled stops
+      (took_some old.stdout mid.stdout new.stdout polls poll es are before part)
+      (λ is. took_more old.stdout mid.stdout new.stdout polls poll es are before (whole is)) other
 
-    -- and a flush behind it
-    still_polled : (old mid : ThinWorld I O K) (out : O) (polls : List Poll) → Polled source sink clock old mid polls → Polled source sink clock old (record mid { stdout = out }) polls
-    still_polled old mid out polls p = record { asked = p.asked; came = p.came; left = p.left; counted = p.counted }
+  -- a run of which all batches were written, behind whose polls the input is at its end
+  pub all_polled : (old new : ThinWorld I O K) (is_done is_cut_off : Type 0) (polls : List Poll) → StopsWith input polls → Polled source sink clock input old new polls → IsOver source input new.stdin polls
+      → Took (batches_in line_limit input polls) old.stdout new.stdout → (is_cut_off → ⊥) → Ran source sink clock input config draws may old new is_done is_cut_off
+  all_polled old new is_done is_cut_off polls stops polled over took other =
+      let batches = batches_in line_limit input polls in
+      let a = sink.taken old.stdout in
+      let b = sink.taken new.stdout in
+      record {
+        polls = polls;
+        polled = polled;
+        stops = stops;
+        wrote = subst (λ t. TookFirst config draws may t a b) (append-nil batches) (first_then config draws may batches [] a b b took (none_took config draws may [] b));
+        cut_off = λ is. absurd (other is);
+        done = λ ok. record { over = over; wrote = took };
+      }
 
-    pub flushed_after : (old mid : ThinWorld I O K) (out : O) (is_done is_cut_off : Type 0) → Grows (sink.taken mid.stdout) (sink.taken out) [] → Ran source sink clock config draws may old mid is_done is_cut_off
-        → Ran source sink clock config draws may old (record mid { stdout = out }) is_done is_cut_off
-    flushed_after old mid out is_done is_cut_off none r = record {
-      polls = r.polls;
-      polled = still_polled old mid out r.polls r.polled;
-      stops = r.stops;
-      wrote = first_still config draws may (batches_in line_limit r.polls) (sink.taken old.stdout) (sink.taken mid.stdout) (sink.taken out) r.wrote none;
-      cut_off = λ is. batches_still config draws may (batches_in line_limit r.polls) (sink.taken old.stdout) (sink.taken mid.stdout) (sink.taken out) (r.cut_off is) none;
-      done = λ is. let d = r.done is in record {
-        ended = d.ended;
-        at_end = d.at_end;
-        lines = d.lines;
-        wrote = batches_still config draws may (batches_in line_limit r.polls) (sink.taken old.stdout) (sink.taken mid.stdout) (sink.taken out) d.wrote none;
-      };
-    }
+  -- a run whose last poll met the end, and whose last batches were written, or not
+  pub ended : {E : Type 0} (old mid new : ThinWorld I O K) (result : Result (Unit {0}) E) (is_cut_off : Type 0) (polls : List Poll) (poll : Poll) (es : List Ev) → es ≡ new_events line_limit input polls poll
+      → StopsWith input (polls ++ poll ∷ []) → Polled source sink clock input old new (polls ++ poll ∷ []) → IsOver source input new.stdin (polls ++ poll ∷ [])
+      → Took (batches_in line_limit input polls) old.stdout mid.stdout
+      → OnOk result (Took (batches_of es) mid.stdout new.stdout) → TookPart (batches_of es) mid.stdout new.stdout → (is_cut_off → ⊥)
+      → Ran source sink clock input config draws may old new (IsOk result) is_cut_off
+  ended old mid new result is_cut_off polls poll es are stops polled over before whole part other = record {
+    polls = polls ++ poll ∷ [];
+    polled = polled;
+    stops = stops;
+    wrote = took_some old.stdout mid.stdout new.stdout polls poll es are before part;
+    cut_off = λ is. absurd (other is);
+    done = λ ok. record { over = over; wrote = took_more old.stdout mid.stdout new.stdout polls poll es are before (on_ok result ok whole) };
+  }
 
-    -- which failed
-    pub unflushed_after : (old mid : ThinWorld I O K) (out : O) (was_done was_cut_off is_done is_cut_off : Type 0) → Grows (sink.taken mid.stdout) (sink.taken out) [] → Ran source sink clock config draws may old mid was_done was_cut_off
-        → (is_done → ⊥) → (is_cut_off → ⊥) → Ran source sink clock config draws may old (record mid { stdout = out }) is_done is_cut_off
-    unflushed_after old mid out was_done was_cut_off is_done is_cut_off none r not_done not_cut_off =
-        stopped old (record mid { stdout = out }) is_done is_cut_off r.polls (still_polled old mid out r.polls r.polled) r.stops
-        (first_still config draws may (batches_in line_limit r.polls) (sink.taken old.stdout) (sink.taken mid.stdout) (sink.taken out) r.wrote none) (λ is. absurd (not_cut_off is)) not_done
+  -- and a flush behind it
+  pub flushed_after : (old mid : ThinWorld I O K) (out : O) (is_done is_cut_off : Type 0) → Grows (sink.taken mid.stdout) (sink.taken out) [] → Ran source sink clock input config draws may old mid is_done is_cut_off
+      → Ran source sink clock input config draws may old (record mid { stdout = out }) is_done is_cut_off
+  flushed_after old mid out is_done is_cut_off none r =
+      let batches = batches_in line_limit input r.polls in
+      let a = sink.taken old.stdout in
+      let b = sink.taken mid.stdout in
+      let c = sink.taken out in
+      record {
+        polls = r.polls;
+        polled = record { asked = r.polled.asked; took = r.polled.took };
+        stops = r.stops;
+        wrote = first_still config draws may batches a b c r.wrote none;
+        cut_off = λ is. batches_still config draws may batches a b c (r.cut_off is) none;
+        done = λ is. let d = r.done is in record { over = d.over; wrote = batches_still config draws may batches a b c d.wrote none };
+      }
+
+  -- which failed
+  pub unflushed_after : (old mid : ThinWorld I O K) (out : O) (was_done was_cut_off is_done is_cut_off : Type 0) → Grows (sink.taken mid.stdout) (sink.taken out) [] → Ran source sink clock input config draws may old mid was_done was_cut_off
+      → (is_done → ⊥) → (is_cut_off → ⊥) → Ran source sink clock input config draws may old (record mid { stdout = out }) is_done is_cut_off
+  unflushed_after old mid out was_done was_cut_off is_done is_cut_off none r not_done not_cut_off =
+      stopped old (record mid { stdout = out }) is_done is_cut_off r.polls (record { asked = r.polled.asked; took = r.polled.took }) r.stops
+      (first_still config draws may (batches_in line_limit input r.polls) (sink.taken old.stdout) (sink.taken mid.stdout) (sink.taken out) r.wrote none) (λ is. absurd (not_cut_off is)) not_done

@@ -2,11 +2,13 @@
 use Rattle.std.proofs.Common.{◌≡◌, ℕ, ℤ, List, ◌∷◌, ◌≤◌, ◌<◌, length, sym, ap, ◌∙◌, arith}
 use Rattle.byte_lines.specs.Unread.{Unread, lines_left}
 use Rattle.in_lines.proofs.Short.{first_short}
-use Rattle.logstash_top.specs.Rows.{ev_of, events_at, events_left}
+use Rattle.in_lines.specs.Settings.{event_with}
+use Rattle.in_lines.specs.declared.settings.EventSettings.{EventSettings}
+use Rattle.logstash_top.specs.Rows.{events_at, events_left}
 
 -- of a line of that text, and of those behind it
-pub next_events : (moment : ℤ) (u v : Unread) (line text : List ℕ) → lines_left u ≡ line ∷ lines_left v → text ≡ line → ev_of (record { line = text; moment = moment }) ∷ events_left moment v ≡ events_left moment u
-next_events moment u v line text whole is = ap (λ t. ev_of (record { line = t; moment = moment }) ∷ events_left moment v) is ∙ sym (ap (events_at moment) whole)
+pub next_events : (s : EventSettings) (moment : ℤ) (u v : Unread) (line text : List ℕ) → lines_left u ≡ line ∷ lines_left v → text ≡ line → event_with s (record { line = text; moment = moment }) ∷ events_left s moment v ≡ events_left s moment u
+next_events s moment u v line text whole is = ap (λ t. event_with s (record { line = t; moment = moment }) ∷ events_left s moment v) is ∙ sym (ap (events_at s moment) whole)
 
 -- which isn't too long to be an event
 pub short_text : (u v : Unread) (line text : List ℕ) → lines_left u ≡ line ∷ lines_left v → text ≡ line → u.limit ≡ 1048576 → length text ≤ 8388558

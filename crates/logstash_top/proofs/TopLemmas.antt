@@ -27,6 +27,8 @@ use Rattle.batch_rows.specs.Codecs.{codecs_of}
 use Rattle.batch_rows.specs.declared.codecs.OutputCodec.{OutputCodec}
 use Rattle.logstash_top.specs.Answers.{MayRun, Starts}
 use Rattle.logstash_top.specs.Given.{workers}
+use Rattle.logstash_top.specs.Inputs.{input_of}
+use Rattle.in_lines.specs.declared.input.LineInput.{LineInput}
 use Rattle.logstash_top.specs.Outcomes.{RanAs, RanConfig, RanPlan, RunsBy}
 use Rattle.logstash_top.specs.Runs.{Ran}
 use Rattle.logstash_top.specs.Status.{IsInputFault, IsOutputFault, IsRefused, status_of}
@@ -75,23 +77,23 @@ ran_config source sink clock may given filter_number number numbered fs os new_f
       ran = r.ran;
     }
 
-module _ {I O K : Type 0} (source : SourceWords I) (sink : SinkWords O) (clock : ClockWords K) (config : Config) (draws : Draws) (may : ℕ → Ev → Verdict → Type 0) where
+module _ {I O K : Type 0} (source : SourceWords I) (sink : SinkWords O) (clock : ClockWords K) (input : LineInput) (config : Config) (draws : Draws) (may : ℕ → Ev → Verdict → Type 0) where
   -- a run by other words for how it ended
   pub ran_as : (old new : ThinWorld I O K) (is_done is_cut_off as_done as_cut_off : Type 0) → (as_done → is_done) → (as_cut_off → is_cut_off)
-      → Ran source sink clock config draws may old new is_done is_cut_off → Ran source sink clock config draws may old new as_done as_cut_off
+      → Ran source sink clock input config draws may old new is_done is_cut_off → Ran source sink clock input config draws may old new as_done as_cut_off
   ran_as old new is_done is_cut_off as_done as_cut_off ended cut r =
       record { polls = r.polls; polled = r.polled; stops = r.stops; wrote = r.wrote; cut_off = λ is. r.cut_off (cut is); done = λ is. r.done (ended is) }
 
   -- and with what stderr took behind it
   ran_told : (old new : ThinWorld I O K) (err : O) (is_done is_cut_off : Type 0)
-      → Ran source sink clock config draws may old new is_done is_cut_off → Ran source sink clock config draws may old (record new { stderr = err }) is_done is_cut_off
+      → Ran source sink clock input config draws may old new is_done is_cut_off → Ran source sink clock input config draws may old (record new { stderr = err }) is_done is_cut_off
   ran_told old new err is_done is_cut_off r = record {
     polls = r.polls;
-    polled = record { asked = r.polled.asked; came = r.polled.came; left = r.polled.left; counted = r.polled.counted };
+    polled = record { asked = r.polled.asked; took = r.polled.took };
     stops = r.stops;
     wrote = r.wrote;
     cut_off = r.cut_off;
-    done = λ is. let d = r.done is in record { ended = d.ended; at_end = d.at_end; lines = d.lines; wrote = d.wrote };
+    done = λ is. let d = r.done is in record { over = d.over; wrote = d.wrote };
   }
 
 pub also_told : {I O K F : Type 0} (source : SourceWords I) (sink : SinkWords O) (clock : ClockWords K) (may : F → Ev → Verdict → Type 0) (given : Given) (by : Config → Draws → List (Option (Drawn F)) → Type 0)
@@ -104,7 +106,7 @@ also_told source sink clock may given by old new err words status (inr r) = inr 
   draws = r.draws;
   boxes = r.boxes;
   runs_by = r.runs_by;
-  ran = ran_told source sink clock r.config r.draws (MayAt (λ d. may d.plugged) r.boxes) old new err _ _ r.ran;
+  ran = ran_told source sink clock (input_of r.config) r.config r.draws (MayAt (λ d. may d.plugged) r.boxes) old new err _ _ r.ran;
 })
 
 -- the result of a run that stopped, and of one that is done

@@ -1,5 +1,6 @@
 pub mod Words
 pub mod Built
+pub mod Inputs
 pub mod Given
 pub mod Faults
 pub mod Refused
@@ -7,6 +8,7 @@ pub mod Status
 pub mod Answers
 pub mod Sinks
 pub mod Rows
+pub mod Generating
 pub mod Runs
 pub mod Closings
 pub mod Outcomes

@@ -1,5 +1,5 @@
 -- What a run does to the outside.
-use Rattle.std.specs.Prelude.{◌≡◌, ◌⊎◌, ◌≤◌, ◌<◌, ℕ, ◌+◌, ◌-◌, ◌^◌, List, [], ◌∷◌, true, map, Result, Err, IsOk}
+use Rattle.std.specs.Prelude.{◌≡◌, ◌⊎◌, ◌≤◌, ◌<◌, ℕ, ◌+◌, ◌-◌, ◌*◌, ◌^◌, length, List, [], ◌∷◌, true, false, map, Result, Err, IsOk}
 use Rattle.std.specs.List.{flat_map}
 use Rattle.io_traits.specs.Counts.{HasCause, HasCauseUnless, Rose}
 use Rattle.io_traits.specs.Pieces.{Piece, Came, End, Nothing, piece_list}
@@ -9,6 +9,10 @@ use Rattle.io_traits.specs.declared.sinks.Sink.{Ghosts as SinkWords}
 use Rattle.io_traits.specs.declared.clocks.Clock.{Ghosts as ClockWords}
 use Rattle.byte_lines.specs.Unread.{lines_left}
 use Rattle.in_lines.specs.Polls.{Poll, joined, is_ended, received}
+use Rattle.in_lines.specs.Generators.{gave_all}
+use Rattle.in_lines.specs.Inputs.{poll_limit}
+use Rattle.in_lines.specs.declared.input.LineInput.{LineInput}
+use Rattle.in_lines.specs.declared.input.LineInput.TheVariants.{Stdin, Generated}
 use Rattle.config_tree.specs.declared.tree.Config.{Config}
 use Rattle.event_tree.specs.Events.{Ev}
 use Rattle.event_flow.specs.Places.{Draws}
@@ -48,31 +52,55 @@ abbrev pub StopsAtEnd : List Poll → Type 0
 StopsAtEnd [] = Unit {0}
 StopsAtEnd (poll ∷ polls) = (poll.piece ≡ End → polls ≡ []) × StopsAtEnd polls
 
-module _ {I O K : Type 0} (source : SourceWords I) (sink : SinkWords O) (clock : ClockWords K) where
-  -- these polls were made: each asked the clock once, and took its piece from stdin; one that found nothing was counted
+module _ {I : Type 0} (source : SourceWords I) where
+  -- the polls took their pieces from stdin; one that found nothing was counted
+  pub record Read (old new : I) (polls : List Poll) : Type 0 where
+    pub came : Grows (source.given old) (source.given new) (pieces_in polls)
+    pub left : Shrinks (source.left old) (source.left new) (joined polls)
+    pub counted : AreCounted (empty_in polls) (source.waits old) (source.waits new) (Rose (source.faults old) (source.faults new))
+
+  -- what polls of an input took from stdin; those of a generator take nothing
+  abbrev pub TookFrom : LineInput → I → I → List Poll → Type 0
+  TookFrom (Stdin s) old new polls = Read old new polls
+  TookFrom (Generated g) old new polls = new ≡ old
+
+  -- stdin is at its end, and its lines are those of all bytes
+  pub record IsReadOut (now : I) (polls : List Poll) : Type 0 where
+    pub ended : is_ended polls ≡ true
+    pub at_end : IsAtEnd (source.left now)
+    pub lines : map (λ r. r.line) (received line_limit polls) ≡ lines_left (record { limit = line_limit; bytes = joined polls; ended = true })
+
+  -- an input is at its end; a generator, where it gave all its events in these polls
+  abbrev pub IsOver : LineInput → I → List Poll → Type 0
+  IsOver (Stdin s) now polls = IsReadOut now polls
+  IsOver (Generated g) now polls = gave_all g (poll_limit * length polls) ≡ true
+
+-- no poll was made behind the end of the input
+abbrev pub StopsWith : LineInput → List Poll → Type 0
+StopsWith (Stdin s) polls = StopsAtEnd polls
+StopsWith (Generated g) polls = (k : ℕ) → k < length polls → gave_all g (poll_limit * k) ≡ false
+
+module _ {I O K : Type 0} (source : SourceWords I) (sink : SinkWords O) (clock : ClockWords K) (input : LineInput) where
+  -- these polls of the input were made: each asked the clock once
   pub record Polled (old new : ThinWorld I O K) (polls : List Poll) : Type 0 where
     pub asked : Grows (clock.given old.clock) (clock.given new.clock) (map (λ poll. poll.moment) polls)
-    pub came : Grows (source.given old.stdin) (source.given new.stdin) (pieces_in polls)
-    pub left : Shrinks (source.left old.stdin) (source.left new.stdin) (joined polls)
-    pub counted : AreCounted (empty_in polls) (source.waits old.stdin) (source.waits new.stdin) (Rose (source.faults old.stdin) (source.faults new.stdin))
+    pub took : TookFrom source input old.stdin new.stdin polls
 
   module _ (config : Config) (draws : Draws) (may : ℕ → Ev → Verdict → Type 0) where
-    -- stdin is at its end, and stdout took what it gets of all batches, one after another
+    -- the input is at its end, and stdout took what it gets of all batches, one after another
     pub record Finished (old new : ThinWorld I O K) (polls : List Poll) : Type 0 where
-      pub ended : is_ended polls ≡ true
-      pub at_end : IsAtEnd (source.left new.stdin)
-      pub lines : map (λ r. r.line) (received line_limit polls) ≡ lines_left (record { limit = line_limit; bytes = joined polls; ended = true })
-      pub wrote : TookBatches config draws may (batches_in line_limit polls) (sink.taken old.stdout) (sink.taken new.stdout)
+      pub over : IsOver source input new.stdin polls
+      pub wrote : TookBatches config draws may (batches_in line_limit input polls) (sink.taken old.stdout) (sink.taken new.stdout)
 
     -- a run, which is done, or which a read that failed ended, or neither: stdout took a first part of what it gets of the batches of what
     -- was polled, from the first on, and nothing else
     pub record Ran (old new : ThinWorld I O K) (is_done is_cut_off : Type 0) : Type 0 where
       pub polls : List Poll
       pub polled : Polled old new polls
-      pub stops : StopsAtEnd polls
-      pub wrote : TookFirst config draws may (batches_in line_limit polls) (sink.taken old.stdout) (sink.taken new.stdout)
+      pub stops : StopsWith input polls
+      pub wrote : TookFirst config draws may (batches_in line_limit input polls) (sink.taken old.stdout) (sink.taken new.stdout)
       -- where a read failed, all batches of what came before it were written
-      pub cut_off : is_cut_off → TookBatches config draws may (batches_in line_limit polls) (sink.taken old.stdout) (sink.taken new.stdout)
+      pub cut_off : is_cut_off → TookBatches config draws may (batches_in line_limit input polls) (sink.taken old.stdout) (sink.taken new.stdout)
       pub done : is_done → Finished old new polls
 
     -- a run with this result

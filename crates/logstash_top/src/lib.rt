@@ -5,6 +5,8 @@
 mod built;
 mod calls;
 mod config_test;
+mod generate;
+mod inputs;
 mod line;
 mod parts;
 mod pump;

@@ -4,19 +4,21 @@ ghost use Rattle.io_traits.specs.Counts.{HasCause};
 ghost use Rattle.config_tree.specs.declared.tree.Config.{Config};
 ghost use Rattle.event_flow.specs.Places.{Draws};
 ghost use Rattle.plugin_graph.specs.Kits.{MayAt};
+ghost use Rattle.in_lines.specs.declared.input.LineInput.TheVariants.{Stdin};
 ghost use Rattle.batch_rows.specs.Batches.{TookBatches, TookFirst};
 ghost use Rattle.batch_rows.specs.Running.{IsRunnerOf, batches_of};
 ghost use Rattle.logstash_top.specs.Rows.{events_left, fed};
 ghost use Rattle.logstash_top.specs.Runs.{RanTo, FlushedUnlessFaulted, ReadHasCause, StdinHasCause, StdoutHasCause};
 ghost use Rattle.logstash_top.specs.Sinks.{AllFlushed};
 
+use crate::generate::generate;
 use crate::rows::run_lines;
 use crate::run_fault::RunFault;
 use crate::world::ThinWorld;
 use batch_rows::Runner;
 use byte_lines::LineReader;
 use foreign_parts::Asked;
-use in_lines::LINE_LIMIT;
+use in_lines::{EventSettings, LINE_LIMIT, LineInput};
 use io_traits::{Clock, Sink, Source, Step};
 use std::alloc::Global;
 use std::sync::Wait;
@@ -25,18 +27,19 @@ use time_instant::Instant;
 /// How many bytes one read asks for at most.
 const READ_LEN: usize = 65_536;
 
-/// Runs the events of the lines of stdin until its end, in batches of at most 125, none with events of two
-/// reads, and flushes what stdout took, also where it stops before. No event is held before.
+/// Runs the events of the input until its end, in batches of at most 125, none with events of two polls, and flushes
+/// what stdout took, also where it stops before. No event is held before.
 pub(crate) fn run<R: Wait, I: Source, O: Sink, K: Clock, X: Asked>(
     rt: &R,
     alloc: Global,
+    input: &LineInput,
     world: &mut ThinWorld<I, O, K>,
     runner: &mut Runner<X>,
 ) -> Result<(), RunFault>
     requires { runner.old.held ≡ [] }
     ensures ran { (config : Config) (draws : Draws) (boxes : List (Option X))
         → IsRunnerOf X.may config draws boxes runner.old
-        → RanTo I.Source O.Sink K.Clock config draws (MayAt X.may boxes)
+        → RanTo I.Source O.Sink K.Clock input.now config draws (MayAt X.may boxes)
         world.old world.new result }
     ensures flushed { FlushedUnlessFaulted O.Sink world.old world.new }
     ensures done_flushed { OnOk result (AllFlushed O.Sink world.new.stdout) }
@@ -44,7 +47,7 @@ pub(crate) fn run<R: Wait, I: Source, O: Sink, K: Clock, X: Asked>(
     ensures write_cause { StdoutHasCause O.Sink world.old world.new (result ≡ Err RunFault.Output) }
     ensures stderr { world.new.stderr ≡ world.old.stderr }
 {
-    let ran = pump(rt, alloc, world, runner);
+    let ran = run_input(rt, alloc, input, world, runner);
     match world.stdout.flush() {
         Ok(()) => ran,
         Err(_) => Err(RunFault::Output),
@@ -52,16 +55,40 @@ pub(crate) fn run<R: Wait, I: Source, O: Sink, K: Clock, X: Asked>(
 }
 
 /// Runs these events; what stdout took last may not be flushed.
-fn pump<R: Wait, I: Source, O: Sink, K: Clock, X: Asked>(
+fn run_input<R: Wait, I: Source, O: Sink, K: Clock, X: Asked>(
     rt: &R,
     alloc: Global,
+    input: &LineInput,
     world: &mut ThinWorld<I, O, K>,
     runner: &mut Runner<X>,
 ) -> Result<(), RunFault>
     requires { runner.old.held ≡ [] }
     ensures ran { (config : Config) (draws : Draws) (boxes : List (Option X))
         → IsRunnerOf X.may config draws boxes runner.old
-        → RanTo I.Source O.Sink K.Clock config draws (MayAt X.may boxes)
+        → RanTo I.Source O.Sink K.Clock input.now config draws (MayAt X.may boxes)
+        world.old world.new result }
+    ensures read_cause { StdinHasCause I.Source world.old world.new (result ≡ Err RunFault.Input) }
+    ensures write_cause { StdoutHasCause O.Sink world.old world.new (result ≡ Err RunFault.Output) }
+    ensures stderr { world.new.stderr ≡ world.old.stderr }
+{
+    match input {
+        LineInput::Stdin(settings) => pump(rt, alloc, settings, world, runner),
+        LineInput::Generated(generator) => generate(rt, alloc, generator, world, runner),
+    }
+}
+
+/// Runs the events of the lines of stdin until its end.
+fn pump<R: Wait, I: Source, O: Sink, K: Clock, X: Asked>(
+    rt: &R,
+    alloc: Global,
+    settings: &EventSettings,
+    world: &mut ThinWorld<I, O, K>,
+    runner: &mut Runner<X>,
+) -> Result<(), RunFault>
+    requires { runner.old.held ≡ [] }
+    ensures ran { (config : Config) (draws : Draws) (boxes : List (Option X))
+        → IsRunnerOf X.may config draws boxes runner.old
+        → RanTo I.Source O.Sink K.Clock (Stdin settings.now) config draws (MayAt X.may boxes)
         world.old world.new result }
     ensures read_cause { StdinHasCause I.Source world.old world.new (result ≡ Err RunFault.Input) }
     ensures write_cause { StdoutHasCause O.Sink world.old world.new (result ≡ Err RunFault.Output) }
@@ -74,7 +101,15 @@ fn pump<R: Wait, I: Source, O: Sink, K: Clock, X: Asked>(
         match world.stdin.read(&mut room) {
             Ok(Step::Bytes(count)) => {
                 let bytes = &room[..count];
-                match take_piece(alloc, &mut reader, bytes, moment, runner, &mut world.stdout) {
+                match take_piece(
+                    alloc,
+                    settings,
+                    &mut reader,
+                    bytes,
+                    moment,
+                    runner,
+                    &mut world.stdout,
+                ) {
                     Ok(()) => {}
                     Err(stop) => return Err(stop),
                 }
@@ -82,7 +117,14 @@ fn pump<R: Wait, I: Source, O: Sink, K: Clock, X: Asked>(
             Ok(Step::NotYet) => world.clock.pause(),
             Ok(Step::End) => {
                 reader.end();
-                return run_lines(alloc, &mut reader, moment, runner, &mut world.stdout);
+                return run_lines(
+                    alloc,
+                    settings,
+                    &mut reader,
+                    moment,
+                    runner,
+                    &mut world.stdout,
+                );
             }
             Err(_) => return Err(RunFault::Input),
         }
@@ -94,6 +136,7 @@ fn pump<R: Wait, I: Source, O: Sink, K: Clock, X: Asked>(
 /// took, so that whoever waits for it has it before the next read.
 fn take_piece<X: Asked, O: Sink>(
     alloc: Global,
+    settings: &EventSettings,
     reader: &mut LineReader,
     bytes: &[u8],
     moment: Instant,
@@ -106,12 +149,12 @@ fn take_piece<X: Asked, O: Sink>(
     ensures ok { OnOk result ((config : Config) (draws : Draws) (boxes : List (Option X))
         → IsRunnerOf X.may config draws boxes runner.old
         → TookBatches config draws (MayAt X.may boxes)
-        (batches_of (events_left moment (fed reader.old bytes.now)))
+        (batches_of (events_left settings.now moment (fed reader.old bytes.now)))
         (O.taken stdout.old) (O.taken stdout.new)) }
     ensures part { (config : Config) (draws : Draws) (boxes : List (Option X))
         → IsRunnerOf X.may config draws boxes runner.old
         → TookFirst config draws (MayAt X.may boxes)
-        (batches_of (events_left moment (fed reader.old bytes.now)))
+        (batches_of (events_left settings.now moment (fed reader.old bytes.now)))
         (O.taken stdout.old) (O.taken stdout.new) }
     ensures stays { (config : Config) (draws : Draws) (boxes : List (Option X))
         → IsRunnerOf X.may config draws boxes runner.old
@@ -127,7 +170,7 @@ fn take_piece<X: Asked, O: Sink>(
     ensures limit { OnOk result (reader.new.limit ≡ reader.old.limit) }
 {
     reader.feed(bytes)?;
-    run_lines(alloc, reader, moment, runner, stdout)?;
+    run_lines(alloc, settings, reader, moment, runner, stdout)?;
     stdout.flush()?;
     Ok(())
 }

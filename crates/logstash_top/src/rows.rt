@@ -7,21 +7,24 @@ ghost use Rattle.io_traits.specs.Counts.{HasCause};
 ghost use Rattle.plugin_graph.specs.Kits.{MayAt};
 ghost use Rattle.batch_rows.specs.Batches.{TookBatches, TookFirst};
 ghost use Rattle.batch_rows.specs.Running.{IsRunnerOf, RanUpTo, batch_limit, batches_behind, batches_of};
-ghost use Rattle.logstash_top.specs.Rows.{ev_of, events_left};
+ghost use Rattle.in_lines.specs.Settings.{event_with};
+ghost use Rattle.logstash_top.specs.Rows.{events_left};
 
 use crate::run_fault::RunFault;
 use batch_rows::Runner;
 use byte_lines::LineReader;
+use event_tree::Event;
 use foreign_parts::Asked;
-use in_lines::event_of_line;
+use in_lines::EventSettings;
 use io_traits::Sink;
 use std::alloc::Global;
 use time_instant::Instant;
 
-/// Runs the events of the lines that the reader has left, in batches. No event is held before the call, and
+/// Runs the events of the lines that the reader has left, as the settings of the input make them, in batches. No event is held before the call, and
 /// none behind it where it succeeds.
 pub(crate) fn run_lines<X: Asked, O: Sink>(
     alloc: Global,
+    settings: &EventSettings,
     reader: &mut LineReader,
     moment: Instant,
     runner: &mut Runner<X>,
@@ -31,11 +34,11 @@ pub(crate) fn run_lines<X: Asked, O: Sink>(
     requires limit { reader.old.limit ≡ 1048576 }
     ensures ok { OnOk result ((config : Config) (draws : Draws) (boxes : List (Option X))
         → IsRunnerOf X.may config draws boxes runner.old
-        → TookBatches config draws (MayAt X.may boxes) (batches_of (events_left moment reader.old))
+        → TookBatches config draws (MayAt X.may boxes) (batches_of (events_left settings.now moment reader.old))
         (O.taken stdout.old) (O.taken stdout.new)) }
     ensures part { (config : Config) (draws : Draws) (boxes : List (Option X))
         → IsRunnerOf X.may config draws boxes runner.old
-        → TookFirst config draws (MayAt X.may boxes) (batches_of (events_left moment reader.old))
+        → TookFirst config draws (MayAt X.may boxes) (batches_of (events_left settings.now moment reader.old))
         (O.taken stdout.old) (O.taken stdout.new) }
     ensures stays { (config : Config) (draws : Draws) (boxes : List (Option X))
         → IsRunnerOf X.may config draws boxes runner.old
@@ -51,7 +54,14 @@ pub(crate) fn run_lines<X: Asked, O: Sink>(
 {
     loop {
         match reader.next_line() {
-            Ok(Some(line)) => match add_line(alloc, line.as_str(), moment, runner, stdout) {
+            Ok(Some(line)) => match add_line(
+                alloc,
+                settings,
+                line.as_str(),
+                moment,
+                runner,
+                stdout,
+            ) {
                 Ok(()) => {}
                 Err(stop) => return Err(stop),
             },
@@ -64,6 +74,7 @@ pub(crate) fn run_lines<X: Asked, O: Sink>(
 /// Takes the event of a line.
 fn add_line<X: Asked, O: Sink>(
     alloc: Global,
+    settings: &EventSettings,
     line: &str,
     moment: Instant,
     runner: &mut Runner<X>,
@@ -74,12 +85,12 @@ fn add_line<X: Asked, O: Sink>(
     ensures ok { OnOk result ((config : Config) (draws : Draws) (boxes : List (Option X))
         → IsRunnerOf X.may config draws boxes runner.old → (es : List Ev)
         → RanUpTo X.may config draws boxes
-        (batches_behind runner.old.held (ev_of (record { line = line.now; moment = moment }) ∷ es))
+        (batches_behind runner.old.held (event_with settings.now (record { line = line.now; moment = moment }) ∷ es))
         (batches_behind runner.new.held es) (O.taken stdout.old) (O.taken stdout.new)) }
     ensures part { (config : Config) (draws : Draws) (boxes : List (Option X))
         → IsRunnerOf X.may config draws boxes runner.old → (es : List Ev)
         → TookFirst config draws (MayAt X.may boxes)
-        (batches_behind runner.old.held (ev_of (record { line = line.now; moment = moment }) ∷ es))
+        (batches_behind runner.old.held (event_with settings.now (record { line = line.now; moment = moment }) ∷ es))
         (O.taken stdout.old) (O.taken stdout.new) }
     ensures stays { (config : Config) (draws : Draws) (boxes : List (Option X))
         → IsRunnerOf X.may config draws boxes runner.old
@@ -89,13 +100,42 @@ fn add_line<X: Asked, O: Sink>(
         (result ≡ Err RunFault.Output) }
     ensures not_input { ¬ (result ≡ Err RunFault.Input) }
 {
-    let event = event_of_line(alloc, line, moment)?;
+    let event = settings.event(alloc, line, moment)?;
+    add_event(event, runner, stdout)
+}
+
+/// Takes an event.
+pub(crate) fn add_event<X: Asked, O: Sink>(
+    event: Event,
+    runner: &mut Runner<X>,
+    stdout: &mut O,
+) -> Result<(), RunFault>
+    requires { length runner.old.held < batch_limit }
+    ensures ok { OnOk result ((config : Config) (draws : Draws) (boxes : List (Option X))
+        → IsRunnerOf X.may config draws boxes runner.old → (es : List Ev)
+        → RanUpTo X.may config draws boxes (batches_behind runner.old.held (event ∷ es))
+        (batches_behind runner.new.held es) (O.taken stdout.old) (O.taken stdout.new)) }
+    ensures part { (config : Config) (draws : Draws) (boxes : List (Option X))
+        → IsRunnerOf X.may config draws boxes runner.old → (es : List Ev)
+        → TookFirst config draws (MayAt X.may boxes)
+        (batches_behind runner.old.held (event ∷ es)) (O.taken stdout.old) (O.taken stdout.new) }
+    ensures stays { (config : Config) (draws : Draws) (boxes : List (Option X))
+        → IsRunnerOf X.may config draws boxes runner.old
+        → IsRunnerOf X.may config draws boxes runner.new }
+    ensures room { OnOk result (length runner.new.held < batch_limit) }
+    ensures cause { HasCause (O.faults stdout.old) (O.faults stdout.new)
+        (result ≡ Err RunFault.Output) }
+    ensures not_input { ¬ (result ≡ Err RunFault.Input) }
+{
     runner.add(event, stdout)?;
     Ok(())
 }
 
 /// Runs the events that are still held.
-fn finish<X: Asked, O: Sink>(runner: &mut Runner<X>, stdout: &mut O) -> Result<(), RunFault>
+pub(crate) fn finish<X: Asked, O: Sink>(
+    runner: &mut Runner<X>,
+    stdout: &mut O,
+) -> Result<(), RunFault>
     ensures ok { OnOk result ((config : Config) (draws : Draws) (boxes : List (Option X))
         → IsRunnerOf X.may config draws boxes runner.old
         → TookBatches config draws (MayAt X.may boxes) (batches_behind runner.old.held [])

@@ -6,6 +6,7 @@ ghost use Rattle.plugin_graph.specs.Graphs.{boxes_in};
 ghost use Rattle.graph_checks.specs.OwnIds.{HaveOwnIds};
 ghost use Rattle.graph_checks.specs.Plans.{IsPlanOf};
 ghost use Rattle.logstash_top.specs.Given.{given_by, workers};
+ghost use Rattle.logstash_top.specs.Inputs.{input_of};
 ghost use Rattle.logstash_top.specs.Outcomes.{RanAs, RanPlan, RunsBy, FlushedOrUntouched, InputFaultHasCause, OutputFaultHasCause, CompletesUnlessFaulted};
 ghost use Rattle.logstash_top.specs.Runs.{IsUntouched};
 ghost use Rattle.logstash_top.specs.Sinks.{Took, TookInPart, AllFlushed, Faulted};
@@ -14,6 +15,7 @@ ghost use Rattle.logstash_top.specs.Closings.{all_once_more, closes_in};
 ghost use Rattle.logstash_top.specs.Status as spec;
 ghost use Rattle.logstash_top.specs.Status.{IsRefused, status_of, line_of};
 
+use crate::inputs::input_of_config;
 use crate::line::tell;
 use crate::pump::run;
 use crate::run_fault::RunFault;
@@ -24,19 +26,22 @@ use batch_rows::{Closed, OutputCodec, Runner, close_kit, codecs_of_config};
 use config_tree::{Config, Plugin};
 use foreign_parts::{Asked, Stockroom};
 use graph_checks::{Plan, compile};
+use in_lines::LineInput;
 use io_traits::{Clock, Sink, Source};
 use plain_data::{Items, Text};
 use plugin_graph::{Kit, plugin_id};
 use std::alloc::{AllocError, Global};
 use std::sync::Wait;
 
-/// Does what the words of the command line ask for: runs the configuration of `-e`, if it is one that reads lines from
-/// stdin and whose outputs write to stdout or let events go, by any filters. Boxes are drawn from the rack for two
+/// Does what the words of the command line ask for: runs the configuration of `-e`, if its one input is stdin or a
+/// generator and its outputs write to stdout or let events go, by any filters. Boxes are drawn from the rack for two
 /// workers; the kit of one of them is used. At the end the boxes of both are closed, which no clause of this call says; they
 /// don't go back to the rack. `-t` changes nothing here: a test is `test_config`'s, and `which` says what the words are
 /// for. The numbers of workers and of events in a batch have no effect on such a run, and neither have the folders.
 ///
-/// The events of the lines that one read made whole are cut into batches of at most 125, in order. stdout gets, of one
+/// The events of the lines that one read made whole are cut into batches of at most 125, in order; a generator makes 125
+/// events at a poll, or those that are left, and stdin isn't touched then. Each event is made by the codec of the input
+/// and its own settings. A generator without end goes on until a write fails or memory runs out. stdout gets, of one
 /// batch after another, what the configuration has due there: of each output to stdout in the order of the text the
 /// bytes of the events that it sends there, by the codec of the output. Dead events are let go at the end of their batch.
 /// What one read brought is flushed before the next read, and all is flushed before the call returns, unless a fault of
@@ -53,8 +58,8 @@ use std::sync::Wait;
 ///   at the place, or its token at the place opens level 65; unless memory ran out.
 /// - `Status::Refused` comes exactly where it is a configuration that fails a check of `graph_checks::compile` with this
 ///   rack and two workers, with the first fault, unless memory ran out.
-/// - `Status::NotBuilt` comes exactly where it passes these checks and its inputs are other than one stdin without
-///   settings but `id`, or an output is other than stdout and sink, unless memory ran out. At these five nothing was read
+/// - `Status::NotBuilt` comes exactly where it passes these checks and its inputs are other than one stdin or one
+///   generator, or an output is other than stdout and sink, unless memory ran out. At these five nothing was read
 ///   and nothing written to stdout, and no box was drawn.
 /// - `Status::InputFault` and `Status::OutputFault` come only where the count of stdin's, or of stdout's, faults rose in
 ///   this call, or stands at the last value of u64. An output fault names the first output to stdout of the text, and
@@ -134,22 +139,28 @@ fn outcome<R: Wait, I: Source, O: Sink, K: Clock, F: Asked + Closed, B: Stockroo
     let Ok(codecs) = codecs_of_config(alloc, &config) else {
         return Status::NoMemory;
     };
+    let Ok(input) = input_of_config(alloc, &config) else {
+        return Status::NoMemory;
+    };
     match compile(alloc, config, rack, WORKERS) {
-        Ok(plan) => run_plan(rt, alloc, pipeline, plan, codecs, world),
+        Ok(plan) => run_plan(rt, alloc, pipeline, plan, codecs, input, world),
         Err(fault) => refused(pipeline, fault),
     }
 }
 
-/// Runs a plan with the kit of one worker, whose outputs to stdout have these codecs, and closes the boxes of all kits.
+/// Runs a plan with the kit of one worker, whose outputs to stdout have these codecs, over the events of its input, and
+/// closes the boxes of all kits.
 fn run_plan<R: Wait, I: Source, O: Sink, K: Clock, F: Asked + Closed, P: Drop>(
     rt: &R,
     alloc: Global,
     pipeline: Text,
     plan: Plan<F, P>,
     codecs: Items<OutputCodec>,
+    input: LineInput,
     world: &mut ThinWorld<I, O, K>,
 ) -> Status
     requires codecs { codecs ≡ codecs_of plan.config }
+    requires input { input ≡ input_of plan.config }
     ensures may { MayRun pipeline plan.config result }
     ensures ran { (number : P → ℕ) → IsPlanOf number plan.config workers plan
         → HaveOwnIds plan.config
@@ -171,7 +182,7 @@ fn run_plan<R: Wait, I: Source, O: Sink, K: Clock, F: Asked + Closed, P: Drop>(
         return Status::NoMemory;
     };
     let mut runner = Runner::new(graph, kit, codecs);
-    let ran = run(rt, alloc, world, &mut runner);
+    let ran = run(rt, alloc, &input, world, &mut runner);
     let Runner { mut kit, .. } = runner;
     close_kit(&mut kit);
     close_kits(&mut kits);

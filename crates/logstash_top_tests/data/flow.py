@@ -4,17 +4,19 @@ documents. It takes each event through the statements by itself, with everything
 
     flow.py CONFIGURATION <LINES
 
-prints what the configuration of a file writes of lines that one read brings, without `@timestamp` in the objects."""
+prints what the configuration of a file writes of lines that one read brings, or of those that its generator gives, without
+`@timestamp` in the objects."""
 
 import re
 import sys
 from decimal import Decimal
+from itertools import islice
 
 from events import Time, copy, filled, get, json_text
 from filters import applied, time_of
+from inputs import BATCH, Input
 from language import read
 
-BATCH = 125
 NEW_YEAR = time_of(1_704_067_200 * 10**9)
 
 
@@ -143,15 +145,15 @@ class Flow:
         self.sections, self.timed = read(text), timed
         self.outputs = [it for it in outputs_of(self.sections["output"])]
 
-    def event(self, line):
-        original = {"original": line}
-        return {"fields": {"message": line, "@version": "1", "@timestamp": NEW_YEAR, "event": original}, "meta": {}}
+        self.input = Input(self.sections["input"][0], NEW_YEAR)
+        self.generates = self.input.name == "generator"
+        self.generated = enumerate(self.input.lines())
 
-    def batch(self, lines):
-        """What stdout gets of the lines of one batch."""
+    def batch(self, events):
+        """What stdout gets of the events of one batch."""
         sent = {}
-        for line in lines:
-            for event in filtered(self.sections["filter"], self.event(line)):
+        for each in events:
+            for event in filtered(self.sections["filter"], each):
                 try:
                     send(self.sections["output"], event, sent)
                 except Dead:
@@ -165,10 +167,20 @@ class Flow:
 
     def poll(self, lines):
         """What stdout gets of the lines that one read made whole, batch by batch."""
-        return [self.batch(lines[at : at + BATCH]) for at in range(0, len(lines), BATCH)]
+        events = [self.input.event(line) for line in lines]
+        return [self.batch(events[at : at + BATCH]) for at in range(0, len(events), BATCH)]
+
+    def next_batch(self):
+        """What stdout gets of the next poll of a generator; None where there is no further one."""
+        events = [self.input.event(line, Decimal(sequence)) for sequence, line in islice(self.generated, BATCH)]
+        return self.batch(events) if events else None
 
 
 if __name__ == "__main__":
     with open(sys.argv[1], encoding="utf-8") as file:
         flow = Flow(file.read(), timed=False)
-    sys.stdout.write("".join(flow.poll(sys.stdin.read().splitlines())))
+    if flow.generates:
+        while (batch := flow.next_batch()) is not None:
+            sys.stdout.write(batch)
+    else:
+        sys.stdout.write("".join(flow.poll(sys.stdin.read().splitlines())))

@@ -11,7 +11,8 @@ from decimal import Decimal
 
 from configurations import CONFIGURATIONS, EVERY, SEVERAL
 from events import json_text
-from flow import BATCH, Flow
+from flow import Flow
+from inputs import BATCH, next_number, sample
 
 ROWS = {}
 LIMIT, ROOM, MANY = 1_048_576, 65_536, 8
@@ -19,7 +20,7 @@ BUILT = "input { stdin {} } output { stdout { codec => json_lines } }"
 PLAIN = "input { stdin {} } output { stdout {} }"
 LF = 'stdout { codec => line { format => "%{message}" } }'
 # The tables whose runs aren't compared with the rows of their lines.
-CONFIGURED = ["worked", "configurations", "failing", "named", "refused"]
+CONFIGURED = ["worked", "configurations", "inputs", "failing", "named", "refused"]
 
 
 class Failed(Exception):
@@ -117,6 +118,8 @@ def row_of(line, **fields):
 class Rows:
     """What a configuration writes of each line: its row, or what is said by hand."""
 
+    generates = False
+
     def __init__(self, said=None):
         self.said = said
 
@@ -124,6 +127,18 @@ class Rows:
         """What stdout gets of the lines that one read made whole, batch by batch."""
         rows = [row_of(line) if self.said is None else self.said[line] for line in lines]
         return ["".join(rows[at : at + BATCH]) for at in range(0, len(rows), BATCH)]
+
+
+class Given:
+    """What a configuration writes whose generator gives all its events at one poll, said by hand."""
+
+    generates = True
+
+    def __init__(self, *batches):
+        self.batches = list(batches)
+
+    def next_batch(self):
+        return self.batches.pop(0) if self.batches else None
 
 
 class Lines:
@@ -158,7 +173,10 @@ class Run:
         self.lines, self.pauses, self.defined = Lines(), 0, b""
 
     def write(self, lines, flushes):
-        batches = [batch.encode() for batch in self.flow.poll([text_of(line) for line in lines])]
+        self.put(self.flow.poll([text_of(line) for line in lines]), flushes)
+
+    def put(self, batches, flushes):
+        batches = [batch.encode() for batch in batches]
         self.defined += b"".join(batches)
         try:
             for batch in batches:
@@ -170,6 +188,11 @@ class Run:
 
     def poll(self):
         """Gives whether there is more."""
+        if self.flow.generates:
+            batch = self.flow.next_batch()
+            if batch is not None:
+                self.put([batch], True)
+            return batch is not None
         if self.stdin.call():
             self.pauses += 1
         elif self.data:
@@ -343,7 +366,7 @@ def words_run():
 
 def texts_refused():
     for text, reason in [
-        ("input { generator { count => 1 } } output { stdout {} }", "not built"),
+        ("input { tcp { port => 1 } } output { stdout {} }", "not built"),
         ("", "no input"),
         ("input { stdin {} } output { stdout {} } }", "syntax at 40"),
         ("input { stdin {} ", "syntax at 17"),
@@ -359,15 +382,12 @@ def texts_refused():
 
 
 NOT_BUILT = [
-    "input { stdin { codec => json } } output { stdout {} }",
-    'input { stdin { type => "t" } } output { stdout {} }',
-    'input { stdin { id => "a" tags => ["t"] } } output { sink {} }',
-    'input { stdin { add_field => { "a" => "b" } } } output { stdout {} }',
-    'input { generator { message => "x" count => 2 } } output { stdout {} }',
     'input { file { path => "a" } } output { stdout {} }',
     "input { tcp { port => 5000 } } output { stdout {} }",
     'input { pipeline { address => "q" } } output { stdout {} }',
     "input { stdin {} generator { count => 1 } } output { stdout {} }",
+    "input { generator { count => 1 } generator { count => 1 } } output { stdout {} }",
+    'input { generator { count => 1 } } output { file { path => "x" } }',
     'input { stdin {} } output { file { path => "x" } }',
     'input { stdin {} } output { stdout {} if [a] { pipeline { send_to => ["q"] } } }',
     'input { stdin {} } filter { drop {} } output { sink {} file { path => "x" codec => line } }',
@@ -382,6 +402,9 @@ REFUSED = [
     ("input { stdin {} } filter { clone {} } output { stdout {} }", "filter_1: missing clones"),
     ('input { stdin {} } filter { drop {} mutate { nope => 1 id => "own" } } output { stdout {} }', "own: unknown nope"),
     ("input { stdin { type => 5 } } output { stdout {} }", "input_1: wrong kind type"),
+    ("input { stdin { codec => dots } } output { stdout {} }", "input_1: wrong kind codec"),
+    ("input { generator { lines => [] } } output { stdout {} }", "input_1: wrong kind lines"),
+    ('input { generator { id => "own" count => -1 } } output { stdout {} }', "own: wrong kind count"),
     ("input { stdin {} } output { sink {} stdout { codec => dots } }", "output_2: wrong kind codec"),
     ("input { stdin {} } output { stdout { codec => json { format => x } } }", "output_1: unknown format"),
     ('input { stdin {} } filter { grok { match => { "message" => "(" } } } output { stdout {} }', "filter_1: bad pattern match"),
@@ -471,6 +494,11 @@ def worked():
             run("worked", ["-e", text], "".join(f"{line}\n" for line in said).encode(), read=read, flow=Rows(said))
     run("worked", ["-e", f"input {{ stdin {{}} }} output {{ {LF} }}"], b"a\nb", read=1, flow=Rows({"a": "a\n", "b": "b\n"}))
     run("worked", ["-e", f"input {{ stdin {{}} }} output {{ {jl} }}"], b"", flow=Rows({}))
+    text = f"input {{ stdin {{ codec => json }} }} filter {{ if [n] > 5 {{ drop {{}} }} }} output {{ {jl} }}"
+    run("worked", ["-e", text], b'{"n":"7"}\n', flow=Rows({'{"n":"7"}': ""}))
+    text = f'input {{ generator {{ message => "x" count => 2 }} }} output {{ {jl} }}'
+    numbered = [row_of("x", event={"original": "x", "sequence": number}) for number in (0, 1)]
+    run("worked", ["-e", text], b"", flow=Given("".join(numbered)))
 
 
 def configurations():
@@ -480,6 +508,56 @@ def configurations():
     for count in (0, 1, 124, 125, 126, 250, 251, 375):
         text = f"input {{ stdin {{}} }} output {{ {LF} stdout {{ codec => plain }} sink {{}} }}"
         run("configurations", ["-e", text], "".join(lines.splitlines(True)[:count]).encode(), flow=Flow(text))
+
+
+TAKEN = r"""{"user":"ann","took":12.50,"tags":["a"],"type":"own","inner":{"k":[1,null]}}
+{"@timestamp":"2024-02-29T12:30:00.250Z","tags":"b","@metadata":{"k":"v"},"event":{"original":"mine","id":3}}
+{"@timestamp":"soon","tags":5,"type":null,"new":"here","message":"m"}
+{"event":"mine","@version":"7"}
+{}
+[1,2]
+7
+"text"
+null
+{"user":
+plain text
+
+"""
+EACH = 'output { stdout { } stdout { codec => line { format => "%{type} %{tags} %{new} %{[@metadata][k]}" } } }'
+
+
+def inputs():
+    """Lines by each codec, with the settings that every input has, and generators."""
+    data = TAKEN.encode() + b'{"a":"\xff"}\n\xe2\x82{}\n{"a":1}'
+    for own in (
+        "",
+        'type => "t"',
+        'tags => ["a", "%{user}"]',
+        'add_field => { "new" => "%{user}/%{type}" "[inner][k]" => "x" "[user][deep]" => "y" }',
+        'tags => ["%{new}", "b"] add_field => { "new" => "%{type}" } type => "%{user}" id => "all"',
+    ):
+        for codec in ("", "codec => plain", "codec => line", "codec => json", "codec => json_lines { }"):
+            text = f"input {{ stdin {{ {codec} {own} }} }} {EACH}"
+            run("inputs", ["-e", text], data, flow=Flow(text))
+    for settings in (
+        "count => 1",
+        'message => "x" count => 3',
+        'lines => ["a", "b", "c"] count => 2 message => "not this"',
+        'lines => "one" count => 2 codec => line',
+        "sample => 1 count => 7",
+        'sample => 9223372036854775807 count => 3 lines => ["a", "b"] codec => json',
+        """lines => ['{"a":1}', '{"event":{"sequence":"mine"}}', '{"event":7}', '[', '{"type":"own","tags":["b"]}'] count => 1 codec => json type => "t" tags => ["a", "%{[event][sequence]}"]""",
+        'message => "m" count => 2 add_field => { "new" => "%{[event][sequence]}" "[event][sequence]" => "%{message}" }',
+    ):
+        text = f"input {{ generator {{ {settings} }} }} {EACH}"
+        run("inputs", ["-e", text], b"not read\n", fails=(0,), flow=Flow(text))
+    for settings in ("count => 124", "count => 125", "count => 126", 'lines => ["a", "b", "c"] count => 42', "sample => 5 count => 250"):
+        text = f'input {{ generator {{ {settings} }} }} output {{ stdout {{ codec => line {{ format => "%{{[event][sequence]}} " }} }} }}'
+        run("inputs", ["-e", text], b"", flow=Flow(text))
+    for settings in ("", 'lines => ["a", "b"] count => 0', "sample => 3", "count => 300"):
+        text = f'input {{ generator {{ {settings} }} }} output {{ stdout {{ codec => line {{ format => "%{{[event][sequence]}} " }} }} }}'
+        for number in range(5):
+            run("inputs", ["-e", text], b"", breaks=(number,), flow=Flow(text))
 
 
 def failing():
@@ -682,22 +760,12 @@ def decoded():
     add_decoded("line", b"\xe2\x82", message("\ufffd\ufffd"))
 
 
-def sample(number):
-    upper = number >> 33
-    return (
-        f"user=u{upper % 100} took={upper % 1000}",
-        f'{{"user":"u{upper % 100}","took":{upper % 1000}}}',
-        f'10.0.0.{upper % 250} - - [10/Oct/2000:13:55:36 +0000] "GET /p{upper % 1000} HTTP/1.1" 200 {upper % 10000}',
-        f"junk {upper}",
-    )[upper % 4]
-
-
 def samples():
     for start in (0, 1, 2, 20000, 2**64 - 1):
         for count in (0, 1, 2, 3, 4, 5, 6, 7, 8, 100):
             number = start
             for _ in range(count):
-                number = (number * 6364136223846793005 + 1442695040888963407) % 2**64
+                number = next_number(number)
             ROWS.setdefault("samples", []).append((f"{start} {count}", sample(number)))
 
 
@@ -714,6 +782,7 @@ for table in (
     defined,
     worked,
     configurations,
+    inputs,
     failing,
     named,
     tests,

@@ -56,7 +56,7 @@ enum Table {
     Paths,
 }
 
-const TABLES: [(&str, Table); 23] = [
+const TABLES: [(&str, Table); 24] = [
     ("texts", Table::Runs),
     ("lines", Table::Runs),
     ("words_refused", Table::Runs),
@@ -69,6 +69,7 @@ const TABLES: [(&str, Table); 23] = [
     ("defined", Table::Runs),
     ("worked", Table::Configured),
     ("configurations", Table::Configured),
+    ("inputs", Table::Configured),
     ("failing", Table::Configured),
     ("named", Table::Configured),
     ("tests", Table::Tests),

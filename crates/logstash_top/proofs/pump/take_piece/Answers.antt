@@ -9,11 +9,11 @@ use Rattle.logstash_top.proofs.pump.take_piece.Goals as goal
 
 pub returns-in_err-feed-clause-part : goal.returns-in_err-feed-clause-part
 returns-in_err-feed-clause-part g c config draws boxes runner =
-    none_took config draws (MayAt g.X.Asked.may boxes) (batches_of (events_left c.args.moment (fed c.args.reader.now c.args.bytes.now))) (g.O.Sink.taken c.args.stdout.now)
+    none_took config draws (MayAt g.X.Asked.may boxes) (batches_of (events_left c.args.settings.now c.args.moment (fed c.args.reader.now c.args.bytes.now))) (g.O.Sink.taken c.args.stdout.now)
 
 pub returns-in_err-run_lines-clause-part : goal.returns-in_err-run_lines-clause-part
 returns-in_err-run_lines-clause-part g c config draws boxes runner =
-    subst (λ r. TookFirst config draws (MayAt g.X.Asked.may boxes) (batches_of (events_left c.args.moment r)) (g.O.Sink.taken c.args.stdout.now) (g.O.Sink.taken c.run_lines.new.stdout))
+    subst (λ r. TookFirst config draws (MayAt g.X.Asked.may boxes) (batches_of (events_left c.args.settings.now c.args.moment r)) (g.O.Sink.taken c.args.stdout.now) (g.O.Sink.taken c.run_lines.new.stdout))
     c.in_ok-feed.ensures.ok (c.run_lines.ensures.part config draws boxes runner)
 
 pub returns-in_err-flush-clause-part : goal.returns-in_err-flush-clause-part
@@ -21,21 +21,21 @@ returns-in_err-flush-clause-part g c config draws boxes runner =
     let may = MayAt g.X.Asked.may boxes in
     let a = g.O.Sink.taken c.args.stdout.now in
     let b = g.O.Sink.taken c.run_lines.new.stdout in
-    first_still config draws may (batches_of (events_left c.args.moment (fed c.args.reader.now c.args.bytes.now))) a b (g.O.Sink.taken c.flush.new.self)
-    (subst (λ r. TookFirst config draws may (batches_of (events_left c.args.moment r)) a b) c.in_ok-feed.ensures.ok (c.run_lines.ensures.part config draws boxes runner)) c.flush.ensures.taken
+    first_still config draws may (batches_of (events_left c.args.settings.now c.args.moment (fed c.args.reader.now c.args.bytes.now))) a b (g.O.Sink.taken c.flush.new.self)
+    (subst (λ r. TookFirst config draws may (batches_of (events_left c.args.settings.now c.args.moment r)) a b) c.in_ok-feed.ensures.ok (c.run_lines.ensures.part config draws boxes runner)) c.flush.ensures.taken
 
 pub returns-clause-ok : goal.returns-clause-ok
 returns-clause-ok g c config draws boxes runner =
     let may = MayAt g.X.Asked.may boxes in
     let a = g.O.Sink.taken c.args.stdout.now in
     let b = g.O.Sink.taken c.run_lines.new.stdout in
-    batches_still config draws may (batches_of (events_left c.args.moment (fed c.args.reader.now c.args.bytes.now))) a b (g.O.Sink.taken c.flush.new.self)
-    (subst (λ r. TookBatches config draws may (batches_of (events_left c.args.moment r)) a b) c.in_ok-feed.ensures.ok (c.in_ok-run_lines.ensures.ok config draws boxes runner)) c.flush.ensures.taken
+    batches_still config draws may (batches_of (events_left c.args.settings.now c.args.moment (fed c.args.reader.now c.args.bytes.now))) a b (g.O.Sink.taken c.flush.new.self)
+    (subst (λ r. TookBatches config draws may (batches_of (events_left c.args.settings.now c.args.moment r)) a b) c.in_ok-feed.ensures.ok (c.in_ok-run_lines.ensures.ok config draws boxes runner)) c.flush.ensures.taken
 
 pub returns-clause-part : goal.returns-clause-part
 returns-clause-part g c config draws boxes runner =
     let may = MayAt g.X.Asked.may boxes in
     let a = g.O.Sink.taken c.args.stdout.now in
     let b = g.O.Sink.taken c.run_lines.new.stdout in
-    first_still config draws may (batches_of (events_left c.args.moment (fed c.args.reader.now c.args.bytes.now))) a b (g.O.Sink.taken c.flush.new.self)
-    (subst (λ r. TookFirst config draws may (batches_of (events_left c.args.moment r)) a b) c.in_ok-feed.ensures.ok (c.run_lines.ensures.part config draws boxes runner)) c.flush.ensures.taken
+    first_still config draws may (batches_of (events_left c.args.settings.now c.args.moment (fed c.args.reader.now c.args.bytes.now))) a b (g.O.Sink.taken c.flush.new.self)
+    (subst (λ r. TookFirst config draws may (batches_of (events_left c.args.settings.now c.args.moment r)) a b) c.in_ok-feed.ensures.ok (c.run_lines.ensures.part config draws boxes runner)) c.flush.ensures.taken

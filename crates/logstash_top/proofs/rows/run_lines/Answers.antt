@@ -12,7 +12,7 @@ pub loop-line-init : goal.loop-line-init
 loop-line-init g c = record {
   room = omega (arith, ap length c.requires.held);
   stays = λ config draws boxes runner. runner;
-  ran = λ config draws boxes runner. up_begins g.X.Asked.may config draws boxes c.args.runner.now.held (events_left c.args.moment c.args.reader.now) (g.O.Sink.taken c.args.stdout.now) c.requires.held;
+  ran = λ config draws boxes runner. up_begins g.X.Asked.may config draws boxes c.args.runner.now.held (events_left c.args.settings.now c.args.moment c.args.reader.now) (g.O.Sink.taken c.args.stdout.now) c.requires.held;
   same = refl;
   rest = λ is. refl;
   ended = refl;
@@ -32,16 +32,16 @@ loop-line-preserved g c =
     let b = g.O.Sink.taken c.loop-line.stdout in
     let d = g.O.Sink.taken c.add_line.new.stdout in
     let moment = c.args.moment in
-    let later = batches_behind c.add_line.new.runner.held (events_left moment c.next_line.new.self) in
-    let next = next_events moment c.loop-line.reader c.next_line.new.self (string_bytes c.in-Ok-Some.line) c.as_str.result.now e.lines c.as_str.ensures.value in
+    let later = batches_behind c.add_line.new.runner.held (events_left c.args.settings.now moment c.next_line.new.self) in
+    let next = next_events c.args.settings.now moment c.loop-line.reader c.next_line.new.self (string_bytes c.in-Ok-Some.line) c.as_str.result.now e.lines c.as_str.ensures.value in
     record {
       room = c.in-Ok.ensures.room;
       stays = λ config draws boxes runner. c.in-Ok.ensures.stays config draws boxes (i.stays config draws boxes runner);
       ran = λ config draws boxes runner.
-          up_then g.X.Asked.may config draws boxes (batches_of (events_left moment c.args.reader.now)) (batches_behind c.loop-line.runner.held (events_left moment c.loop-line.reader)) later a b d
+          up_then g.X.Asked.may config draws boxes (batches_of (events_left c.args.settings.now moment c.args.reader.now)) (batches_behind c.loop-line.runner.held (events_left c.args.settings.now moment c.loop-line.reader)) later a b d
           (i.ran config draws boxes runner)
           (subst (λ es. RanUpTo g.X.Asked.may config draws boxes (batches_behind c.loop-line.runner.held es) later b d) next
-          (c.in-Ok.ensures.ok config draws boxes (i.stays config draws boxes runner) (events_left moment c.next_line.new.self)));
+          (c.in-Ok.ensures.ok config draws boxes (i.stays config draws boxes runner) (events_left c.args.settings.now moment c.next_line.new.self)));
       same = c.in-Ok.ensures.cause.same (λ is. cc) ∙ i.same;
       rest = λ is. e.rest (i.ended ∙ is) ∙ i.rest is;
       ended = e.ended ∙ i.ended;
@@ -56,19 +56,19 @@ returns-in-Err-add_line-clause-part g c config draws boxes runner =
     let b = g.O.Sink.taken c.loop-line.stdout in
     let d = g.O.Sink.taken c.add_line.new.stdout in
     let moment = c.args.moment in
-    let next = next_events moment c.loop-line.reader c.next_line.new.self (string_bytes c.in-Ok-Some.line) c.as_str.result.now e.lines c.as_str.ensures.value in
-    up_first g.X.Asked.may config draws boxes (batches_of (events_left moment c.args.reader.now)) (batches_behind c.loop-line.runner.held (events_left moment c.loop-line.reader)) a b d
+    let next = next_events c.args.settings.now moment c.loop-line.reader c.next_line.new.self (string_bytes c.in-Ok-Some.line) c.as_str.result.now e.lines c.as_str.ensures.value in
+    up_first g.X.Asked.may config draws boxes (batches_of (events_left c.args.settings.now moment c.args.reader.now)) (batches_behind c.loop-line.runner.held (events_left c.args.settings.now moment c.loop-line.reader)) a b d
     (i.ran config draws boxes runner)
     (subst (λ es. TookFirst config draws (MayAt g.X.Asked.may boxes) (batches_behind c.loop-line.runner.held es) b d) next
-    (c.in-Err-add_line.ensures.part config draws boxes (i.stays config draws boxes runner) (events_left moment c.next_line.new.self)))
+    (c.in-Err-add_line.ensures.part config draws boxes (i.stays config draws boxes runner) (events_left c.args.settings.now moment c.next_line.new.self)))
 
 pub returns-in-Err-clause-part : goal.returns-in-Err-clause-part
 returns-in-Err-clause-part g c config draws boxes runner =
     let i = c.loop-line.invariant in
     let a = g.O.Sink.taken c.args.stdout.now in
     let b = g.O.Sink.taken c.loop-line.stdout in
-    let mid = batches_behind c.loop-line.runner.held (events_left c.args.moment c.loop-line.reader) in
-    up_first g.X.Asked.may config draws boxes (batches_of (events_left c.args.moment c.args.reader.now)) mid a b b (i.ran config draws boxes runner) (none_took config draws (MayAt g.X.Asked.may boxes) mid b)
+    let mid = batches_behind c.loop-line.runner.held (events_left c.args.settings.now c.args.moment c.loop-line.reader) in
+    up_first g.X.Asked.may config draws boxes (batches_of (events_left c.args.settings.now c.args.moment c.args.reader.now)) mid a b b (i.ran config draws boxes runner) (none_took config draws (MayAt g.X.Asked.may boxes) mid b)
 
 pub returns-in-Ok-None-clause-ok : goal.returns-in-Ok-None-clause-ok
 returns-in-Ok-None-clause-ok g c =
@@ -77,11 +77,11 @@ returns-in-Ok-None-clause-ok g c =
     let a = g.O.Sink.taken c.args.stdout.now in
     let b = g.O.Sink.taken c.loop-line.stdout in
     let d = g.O.Sink.taken c.finish.new.stdout in
-    let all = batches_of (events_left c.args.moment c.args.reader.now) in
+    let all = batches_of (events_left c.args.settings.now c.args.moment c.args.reader.now) in
     let held = c.loop-line.runner.held in
     on_ok_as c.finish.result (λ took config draws boxes runner.
     up_end g.X.Asked.may config draws boxes all (batches_behind held []) a b d
-    (subst (λ es. RanUpTo g.X.Asked.may config draws boxes all (batches_behind held es) a b) (ap (events_at c.args.moment) (e.none refl).0) (i.ran config draws boxes runner))
+    (subst (λ es. RanUpTo g.X.Asked.may config draws boxes all (batches_behind held es) a b) (ap (events_at c.args.settings.now c.args.moment) (e.none refl).0) (i.ran config draws boxes runner))
     (took config draws boxes (i.stays config draws boxes runner)))
     c.finish.ensures.ok
 
@@ -92,10 +92,10 @@ returns-in-Ok-None-clause-part g c config draws boxes runner =
     let a = g.O.Sink.taken c.args.stdout.now in
     let b = g.O.Sink.taken c.loop-line.stdout in
     let d = g.O.Sink.taken c.finish.new.stdout in
-    let all = batches_of (events_left c.args.moment c.args.reader.now) in
+    let all = batches_of (events_left c.args.settings.now c.args.moment c.args.reader.now) in
     let held = c.loop-line.runner.held in
     up_first g.X.Asked.may config draws boxes all (batches_behind held []) a b d
-    (subst (λ es. RanUpTo g.X.Asked.may config draws boxes all (batches_behind held es) a b) (ap (events_at c.args.moment) (e.none refl).0) (i.ran config draws boxes runner))
+    (subst (λ es. RanUpTo g.X.Asked.may config draws boxes all (batches_behind held es) a b) (ap (events_at c.args.settings.now c.args.moment) (e.none refl).0) (i.ran config draws boxes runner))
     (c.finish.ensures.part config draws boxes (i.stays config draws boxes runner))
 
 pub returns-in-Err-add_line-clause-stays : goal.returns-in-Err-add_line-clause-stays
