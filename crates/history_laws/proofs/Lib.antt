@@ -8,4 +8,5 @@ pub mod Telling
 pub mod Files
 pub mod DeadLetters
 pub mod Rejections
+pub mod Giving
 pub mod Standing

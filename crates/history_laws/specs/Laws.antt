@@ -1,9 +1,10 @@
 -- What holds of every legal history.
-use Rattle.std.specs.Prelude.{◌≡◌, ◌⊎◌, ◌≤◌, ℕ, List, [], ◌∷◌, ◌++◌, Some}
+use Rattle.std.specs.Prelude.{◌≡◌, ◌⊎◌, ◌≤◌, ℕ, List, [], ◌∷◌, ◌++◌, Some, ⊤}
 use Rattle.event_tree.specs.Events.{Ev}
 use Rattle.event_tree.specs.declared.lists.DeadPart.{DeadPart}
 use Rattle.settings_lines.specs.declared.settings.Policy.{Policy}
 use Rattle.foreign_parts.specs.declared.filter.Verdict.{Verdict}
+use Rattle.foreign_parts.specs.Delivering.{taken}
 use Rattle.foreign_parts.specs.declared.output.Fate.{Fate}
 use Rattle.foreign_parts.specs.declared.place.Place.{Place}
 use Rattle.foreign_parts.specs.declared.place.Place.TheVariants as place
@@ -12,7 +13,7 @@ use Rattle.event_flow.specs.Meaning as due
 use Rattle.queue_laws.specs.Found.{Found}
 use Rattle.dead_letters.specs.Found.{Held}
 use Rattle.dead_letters.specs.declared.shedding.Shedding.{Shedding}
-use Rattle.history_laws.specs.Contents.{Bytes, Appended, FileHolds, DeadHolds}
+use Rattle.history_laws.specs.Contents.{Bytes, Appended, FileHolds, DeadHolds, printed, given}
 use Rattle.history_laws.specs.Entries.{Entry, Accept, Mark, Assure, Read, Back, Shed, Deliver, Letters, Ack, Purge, Adopt, Opened}
 use Rattle.history_laws.specs.Legal.{rejections, Legal_at, Legal, Fits, IsFound}
 use Rattle.history_laws.specs.Lists.{IsIn}
@@ -156,3 +157,20 @@ RejectionsWereAppended =
     (makes : Makes) (bytes : Bytes) (base content : Held) (told : List Entry) (plan : Plan) (id : List ℕ) (at : Place) (events : List Ev) → Legal makes start told
     → DeadHolds makes bytes start base told content → (w : WasTold makes start told plan (due.Events id at events))
     → (rejections plan.config id (fates_of w.entry) events ≡ []) ⊎ WereAppended (limits_in told) base content (rejections plan.config id (fates_of w.entry) events)
+
+-- the pipeline wasn't opened again
+abbrev pub NoOpening : List Entry → Type 0
+NoOpening [] = ⊤
+NoOpening (Opened rows limit policy ∷ told) = ⊥
+NoOpening (e ∷ told) = NoOpening told
+
+-- What was told of stdout and of a box since the pipeline was last opened stands in what it was given: the bytes of the events, and the events that the box took.
+abbrev pub RunsGiveToStdout : Type 0
+RunsGiveToStdout =
+    (makes : Makes) (bytes : Bytes) (told : List Entry) (plan : Plan) (id : List ℕ) (events : List Ev) → (w : WasTold makes start told plan (due.Events id place.Stdout events)) → NoOpening w.rest
+    → (front : List ℕ) × (back : List ℕ) × (printed makes bytes start [] told ≡ front ++ bytes plan.config id events ++ back)
+
+abbrev pub RunsGiveToBoxes : Type 0
+RunsGiveToBoxes =
+    (makes : Makes) (number : ℕ) (told : List Entry) (plan : Plan) (id : List ℕ) (events : List Ev) → (w : WasTold makes start told plan (due.Events id (place.Foreign number) events))
+    → NoOpening w.rest → (front : List Ev) × (back : List Ev) × (given number [] told ≡ front ++ taken (fates_of w.entry) events ++ back)

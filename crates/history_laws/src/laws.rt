@@ -1,5 +1,5 @@
 //! What holds of histories. Each function here does nothing: its clauses are theorems.
-ghost use Rattle.history_laws.specs.Laws.{PrefixesAreLegal, AcknowledgedWereDelivered, AssuredStand, OpeningsFit, FoundAreUnread, DeliveriesWereTold, FilesHoldDeliveries, LettersWereAppended, RejectionsWereAppended};
+ghost use Rattle.history_laws.specs.Laws.{PrefixesAreLegal, AcknowledgedWereDelivered, AssuredStand, OpeningsFit, FoundAreUnread, DeliveriesWereTold, FilesHoldDeliveries, LettersWereAppended, RejectionsWereAppended, RunsGiveToStdout, RunsGiveToBoxes};
 ghost use Rattle.history_laws.specs.Sound.{AcknowledgedEventsStand};
 
 /// A history that is legal was legal at each of its steps.
@@ -39,6 +39,12 @@ pub fn files_hold_what_was_told()
 pub fn letters_were_appended()
     ensures due { LettersWereAppended }
     ensures rejected { RejectionsWereAppended }
+{}
+
+/// What was told of stdout or of a box, and no opening came behind it, stands in what it was given.
+pub fn runs_give_what_was_told()
+    ensures printed { RunsGiveToStdout }
+    ensures given { RunsGiveToBoxes }
 {}
 
 /// An event that was acknowledged to its input stands unacknowledged in its queue, or all that was due of it
