@@ -4,12 +4,13 @@ use crate::boxes::refusing;
 use crate::plans::add_run;
 use config_parse::parse;
 use config_tree::Config;
-use foreign_parts::Rack;
-use graph_checks::{check, compile, give_back};
-use std::alloc::AllocError;
+use foreign_parts::{LinkTaker, Rack};
+use graph_checks::{GraphFault, Stockroom, check, compile, give_back};
+use pipeline_bus::Link;
+use std::alloc::{AllocError, Global};
 
 /// Adds the answer of a row: `BOXES and WORKERS: CONFIGURATION`. The boxes are written `filter NAME REFUSES` or
-/// `output NAME REFUSES`, with commas between them.
+/// `output NAME REFUSES`, and links `link ADDRESS`, with commas between them.
 pub fn add_answer(to: &mut String, row: &str, is_compiled: bool) -> Result<(), AllocError> {
     let (given, text) = row.split_once(": ").unwrap_or(("", row));
     match parse(*to.allocator(), text) {
@@ -19,7 +20,8 @@ pub fn add_answer(to: &mut String, row: &str, is_compiled: bool) -> Result<(), A
 }
 
 /// Adds the first fault. Where the configuration is to be compiled, it adds too how many boxes named `tagger` are left
-/// behind a refusal, or once the plan was given back, and what comes of an event in each kit of a plan that is made then.
+/// behind a refusal, or once the plan was given back, what comes of an event in each kit of a plan that is made then, the
+/// links of that plan, and which links lie in the rack then.
 ///
 /// The rack is made where it is used: what hands on boxes that it makes itself has no contract that says something.
 fn add_checked(
@@ -36,6 +38,7 @@ fn add_checked(
         match kind {
             "filter" => rack.add_filter(name, refusing(alloc, refuses)?)?,
             "output" if name.len() <= 255 => rack.add_output(name, refusing(alloc, refuses)?)?,
+            "link" if !rack.knows_link(name) => rack.add_link(name, taker_of_link(alloc)?)?,
             _ => {}
         }
     }
@@ -46,15 +49,57 @@ fn add_checked(
             Err(fault) => write!(to, "{fault}"),
         };
     }
-    match compile(alloc, config.copy()?, &mut rack, workers) {
-        Ok(plan) => give_back(plan, &mut rack),
+    match make_and_give_back(alloc, config.copy()?, &mut rack, workers) {
+        Ok(()) => {}
         Err(fault) => write!(to, "{fault}; ")?,
     }
     write!(to, "{} left", rack.left("tagger"))?;
     match compile(alloc, config.copy()?, &mut rack, workers) {
-        Ok(plan) => add_run(to, plan),
-        Err(_) => Ok(()),
+        Ok(plan) => add_run(to, plan)?,
+        Err(_) => {}
     }
+    add_links_that_lie(to, boxes, &mut rack)
+}
+
+/// Makes a plan and gives it back.
+fn make_and_give_back<B: Stockroom>(
+    alloc: Global,
+    config: Config,
+    rack: &mut B,
+    workers: u32,
+) -> Result<(), GraphFault> {
+    let plan = compile(alloc, config, rack, workers)?;
+    give_back(plan, rack);
+    Ok(())
+}
+
+/// The taking end of a link on which nothing is sent.
+fn taker_of_link(alloc: Global) -> Result<LinkTaker, AllocError> {
+    let (_sender, taker) = Link::pair(alloc)?;
+    Ok(taker)
+}
+
+fn add_links_that_lie<B: Stockroom>(
+    to: &mut String,
+    boxes: &str,
+    rack: &mut B,
+) -> Result<(), AllocError> {
+    let mut is_given = false;
+    let mut lies = false;
+    for one in boxes.split(", ") {
+        let (kind, address, _) = words_of(one);
+        if kind == "link" {
+            is_given = true;
+            if rack.take_link(address).is_some() {
+                lies = true;
+                write!(to, "; link {address} lies")?;
+            }
+        }
+    }
+    if is_given && !lies {
+        to.push_str("; no link lies")?;
+    }
+    Ok(())
 }
 
 /// What a box is, its name, and the setting that it refuses.

@@ -9,7 +9,8 @@
 //! - `FILTER` alone: whether its settings are read, or why they are refused.
 //! - `BOXES: CONFIGURATION` or `BOXES and WORKERS: CONFIGURATION`, in the tables of `CHECKS`. The boxes that are handed
 //!   in are written `filter NAME REFUSES` or `output NAME REFUSES`, with commas between them, or as `none`: a box
-//!   refuses the setting of the one name, if one is written. There are two workers where no number stands.
+//!   refuses the setting of the one name, if one is written. A link is written `link ADDRESS`. There are two workers where
+//!   no number stands.
 //! - The same in the table `plans`, where the configuration is compiled to a plan, which is given back, and then compiled
 //!   again and run.
 //! - `CONFIGURATION on EVENT`, with any number of further events behind ` and `, in the table `passages`: what becomes of

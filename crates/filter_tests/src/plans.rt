@@ -7,11 +7,19 @@ use graph_checks::{Drawn, Plan};
 use plugin_graph::{Graph, Kit, run};
 use std::alloc::AllocError;
 
-/// Adds what comes of an event in each kit of a plan.
+/// Adds what comes of an event in each kit of a plan, and the addresses of its links.
 pub fn add_run<F: Asked, O: Drop>(to: &mut String, plan: Plan<F, O>) -> Result<(), AllocError> {
-    let Plan { graph, kits, .. } = plan;
+    let Plan {
+        graph,
+        kits,
+        links,
+        ..
+    } = plan;
     for kit in kits {
         add_passage(to, &graph, kit)?;
+    }
+    for (address, _taker) in links {
+        write!(to, "; link {}", address.as_str())?;
     }
     Ok(())
 }

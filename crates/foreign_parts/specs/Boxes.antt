@@ -4,6 +4,7 @@ use Rattle.config_tree.specs.Joining.{Entries}
 use Rattle.config_tree.specs.declared.fault.SettingFault.{SettingFault}
 use Rattle.foreign_parts.specs.Stocks.{Stock}
 use Rattle.foreign_parts.specs.declared.boxes.Kind.{Kind}
+use Rattle.foreign_parts.specs.declared.links.LinkPlace.{LinkPlace}
 use Rattle.foreign_parts.specs.declared.boxes.Kind.TheVariants as kind
 
 -- what boxes refuse, each by its place behind its name
@@ -16,7 +17,7 @@ pub record Stand : Type 0 where
   pub refusals : Refusals
 
 -- what stands in a rack is left as it was
-pub record Keeps {S : Type 0} (stand : S → Kind → Stand) (links : S → List (List ℕ)) (old new : S) : Type 0 where
+pub record Keeps {S : Type 0} (stand : S → Kind → Stand) (links : S → List LinkPlace) (old new : S) : Type 0 where
   pub stands : (k : Kind) → stand new k ≡ stand old k
   pub links_stand : links new ≡ links old
 

@@ -2,6 +2,7 @@
 use Rattle.std.specs.Prelude.{ℕ, List}
 use Rattle.foreign_parts.specs.Stocks.{Stock}
 use Rattle.foreign_parts.specs.Shelves.{stocks, refusals}
+use Rattle.foreign_parts.specs.declared.links.LinkPlace.{LinkPlace}
 use Rattle.foreign_parts.specs.declared.rack.Rack.{Rack}
 use Rattle.foreign_parts.specs.declared.plugged.PluggedFilter.{PluggedFilter}
 use Rattle.foreign_parts.specs.declared.plugged.PluggedOutput.{PluggedOutput}
@@ -11,6 +12,10 @@ filters_of r = stocks (λ p. p.number) r.filters.items
 
 abbrev pub outputs_of : {u v w x : _} → Rack u v w x → List Stock
 outputs_of r = stocks (λ p. p.number) r.outputs.items
+
+-- the places of links
+abbrev pub links_of : {u v w x : _} → Rack u v w x → List LinkPlace
+links_of r = r.links.items
 
 -- how many boxes were added so far, which is the number of the next
 abbrev pub given_of : {u v w x : _} → Rack u v w x → ℕ

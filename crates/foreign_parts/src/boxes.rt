@@ -8,19 +8,21 @@ pub enum Kind {
     Output,
 }
 
-/// What checks ask of the boxes that stand in a rack. None is taken.
+/// What checks ask of the boxes and links that stand in a rack. None is taken.
 pub trait Boxes {
-    ghost use Rattle.std.specs.Prelude.{◌≡◌, ◌<◌, ℕ, List, bytes_eq, length};
+    ghost use Rattle.std.specs.Prelude.{◌≡◌, ◌<◌, List, bytes_eq, length};
     ghost use Rattle.std.specs.List.{list_any};
     ghost use Rattle.foreign_parts.specs.Stocks.{AnswersAt, is_known, left_of, refusals_of};
     ghost use Rattle.foreign_parts.specs.Boxes.{Keeps, Stand};
+    ghost use Rattle.foreign_parts.specs.Links.{addresses_of};
     ghost use Rattle.foreign_parts.specs.declared.boxes.Kind.{Kind};
+    ghost use Rattle.foreign_parts.specs.declared.links.LinkPlace.{LinkPlace};
 
     /// What stands there of a kind.
     ghost stand: { Self → Kind → Stand };
 
-    /// The addresses from outside whose links were handed in.
-    ghost links: { Self → List (List ℕ) };
+    /// The places of the links that were handed in, each with the link that lies there.
+    ghost links: { Self → List LinkPlace };
 
     /// Whether a box of the name was ever handed in.
     fn knows(&self, kind: Kind, name: &str) -> bool
@@ -45,12 +47,11 @@ pub trait Boxes {
 
     /// Whether a link of the address was ever handed in.
     fn knows_link(&self, address: &str) -> bool
-        ensures { result ≡ list_any (bytes_eq address.now) (links self.now) };
+        ensures { result ≡ list_any (bytes_eq address.now) (addresses_of (links self.now)) };
 }
 
 impl Boxes for Rack {
-    ghost use Rattle.std.specs.Prelude.{[]};
-    ghost use Rattle.foreign_parts.specs.Racks.{filters_of, outputs_of, filter_refusals, output_refusals};
+    ghost use Rattle.foreign_parts.specs.Racks.{filters_of, outputs_of, links_of, filter_refusals, output_refusals};
     ghost use Rattle.foreign_parts.specs.Boxes.{stand_of};
 
     ghost stand = { λ rack. stand_of
@@ -59,7 +60,7 @@ impl Boxes for Rack {
         (outputs_of rack)
         (output_refusals (λ p. (ForeignOutput-box p.output).refusal p.output.value) rack) };
 
-    ghost links = { λ rack. [] };
+    ghost links = { λ rack. links_of rack };
 
     fn knows(&self, kind: Kind, name: &str) -> bool {
         match kind {
@@ -88,7 +89,7 @@ impl Boxes for Rack {
         }
     }
 
-    fn knows_link(&self, _address: &str) -> bool {
-        false
+    fn knows_link(&self, address: &str) -> bool {
+        Rack::knows_link(self, address)
     }
 }

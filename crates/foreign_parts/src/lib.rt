@@ -1,9 +1,10 @@
-//! Filters and outputs that a program hands in as boxes, the rack in which they stand until a
-//! configuration takes them, and the places to which events are delivered.
+//! Filters and outputs that a program hands in as boxes, and links from outside, the rack in which they
+//! stand until a configuration takes them, and the places to which events are delivered.
 #![tactic(auto)]
 
 mod boxes;
 mod filter;
+mod links;
 mod output;
 mod place;
 mod plugged;
@@ -15,7 +16,9 @@ mod stockroom;
 pub use boxes::{Boxes, Kind};
 pub use config_tree::{FromFault, SettingFault, Settings};
 pub use filter::{ForeignFilter, Verdict};
+pub use links::LinkPlace;
 pub use output::{DeliverFault, Delivery, Fate, Fates, ForeignOutput};
+pub use pipeline_bus::LinkTaker;
 pub use place::Place;
 pub use plugged::{Asked, Plugged, PluggedFilter, PluggedOutput};
 pub use rack::Rack;

@@ -1,24 +1,32 @@
-ghost use Rattle.std.specs.Prelude.{◌≡◌, ◌<◌, ◌≤◌, ◌+◌, ◌-◌, ◌^◌, [], length, min, slice_get, Some, IfOk, IfSome, IfNone, OnOk, OnErr};
+ghost use Rattle.std.specs.Prelude.{◌≡◌, ◌<◌, ◌≤◌, ◌+◌, ◌-◌, ◌^◌, [], ◌∷◌, ◌++◌, length, min, slice_get, true, false, bytes_eq, Some, None, IfOk, IfSome, IfNone, OnOk, OnErr};
+ghost use Rattle.std.specs.List.{list_any};
 ghost use Rattle.foreign_parts.specs.Stocks as spec;
 ghost use Rattle.foreign_parts.specs.Stocks.{AnswersAt, AreNumbered, IsLast, IsOut, refusals_of};
 ghost use Rattle.foreign_parts.specs.Shelves.{stocks};
+ghost use Rattle.foreign_parts.specs.Links.{addresses_of, is_out, link_of, placed, put};
 
 use crate::filter::ForeignFilter;
+use crate::links::{self, LinkPlace};
 use crate::output::ForeignOutput;
 use crate::plugged::{PluggedFilter, PluggedOutput};
 use crate::shelf::Shelf;
 use crate::shelves::{add, configure, count_left, draw, give_back, is_known, number_at};
 use config_tree::{FromFault, Settings};
+use pipeline_bus::LinkTaker;
+use plain_data::Text;
 use std::alloc::{AllocError, Global};
 
-/// The boxes that were handed in and that no configuration has taken, by their names.
+/// The boxes that were handed in and that no configuration has taken, by their names, and the links, by their
+/// addresses.
 ///
-/// Each box has a number of its own. Filters and outputs of one name are apart. A call finds a name
-/// by a look at each name before it.
+/// Each box has a number of its own. Filters and outputs of one name are apart. A call finds a name or
+/// an address by a look at each one before it.
 #[derive(Drop)]
 pub struct Rack {
     filters: Vec<Shelf<PluggedFilter>>,
     outputs: Vec<Shelf<PluggedOutput>>,
+    /// The links from outside, each in the place of its address.
+    links: Vec<LinkPlace>,
     /// How many boxes were added so far, which is the number of the next.
     given: u64,
     alloc: Global,
@@ -27,18 +35,20 @@ pub struct Rack {
 }
 
 impl Rack {
-    ghost use Rattle.foreign_parts.specs.Racks.{filters_of, outputs_of, given_of};
+    ghost use Rattle.foreign_parts.specs.Racks.{filters_of, outputs_of, links_of, given_of};
     ghost use Rattle.foreign_parts.specs.Racks.{filter_refusals, output_refusals};
 
-    /// No box. It takes no memory.
+    /// No box and no link. It takes no memory.
     pub fn new(alloc: Global) -> Rack
         ensures filters { filters_of result ≡ [] }
         ensures outputs { outputs_of result ≡ [] }
+        ensures links { links_of result ≡ [] }
         ensures given { given_of result ≡ 0 }
     {
         Rack {
             filters: Vec::new(alloc),
             outputs: Vec::new(alloc),
+            links: Vec::new(alloc),
             given: 0,
             alloc,
         }
@@ -57,6 +67,7 @@ impl Rack {
         ensures err { OnErr result (filters_of self.new ≡ filters_of self.old) }
         ensures err_given { OnErr result (given_of self.new ≡ given_of self.old) }
         ensures outputs { outputs_of self.new ≡ outputs_of self.old }
+        ensures links { links_of self.new ≡ links_of self.old }
     {
         let number = self.given;
         let next = next_number(number)?;
@@ -80,6 +91,7 @@ impl Rack {
         ensures err { OnErr result (outputs_of self.new ≡ outputs_of self.old) }
         ensures err_given { OnErr result (given_of self.new ≡ given_of self.old) }
         ensures filters { filters_of self.new ≡ filters_of self.old }
+        ensures links { links_of self.new ≡ links_of self.old }
     {
         let number = self.given;
         let next = next_number(number)?;
@@ -147,6 +159,7 @@ impl Rack {
         ensures filters { filters_of self.new ≡ filters_of self.old }
         ensures outputs { outputs_of self.new ≡ outputs_of self.old }
         ensures given { given_of self.new ≡ given_of self.old }
+        ensures links { links_of self.new ≡ links_of self.old }
     {
         configure(&mut self.filters, name, at, settings)
     }
@@ -171,6 +184,7 @@ impl Rack {
         ensures outputs { outputs_of self.new ≡ outputs_of self.old }
         ensures filters { filters_of self.new ≡ filters_of self.old }
         ensures given { given_of self.new ≡ given_of self.old }
+        ensures links { links_of self.new ≡ links_of self.old }
     {
         configure(&mut self.outputs, name, at, settings)
     }
@@ -187,6 +201,7 @@ impl Rack {
         ensures same { IfNone result (filters_of self.new ≡ filters_of self.old) }
         ensures outputs { outputs_of self.new ≡ outputs_of self.old }
         ensures given { given_of self.new ≡ given_of self.old }
+        ensures links { links_of self.new ≡ links_of self.old }
     {
         draw(&mut self.filters, name)
     }
@@ -200,6 +215,7 @@ impl Rack {
             ≡ spec.given_back name.now filter.number (filters_of self.old) }
         ensures outputs { outputs_of self.new ≡ outputs_of self.old }
         ensures given { given_of self.new ≡ given_of self.old }
+        ensures links { links_of self.new ≡ links_of self.old }
     {
         give_back(&mut self.filters, name, filter);
     }
@@ -224,6 +240,7 @@ impl Rack {
         ensures same { IfNone result (outputs_of self.new ≡ outputs_of self.old) }
         ensures filters { filters_of self.new ≡ filters_of self.old }
         ensures given { given_of self.new ≡ given_of self.old }
+        ensures links { links_of self.new ≡ links_of self.old }
     {
         draw(&mut self.outputs, name)
     }
@@ -237,8 +254,55 @@ impl Rack {
             ≡ spec.given_back name.now output.number (outputs_of self.old) }
         ensures filters { filters_of self.new ≡ filters_of self.old }
         ensures given { given_of self.new ≡ given_of self.old }
+        ensures links { links_of self.new ≡ links_of self.old }
     {
         give_back(&mut self.outputs, name, output);
+    }
+
+    /// Adds the link of an address, on which something outside of the pipelines sends. An address has one.
+    /// Where memory runs out the rack is as it was, and the link is dropped.
+    pub fn add_link(&mut self, address: &str, taker: LinkTaker) -> Result<(), AllocError>
+        requires { list_any (bytes_eq address.now) (addresses_of (links_of self.old)) ≡ false }
+        ensures ok { OnOk result (links_of self.new
+            ≡ links_of self.old ++ placed address.now taker ∷ []) }
+        ensures err { OnErr result (links_of self.new ≡ links_of self.old) }
+        ensures filters { filters_of self.new ≡ filters_of self.old }
+        ensures outputs { outputs_of self.new ≡ outputs_of self.old }
+        ensures given { given_of self.new ≡ given_of self.old }
+    {
+        let address = Text::of(self.alloc, address)?;
+        let taker = Some(taker);
+        self.links.push(LinkPlace { address, taker })?;
+        Ok(())
+    }
+
+    /// Whether a link of the address was ever added.
+    pub fn knows_link(&self, address: &str) -> bool
+        ensures { result ≡ list_any (bytes_eq address.now) (addresses_of (links_of self.now)) }
+    {
+        links::is_known(self.links.as_slice(), address)
+    }
+
+    /// Takes the link of an address, where it lies in the rack. Its place stays.
+    pub fn take_link(&mut self, address: &str) -> Option<LinkTaker>
+        ensures taken { result ≡ link_of address.now (links_of self.old) }
+        ensures links { links_of self.new ≡ put address.now None (links_of self.old) }
+        ensures filters { filters_of self.new ≡ filters_of self.old }
+        ensures outputs { outputs_of self.new ≡ outputs_of self.old }
+        ensures given { given_of self.new ≡ given_of self.old }
+    {
+        links::take(&mut self.links, address)
+    }
+
+    /// Puts the link of an address back into its place, from which it was taken. It takes no memory.
+    pub fn give_back_link(&mut self, address: &str, taker: LinkTaker)
+        requires { is_out address.now (links_of self.old) ≡ true }
+        ensures links { links_of self.new ≡ put address.now (Some taker) (links_of self.old) }
+        ensures filters { filters_of self.new ≡ filters_of self.old }
+        ensures outputs { outputs_of self.new ≡ outputs_of self.old }
+        ensures given { given_of self.new ≡ given_of self.old }
+    {
+        links::give_back(&mut self.links, address, taker);
     }
 }
 

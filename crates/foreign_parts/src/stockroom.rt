@@ -1,11 +1,13 @@
 use crate::boxes::Boxes;
 use crate::plugged::{PluggedFilter, PluggedOutput};
 use crate::rack::Rack;
+use pipeline_bus::LinkTaker;
 
-/// A rack that boxes are drawn from, and that they may go back to.
+/// A rack that boxes and links are drawn from, and that they may go back to.
 pub trait Stockroom: Boxes {
-    ghost use Rattle.std.specs.Prelude.{◌≡◌, ◌<◌, ℕ, [], length, slice_get, Some, IfSome, IfNone};
+    ghost use Rattle.std.specs.Prelude.{◌≡◌, ◌<◌, ℕ, [], length, slice_get, true, Some, None, IfSome, IfNone};
     ghost use Rattle.foreign_parts.specs.Stocks.{IsLast, IsOut, drawn, given_back, left_of, out_of};
+    ghost use Rattle.foreign_parts.specs.Links.{is_out, link_of, put};
     ghost use Rattle.foreign_parts.specs.declared.boxes.Kind.TheVariants as kind;
 
     /// A filter that was drawn.
@@ -35,6 +37,7 @@ pub trait Stockroom: Boxes {
             (left_of name.now (Self.stand self.old kind.Filter).stocks ≡ []) }
         ensures outputs { (Self.stand self.new kind.Output).stocks
             ≡ (Self.stand self.old kind.Output).stocks }
+        ensures links { Self.links self.new ≡ Self.links self.old }
         ensures given { given self.new ≡ given self.old };
 
     /// Puts a filter back under the name under which it was drawn. It takes no memory.
@@ -47,6 +50,7 @@ pub trait Stockroom: Boxes {
             (Self.stand self.old kind.Filter).stocks }
         ensures outputs { (Self.stand self.new kind.Output).stocks
             ≡ (Self.stand self.old kind.Output).stocks }
+        ensures links { Self.links self.new ≡ Self.links self.old }
         ensures given { given self.new ≡ given self.old };
 
     /// The number of an output of a name that is left, by its place; the last is drawn next.
@@ -68,6 +72,7 @@ pub trait Stockroom: Boxes {
             (left_of name.now (Self.stand self.old kind.Output).stocks ≡ []) }
         ensures filters { (Self.stand self.new kind.Filter).stocks
             ≡ (Self.stand self.old kind.Filter).stocks }
+        ensures links { Self.links self.new ≡ Self.links self.old }
         ensures given { given self.new ≡ given self.old };
 
     /// Puts an output back under the name under which it was drawn. It takes no memory.
@@ -80,6 +85,27 @@ pub trait Stockroom: Boxes {
             (Self.stand self.old kind.Output).stocks }
         ensures filters { (Self.stand self.new kind.Filter).stocks
             ≡ (Self.stand self.old kind.Filter).stocks }
+        ensures links { Self.links self.new ≡ Self.links self.old }
+        ensures given { given self.new ≡ given self.old };
+
+    /// Takes the link of an address, where it lies in the rack. Its place stays.
+    fn take_link(&mut self, address: &str) -> Option<LinkTaker>
+        ensures taken { result ≡ link_of address.now (Self.links self.old) }
+        ensures links { Self.links self.new ≡ put address.now None (Self.links self.old) }
+        ensures filters { (Self.stand self.new kind.Filter).stocks
+            ≡ (Self.stand self.old kind.Filter).stocks }
+        ensures outputs { (Self.stand self.new kind.Output).stocks
+            ≡ (Self.stand self.old kind.Output).stocks }
+        ensures given { given self.new ≡ given self.old };
+
+    /// Puts the link of an address back into its place, from which it was taken. It takes no memory.
+    fn return_link(&mut self, address: &str, taker: LinkTaker)
+        requires { is_out address.now (Self.links self.old) ≡ true }
+        ensures links { Self.links self.new ≡ put address.now (Some taker) (Self.links self.old) }
+        ensures filters { (Self.stand self.new kind.Filter).stocks
+            ≡ (Self.stand self.old kind.Filter).stocks }
+        ensures outputs { (Self.stand self.new kind.Output).stocks
+            ≡ (Self.stand self.old kind.Output).stocks }
         ensures given { given self.new ≡ given self.old };
 }
 
@@ -114,5 +140,13 @@ impl Stockroom for Rack {
 
     fn return_output(&mut self, name: &str, output: PluggedOutput) {
         self.give_back_output(name, output);
+    }
+
+    fn take_link(&mut self, address: &str) -> Option<LinkTaker> {
+        Rack::take_link(self, address)
+    }
+
+    fn return_link(&mut self, address: &str, taker: LinkTaker) {
+        self.give_back_link(address, taker);
     }
 }

@@ -11,6 +11,7 @@ use Rattle.graph_checks.specs.Plugins.{section_checked, section_start}
 use Rattle.graph_checks.specs.Points.{points_of}
 use Rattle.graph_checks.specs.Wants.{AreLeft, IsWanted, names_of, so_often, times_of, wants_of}
 use Rattle.graph_checks.specs.Inputs.{inputs_checked}
+use Rattle.graph_checks.specs.Linked.{outside_of}
 use Rattle.graph_checks.specs.Whole.{Given, checked, filters_checked, links_checked, outputs_checked, some_there, spares_checked, whole_checked, whole_of}
 use Rattle.graph_checks.specs.declared.fault.GraphFault.TheVariants as fault
 use Rattle.graph_checks.specs.declared.walk.Walk.{Walk}
@@ -61,14 +62,15 @@ module _ (given : Given) (config : Config) where
   -- what it wants, by the walks over its sections
   pub is_wanted : (ids others : List (List ℕ)) (inputs : ℕ) (outside : List (List ℕ)) (fs os : Walk) (w : Wants)
       → section_checked kind.Filter (given.stand kind.Filter) given.workers config.filters ids ≡ Ok fs → section_checked kind.Output (given.stand kind.Output) 1 config.outputs others ≡ Ok os
-      → whole_checked given inputs outside fs.boxes os ≡ Ok tt → w.filters ≡ fs.wants → w.outputs ≡ os.wants → IsWanted given config w
-  is_wanted ids others inputs outside fs os w first second whole filters outputs =
+      → whole_checked given inputs outside fs.boxes os ≡ Ok tt → w.filters ≡ fs.wants → w.outputs ≡ os.wants → w.links ≡ outside_of config.inputs → IsWanted given config w
+  is_wanted ids others inputs outside fs os w first second whole filters outputs links =
       let f = section_passes kind.Filter (given.stand kind.Filter) given.workers config.filters ids fs first in
       let o = section_passes kind.Output (given.stand kind.Output) 1 config.outputs others os second in
       let s = spared (given.stand kind.Filter) (given.stand kind.Output) given.links given.workers inputs outside fs os whole in
       record {
         filters = filters ∙ f.wants;
         outputs = outputs ∙ o.wants;
+        links = links;
         filters_left = subst (λ ws. AreLeft (names_of (so_often given.workers ws)) (given.stand kind.Filter).stocks) (sym filters) (left_of_all (given.stand kind.Filter) given.workers fs.boxes fs.wants f.counted s.of_filters);
         outputs_left = subst (λ ws. AreLeft (names_of ws) (given.stand kind.Output).stocks) (sym outputs) (λ k. omega (arith, o.counted k, never_short (given.stand kind.Output) 1 os.boxes s.of_outputs k));
       }

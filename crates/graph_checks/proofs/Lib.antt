@@ -20,3 +20,5 @@ pub mod Planning
 pub mod Tails
 pub mod Returnings
 pub mod OwnIds
+pub mod Linking
+pub mod Outside

@@ -38,7 +38,7 @@ use Rattle.position_file.specs.declared.name.PositionOf.TheVariants as position
 use Rattle.graph_checks.proofs.Flattened.{plugins_in, conditions_in}
 use Rattle.graph_checks.proofs.Sparing.{counted_more, times_behind}
 
-abbrev Fails : {A F : Type 0} → Result A F → Type 0
+abbrev pub Fails : {A F : Type 0} → Result A F → Type 0
 Fails (Ok x) = ⊥
 Fails (Err fault) = Unit {0}
 
@@ -46,7 +46,7 @@ abbrev or_else : {A F : Type 0} → A → Result A F → A
 or_else d (Ok x) = x
 or_else d (Err fault) = d
 
-ok_same : {A F : Type 0} (x y : A) → ◌≡◌ {A = Result A F} (Ok x) (Ok y) → x ≡ y
+pub ok_same : {A F : Type 0} (x y : A) → ◌≡◌ {A = Result A F} (Ok x) (Ok y) → x ≡ y
 ok_same x y is = ap (or_else x) is
 
 -- where checks find no fault, the first had an answer, and the others found none behind it

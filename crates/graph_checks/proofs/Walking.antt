@@ -5,6 +5,7 @@ use Rattle.graph_checks.specs.Boxes.{Stand, Keeps}
 use Rattle.graph_checks.specs.Plugins.{arm_checked, points_checked}
 use Rattle.graph_checks.specs.Points.{Point, joined, points_of, points_in_arm}
 use Rattle.foreign_parts.specs.declared.boxes.Kind.{Kind}
+use Rattle.foreign_parts.specs.declared.links.LinkPlace.{LinkPlace}
 use Rattle.graph_checks.specs.declared.fault.GraphFault.{GraphFault}
 use Rattle.graph_checks.specs.declared.walk.Walk.{Walk}
 use Rattle.config_tree.specs.declared.tree.Arm.{Arm}
@@ -12,7 +13,7 @@ use Rattle.graph_checks.proofs.Going.{checked_more, checked_fails, checked_end, 
 use Rattle.graph_checks.proofs.Keeping.{keeps_same, keeps_then}
 use Rattle.graph_checks.proofs.Pointing.{each_checked, arm_points}
 
-module _ {S X : Type 0} (stand : S → Kind → Stand) (links : S → List (List ℕ)) (which : Kind) (f : X → List Point) (xs : List X) where
+module _ {S X : Type 0} (stand : S → Kind → Stand) (links : S → List LinkPlace) (which : Kind) (f : X → List Point) (xs : List X) where
   abbrev one : S → X → Walk → Checked Walk
   one s x w = points_checked which (stand s which) (f x) w
 

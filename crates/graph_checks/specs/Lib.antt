@@ -5,6 +5,7 @@ pub mod BuiltIn
 pub mod Plugins
 pub mod OwnIds
 pub mod Inputs
+pub mod Linked
 pub mod Whole
 pub mod Wants
 pub mod Readings

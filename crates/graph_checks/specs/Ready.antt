@@ -19,3 +19,4 @@ pub record IsReadyFor {F O : Type 0} (config : Config) (workers : ℕ) (outputs 
   pub workers_are : length ready.kits.items ≡ workers
   pub filters_wanted : ready.room.filters ≡ so_often workers wants.filters
   pub outputs_wanted : ready.room.outputs ≡ wants.outputs
+  pub links_wanted : ready.room.links ≡ wants.links

@@ -9,6 +9,7 @@ use Rattle.foreign_parts.specs.Stocks.{Stock, left_of}
 use Rattle.foreign_parts.specs.declared.boxes.Kind.{Kind}
 use Rattle.foreign_parts.specs.declared.boxes.Kind.TheVariants as kind
 use Rattle.graph_checks.specs.BuiltIn.{built_in}
+use Rattle.graph_checks.specs.Linked.{outside_of}
 use Rattle.graph_checks.specs.Plugins.{section_name}
 use Rattle.graph_checks.specs.Whole.{Given}
 use Rattle.graph_checks.specs.declared.built_in.BuiltIn.{BuiltIn}
@@ -46,9 +47,10 @@ names_of ws = map (λ w. w.name) ws
 abbrev pub AreLeft : List (List ℕ) → List Stock → Type 0
 AreLeft names ss = (k : List ℕ) → times_of k names ≤ length (left_of k ss)
 
--- What a configuration wants: its plugins that are boxes. Enough boxes are left, of each filter one for each worker.
+-- What a configuration wants: its plugins that are boxes, and the links of its addresses from outside. Enough boxes are left, of each filter one for each worker.
 pub record IsWanted (given : Given) (config : Config) (w : Wants) : Type 0 where
   pub filters : w.filters ≡ wants_of kind.Filter (parts_of config.filters).plugins
   pub outputs : w.outputs ≡ wants_of kind.Output (parts_of config.outputs).plugins
+  pub links : w.links ≡ outside_of config.inputs
   pub filters_left : AreLeft (names_of (so_often given.workers w.filters)) (given.stand kind.Filter).stocks
   pub outputs_left : AreLeft (names_of w.outputs) (given.stand kind.Output).stocks

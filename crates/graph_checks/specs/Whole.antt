@@ -1,7 +1,9 @@
 -- The checks of a whole configuration: those of its statements in the order of the text, and behind them those of the whole.
 use Rattle.std.specs.Prelude.{ℕ, ◌*◌, ◌==◌, List, [], ◌∷◌, length, nat_lt, if◌then◌else◌, Ok, Err}
 use Rattle.config_tree.specs.declared.tree.Config.{Config}
+use Rattle.foreign_parts.specs.Links.{addresses_of}
 use Rattle.foreign_parts.specs.Stocks.{left_of}
+use Rattle.foreign_parts.specs.declared.links.LinkPlace.{LinkPlace}
 use Rattle.graph_checks.specs.Answers.{Checked, next}
 use Rattle.graph_checks.specs.Boxes.{Stand, Counts}
 use Rattle.graph_checks.specs.Inputs.{inputs_checked}
@@ -37,6 +39,10 @@ pub record Given : Type 0 where
   pub stand : Kind → Stand
   pub links : List (List ℕ)
   pub workers : ℕ
+
+-- what is handed in by a rack, with so many workers
+abbrev pub given_by : {S : Type 0} → (S → Kind → Stand) → (S → List LinkPlace) → S → ℕ → Given
+given_by stand links rack workers = record { stand = stand rack; links = addresses_of (links rack); workers = workers }
 
 -- the whole of a configuration of so many inputs, with these addresses from outside, filters that are boxes, and outputs
 abbrev pub whole_of : Stand → Stand → List (List ℕ) → ℕ → ℕ → List (List ℕ) → Counts → Walk → Checked (Unit {0})

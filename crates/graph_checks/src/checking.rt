@@ -2,7 +2,7 @@ ghost use Rattle.std.specs.Prelude.{IfOk};
 ghost use Rattle.graph_checks.specs.Answers.{Gives, Passes};
 ghost use Rattle.graph_checks.specs.Boxes.{Keeps};
 ghost use Rattle.graph_checks.specs.Wants.{IsWanted};
-ghost use Rattle.graph_checks.specs.Whole.{checked};
+ghost use Rattle.graph_checks.specs.Whole.{checked, given_by};
 
 use crate::fault::GraphFault;
 use crate::inputs::{InputsMet, check_inputs};
@@ -31,7 +31,7 @@ pub fn check<B: Boxes>(
     workers: u32,
 ) -> Result<(), GraphFault>
     ensures fault { Gives result (checked
-        (record { stand = B.stand boxes.old; links = B.links boxes.old; workers = workers })
+        (given_by B.stand B.links boxes.old workers)
         config.now) }
     ensures keeps { Keeps B.stand B.links boxes.old boxes.new }
 {
@@ -50,10 +50,10 @@ pub(crate) fn find_wants<B: Boxes>(
     workers: u32,
 ) -> Result<Wants, GraphFault>
     ensures fault { Passes result (checked
-        (record { stand = B.stand boxes.old; links = B.links boxes.old; workers = workers })
+        (given_by B.stand B.links boxes.old workers)
         config.now) }
     ensures wants { IfOk result (IsWanted
-        (record { stand = B.stand boxes.old; links = B.links boxes.old; workers = workers })
+        (given_by B.stand B.links boxes.old workers)
         config.now) }
     ensures keeps { Keeps B.stand B.links boxes.old boxes.new }
 {
@@ -79,5 +79,6 @@ pub(crate) fn find_wants<B: Boxes>(
     Ok(Wants {
         filters: filter_wants,
         outputs: wants,
+        links: outside,
     })
 }

@@ -1,14 +1,15 @@
-ghost use Rattle.std.specs.Prelude.{IfOk, IfErr};
+ghost use Rattle.std.specs.Prelude.{◌≡◌, IfOk, IfErr};
 ghost use Rattle.foreign_parts.specs.declared.boxes.Kind.TheVariants as kind;
 ghost use Rattle.graph_checks.specs.Answers.{Passes};
 ghost use Rattle.graph_checks.specs.Boxes.{Keeps};
 ghost use Rattle.graph_checks.specs.Drawings.{AllDrawn};
 ghost use Rattle.graph_checks.specs.Drawns.{boxes_of};
+ghost use Rattle.graph_checks.specs.Linked.{all_taken, links_there, outside_of};
 ghost use Rattle.graph_checks.specs.Plans.{IsPlanOf, boxes_of_kits};
 ghost use Rattle.graph_checks.specs.Readings.{IsRead};
 ghost use Rattle.graph_checks.specs.Ready.{IsReadyFor};
 ghost use Rattle.graph_checks.specs.Wants.{AreLeft, names_of};
-ghost use Rattle.graph_checks.specs.Whole.{checked};
+ghost use Rattle.graph_checks.specs.Whole.{checked, given_by};
 
 use crate::checking::find_wants;
 use crate::drawing::{BoxRoom, draw_into, reserve_boxes};
@@ -26,12 +27,13 @@ use plugin_graph::{Graph, Kit};
 use std::alloc::{AllocError, Global};
 
 /// Makes a configuration ready to be run by so many workers, each of which has a kit of its own, with
-/// boxes from the rack. The refusal is the first fault that `check` finds. `Memory` comes where memory
+/// boxes and links from the rack. The refusal is the first fault that `check` finds. `Memory` comes where memory
 /// runs out, also in the place of another answer. All memory is taken before the first box is drawn, so a
 /// refusal leaves the rack as it was.
 ///
 /// A filter that is a box has one for each worker. They are drawn in the order of the text, of each
-/// filter those of all workers, and behind the filters the outputs.
+/// filter those of all workers, and behind the filters the outputs. Last come the links of the inputs on which
+/// something outside sends, in the order of the text, of each address where its link lies in the rack.
 pub fn compile<B: Stockroom>(
     alloc: Global,
     config: Config,
@@ -39,7 +41,7 @@ pub fn compile<B: Stockroom>(
     workers: u32,
 ) -> Result<Plan<B::Filter, B::Output>, GraphFault>
     ensures fault { Passes result (checked
-        (record { stand = B.stand rack.old; links = B.links rack.old; workers = workers })
+        (given_by B.stand B.links rack.old workers)
         config) }
     ensures keeps { IfErr result (λ _. Keeps B.stand B.links rack.old rack.new) }
     ensures plan { IfOk result (IsPlanOf B.output_number config workers) }
@@ -48,6 +50,10 @@ pub fn compile<B: Stockroom>(
         (boxes_of B.output_number plan.outputs.items)
         (B.stand rack.old kind.Filter).stocks (B.stand rack.old kind.Output).stocks
         (B.stand rack.new kind.Filter).stocks (B.stand rack.new kind.Output).stocks) }
+    ensures links { IfOk result (λ plan. plan.links.items
+        ≡ links_there (outside_of config.inputs) (B.links rack.old)) }
+    ensures taken { IfOk result (λ _. B.links rack.new
+        ≡ all_taken (outside_of config.inputs) (B.links rack.old)) }
 {
     let wants = find_wants(alloc, &config, rack, workers)?;
     let ready = prepare(alloc, &config, rack, wants, workers)?;
@@ -57,7 +63,11 @@ pub fn compile<B: Stockroom>(
         draws,
         room,
     } = ready;
-    let DrawnBoxes { filters, outputs } = draw_into(room, rack);
+    let DrawnBoxes {
+        filters,
+        outputs,
+        links,
+    } = draw_into(room, rack);
     hand_out(&mut kits, filters);
     Ok(Plan {
         config,
@@ -65,10 +75,11 @@ pub fn compile<B: Stockroom>(
         kits,
         outputs,
         draws,
+        links,
     })
 }
 
-/// All of a plan but for its boxes, and room for these.
+/// All of a plan but for its boxes and links, and room for these.
 #[derive(Drop)]
 pub(crate) struct Ready<F, O> {
     pub graph: Graph,

@@ -3,28 +3,34 @@ ghost use Rattle.foreign_parts.specs.Stocks.{IsOut};
 ghost use Rattle.foreign_parts.specs.declared.boxes.Kind.TheVariants as kind;
 ghost use Rattle.graph_checks.specs.Drawings.{AllDrawn, AreDrawn};
 ghost use Rattle.graph_checks.specs.Drawns.{boxes_of, filter_boxes, output_boxes};
+ghost use Rattle.graph_checks.specs.Linked.{all_taken, links_there};
 ghost use Rattle.graph_checks.specs.Wants.{AreLeft, names_of, so_often};
 
 use crate::drawn::{Drawn, DrawnBoxes};
 use crate::want::{Want, Wants};
-use foreign_parts::Stockroom;
-use plain_data::Items;
+use event_tree::Names;
+use foreign_parts::{LinkTaker, Stockroom};
+use plain_data::{Items, Text};
 use std::alloc::{AllocError, Global};
 
-/// Room for boxes, with the plugins for which they are to be drawn.
+/// Room for boxes and links, with the plugins and addresses for which they are to be drawn.
 #[derive(Drop)]
 pub(crate) struct BoxRoom<F, O> {
     pub filters: Items<Want>,
     pub outputs: Items<Want>,
+    pub links: Names,
     filter_room: Vec<Drawn<F>>,
     output_room: Vec<Drawn<O>>,
+    link_room: Vec<(Text, LinkTaker)>,
     ghost no_filter: { filter_room.items ≡ [] },
     ghost filters_fit: { length filters ≤ vec_capacity filter_room },
     ghost no_output: { output_room.items ≡ [] },
     ghost outputs_fit: { length outputs ≤ vec_capacity output_room },
+    ghost no_link: { link_room.items ≡ [] },
+    ghost links_fit: { length links ≤ vec_capacity link_room },
 }
 
-/// Takes the memory for these boxes: of each filter so many, and of each output one.
+/// Takes the memory for these boxes and links: of each filter so many, and of each output and address one.
 pub(crate) fn reserve_boxes<F: Drop, O: Drop>(
     alloc: Global,
     wants: Wants,
@@ -32,20 +38,28 @@ pub(crate) fn reserve_boxes<F: Drop, O: Drop>(
 ) -> Result<BoxRoom<F, O>, AllocError>
     ensures filters { IfOk result (λ room. room.filters ≡ so_often workers wants.filters) }
     ensures outputs { IfOk result (λ room. room.outputs ≡ wants.outputs) }
+    ensures links { IfOk result (λ room. room.links ≡ wants.links) }
 {
-    let Wants { filters, outputs } = wants;
+    let Wants {
+        filters,
+        outputs,
+        links,
+    } = wants;
     let filters = repeated(alloc, filters.as_slice(), workers)?;
     let filter_room = Vec::with_capacity(alloc, filters.len())?;
     let output_room = Vec::with_capacity(alloc, outputs.len())?;
+    let link_room = Vec::with_capacity(alloc, links.len())?;
     Ok(BoxRoom {
         filters,
         outputs,
+        links,
         filter_room,
         output_room,
+        link_room,
     })
 }
 
-/// Draws the boxes for which there is room: first the filters, and then the outputs.
+/// Draws the boxes for which there is room: first the filters, then the outputs, and then the links.
 pub(crate) fn draw_into<B: Stockroom>(
     room: BoxRoom<B::Filter, B::Output>,
     rack: &mut B,
@@ -58,16 +72,25 @@ pub(crate) fn draw_into<B: Stockroom>(
         (filter_boxes B.filter_number result) (output_boxes B.output_number result)
         (B.stand rack.old kind.Filter).stocks (B.stand rack.old kind.Output).stocks
         (B.stand rack.new kind.Filter).stocks (B.stand rack.new kind.Output).stocks }
+    ensures links { result.links.items ≡ links_there room.links (B.links rack.old) }
+    ensures taken { B.links rack.new ≡ all_taken room.links (B.links rack.old) }
 {
     let BoxRoom {
         filters,
         outputs,
+        links,
         filter_room,
         output_room,
+        link_room,
     } = room;
     let filters = draw_filters(rack, filters, filter_room);
     let outputs = draw_outputs(rack, outputs, output_room);
-    DrawnBoxes { filters, outputs }
+    let links = draw_links(rack, links, link_room);
+    DrawnBoxes {
+        filters,
+        outputs,
+        links,
+    }
 }
 
 // Each of them so often.
@@ -106,6 +129,7 @@ fn draw_filters<B: Stockroom>(
         (B.stand rack.old kind.Filter).stocks (B.stand rack.new kind.Filter).stocks }
     ensures outputs { (B.stand rack.new kind.Output).stocks
         ≡ (B.stand rack.old kind.Output).stocks }
+    ensures links { B.links rack.new ≡ B.links rack.old }
     ensures given { B.given rack.new ≡ B.given rack.old }
 {
     let mut drawn = room;
@@ -134,6 +158,7 @@ fn draw_outputs<B: Stockroom>(
         (B.stand rack.old kind.Output).stocks (B.stand rack.new kind.Output).stocks }
     ensures filters { (B.stand rack.new kind.Filter).stocks
         ≡ (B.stand rack.old kind.Filter).stocks }
+    ensures links { B.links rack.new ≡ B.links rack.old }
     ensures given { B.given rack.new ≡ B.given rack.old }
 {
     let mut drawn = room;
@@ -144,4 +169,30 @@ fn draw_outputs<B: Stockroom>(
         }
     }
     drawn
+}
+
+// Takes the links of these addresses that lie in the rack, into a list that has room for them.
+fn draw_links<B: Stockroom>(
+    rack: &mut B,
+    addresses: Names,
+    room: Vec<(Text, LinkTaker)>,
+) -> Vec<(Text, LinkTaker)>
+    requires empty { room.items ≡ [] }
+    requires room { length addresses ≤ vec_capacity room }
+    ensures links { result.items ≡ links_there addresses (B.links rack.old) }
+    ensures taken { B.links rack.new ≡ all_taken addresses (B.links rack.old) }
+    ensures filters { (B.stand rack.new kind.Filter).stocks
+        ≡ (B.stand rack.old kind.Filter).stocks }
+    ensures outputs { (B.stand rack.new kind.Output).stocks
+        ≡ (B.stand rack.old kind.Output).stocks }
+    ensures given { B.given rack.new ≡ B.given rack.old }
+{
+    let mut taken = room;
+    for address in addresses.into_vec() {
+        match rack.take_link(address.as_str()) {
+            Some(taker) => taken.push_reserved((address, taker)),
+            None => {}
+        }
+    }
+    taken
 }

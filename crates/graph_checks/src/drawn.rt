@@ -2,7 +2,8 @@ ghost use Rattle.std.specs.Prelude.{IfOk};
 
 use crate::want::Want;
 use event_tree::Event;
-use foreign_parts::{Asked, Verdict};
+use foreign_parts::{Asked, LinkTaker, Verdict};
+use plain_data::Text;
 use std::alloc::AllocError;
 
 /// A box that was drawn from a rack for a plugin.
@@ -21,11 +22,13 @@ impl<F: Asked> Asked for Drawn<F> {
     }
 }
 
-/// The boxes of a configuration, drawn from a rack: filters and outputs.
+/// The boxes and links of a configuration, drawn from a rack.
 #[derive(Drop)]
 pub(crate) struct DrawnBoxes<F, O> {
     /// For each filter that is a box one for each worker, in the order of the text.
     pub filters: Vec<Drawn<F>>,
     /// For each output that is a box one.
     pub outputs: Vec<Drawn<O>>,
+    /// The links that lay in the rack, by their addresses.
+    pub links: Vec<(Text, LinkTaker)>,
 }

@@ -2,8 +2,8 @@
 //!
 //! The statements are tested in the order of the text: the inputs, then the filters, then the outputs, with
 //! the conditions in front of their blocks. Then the whole is tested. Boxes are asked where they stand, and
-//! none is taken. [`compile`] makes a plan of a configuration that passes, with the boxes that it wants from
-//! a rack, and [`give_back`] puts these back.
+//! none is taken. [`compile`] makes a plan of a configuration that passes, with the boxes and links that it wants
+//! from a rack, and [`give_back`] puts these back.
 #![tactic(auto)]
 
 mod asking;

@@ -1,5 +1,6 @@
 use crate::drawn::Drawn;
 use config_tree::Config;
+use foreign_parts::LinkTaker;
 use plain_data::{Items, Text};
 use plugin_graph::{Graph, Kit};
 
@@ -14,4 +15,7 @@ pub struct Plan<F, O> {
     pub outputs: Vec<Drawn<O>>,
     /// The numbers of these boxes, by the ids of their outputs.
     pub draws: Items<(Text, u64)>,
+    /// The links of its inputs on which something outside sends, by their addresses, in the order of the text. Only
+    /// those that lay in the rack: others are with an input that is at work.
+    pub links: Vec<(Text, LinkTaker)>,
 }

@@ -3,33 +3,58 @@ ghost use Rattle.foreign_parts.specs.Stocks.{IsOut};
 ghost use Rattle.foreign_parts.specs.declared.boxes.Kind.TheVariants as kind;
 ghost use Rattle.graph_checks.specs.Drawings.{AllMayGoBack, MayGoBack, all_back};
 ghost use Rattle.graph_checks.specs.Drawns.{boxes_of};
+ghost use Rattle.graph_checks.specs.Linked.{LinksMayGoBack, links_back};
 ghost use Rattle.graph_checks.specs.Plans.{boxes_of_kits, column, held, rows};
 ghost use Rattle.plugin_graph.specs.Graphs.{boxes_in};
 
 use crate::drawn::Drawn;
 use crate::filling::most_filters;
 use crate::plan::Plan;
-use foreign_parts::Stockroom;
+use foreign_parts::{LinkTaker, Stockroom};
+use plain_data::Text;
 use plugin_graph::Kit;
 
-/// Gives the boxes of a plan back to the rack that they were drawn from: what was drawn last goes back
-/// first, so the rack has the boxes that it had before `compile`, in their order. It takes no memory.
+/// Gives the boxes and links of a plan back to the rack that they were drawn from: of boxes, and of links, what was
+/// drawn last goes back first, so the rack has what it had before `compile`, in its order. It takes no memory.
 pub fn give_back<B: Stockroom>(plan: Plan<B::Filter, B::Output>, rack: &mut B)
-    requires { AllMayGoBack (B.given rack.old)
+    requires boxes { AllMayGoBack (B.given rack.old)
         (boxes_of B.filter_number (boxes_of_kits plan.kits.items))
         (boxes_of B.output_number plan.outputs.items)
         (B.stand rack.old kind.Filter).stocks (B.stand rack.old kind.Output).stocks }
+    requires links { LinksMayGoBack plan.links.items (B.links rack.old) }
     ensures filters { (B.stand rack.new kind.Filter).stocks
         ≡ all_back (boxes_of B.filter_number (boxes_of_kits plan.kits.items))
         (B.stand rack.old kind.Filter).stocks }
     ensures outputs { (B.stand rack.new kind.Output).stocks
         ≡ all_back (boxes_of B.output_number plan.outputs.items)
         (B.stand rack.old kind.Output).stocks }
+    ensures links { B.links rack.new ≡ links_back plan.links.items (B.links rack.old) }
     ensures given { B.given rack.new ≡ B.given rack.old }
 {
-    let Plan { kits, outputs, .. } = plan;
+    let Plan {
+        kits,
+        outputs,
+        links,
+        ..
+    } = plan;
     give_back_outputs(rack, outputs);
     give_back_kits(rack, kits);
+    give_back_links(rack, links);
+}
+
+fn give_back_links<B: Stockroom>(rack: &mut B, links: Vec<(Text, LinkTaker)>)
+    requires { LinksMayGoBack links.items (B.links rack.old) }
+    ensures links { B.links rack.new ≡ links_back links.items (B.links rack.old) }
+    ensures filters { (B.stand rack.new kind.Filter).stocks
+        ≡ (B.stand rack.old kind.Filter).stocks }
+    ensures outputs { (B.stand rack.new kind.Output).stocks
+        ≡ (B.stand rack.old kind.Output).stocks }
+    ensures given { B.given rack.new ≡ B.given rack.old }
+{
+    let mut left = links;
+    while let Some((address, taker)) = left.pop() {
+        rack.return_link(address.as_str(), taker);
+    }
 }
 
 fn give_back_outputs<B: Stockroom>(rack: &mut B, boxes: Vec<Drawn<B::Output>>)
@@ -40,6 +65,7 @@ fn give_back_outputs<B: Stockroom>(rack: &mut B, boxes: Vec<Drawn<B::Output>>)
         ≡ all_back (boxes_of B.output_number boxes.items) (B.stand rack.old kind.Output).stocks }
     ensures filters { (B.stand rack.new kind.Filter).stocks
         ≡ (B.stand rack.old kind.Filter).stocks }
+    ensures links { B.links rack.new ≡ B.links rack.old }
     ensures given { B.given rack.new ≡ B.given rack.old }
 {
     let mut left = boxes;
@@ -58,6 +84,7 @@ fn give_back_kits<B: Stockroom>(rack: &mut B, kits: Vec<Kit<Drawn<B::Filter>>>)
         (B.stand rack.old kind.Filter).stocks }
     ensures outputs { (B.stand rack.new kind.Output).stocks
         ≡ (B.stand rack.old kind.Output).stocks }
+    ensures links { B.links rack.new ≡ B.links rack.old }
     ensures given { B.given rack.new ≡ B.given rack.old }
 {
     let mut kits = kits;
@@ -79,6 +106,7 @@ fn give_back_column<B: Stockroom>(rack: &mut B, kits: &mut Vec<Kit<Drawn<B::Filt
         (B.stand rack.old kind.Filter).stocks }
     ensures outputs { (B.stand rack.new kind.Output).stocks
         ≡ (B.stand rack.old kind.Output).stocks }
+    ensures links { B.links rack.new ≡ B.links rack.old }
     ensures given { B.given rack.new ≡ B.given rack.old }
     ensures before { (k : ℕ) → k < at
         → column k (rows kits.new.items) ≡ column k (rows kits.old.items) }
@@ -100,6 +128,7 @@ fn give_back_one<B: Stockroom>(rack: &mut B, kit: &mut Kit<Drawn<B::Filter>>, at
         (B.stand rack.old kind.Filter).stocks }
     ensures outputs { (B.stand rack.new kind.Output).stocks
         ≡ (B.stand rack.old kind.Output).stocks }
+    ensures links { B.links rack.new ≡ B.links rack.old }
     ensures given { B.given rack.new ≡ B.given rack.old }
     ensures before { (k : ℕ) → k < at
         → slice_get (boxes_in kit.new) k ≡ slice_get (boxes_in kit.old) k }

@@ -1,5 +1,6 @@
 ghost use Rattle.std.specs.Prelude.{◌≡◌, IfOk};
 
+use event_tree::Names;
 use plain_data::{Items, Text};
 use std::alloc::AllocError;
 
@@ -31,10 +32,12 @@ impl Want {
     }
 }
 
-/// What a configuration wants of a rack: its plugins that are boxes, in the order of the text.
+/// What a configuration wants of a rack: its plugins that are boxes, and the addresses of its inputs on which something
+/// outside of the pipelines sends, in the order of the text.
 #[derive(Drop)]
 pub struct Wants {
     /// For each of them a box for each worker.
     pub filters: Items<Want>,
     pub outputs: Items<Want>,
+    pub links: Names,
 }

@@ -1,5 +1,6 @@
 ghost use Rattle.graph_checks.specs.Answers.{Gives};
 ghost use Rattle.graph_checks.specs.Whole as spec;
+ghost use Rattle.foreign_parts.specs.Links.{addresses_of};
 ghost use Rattle.foreign_parts.specs.declared.boxes.Kind.TheVariants as kind;
 
 use crate::counts::Counts;
@@ -20,7 +21,7 @@ pub(crate) fn check_whole<B: Boxes>(
     outputs: &Walk,
 ) -> Result<(), GraphFault>
     ensures { Gives result (spec.whole_of (B.stand boxes.now kind.Filter)
-        (B.stand boxes.now kind.Output) (B.links boxes.now) workers
+        (B.stand boxes.now kind.Output) (addresses_of (B.links boxes.now)) workers
         inputs outside.now filter_boxes.now outputs.now) }
 {
     if inputs == 0 {
@@ -36,7 +37,7 @@ pub(crate) fn check_whole<B: Boxes>(
 
 // Sees whether there is a link for each address on which something outside sends.
 fn check_links<B: Boxes>(boxes: &B, outside: &[Text]) -> Result<(), GraphFault>
-    ensures { Gives result (spec.links_checked (B.links boxes.now) outside.now) }
+    ensures { Gives result (spec.links_checked (addresses_of (B.links boxes.now)) outside.now) }
 {
     for address in outside {
         if !boxes.knows_link(address.as_str()) {

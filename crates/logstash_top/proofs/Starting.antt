@@ -5,6 +5,8 @@ use Rattle.config_tree.specs.declared.tree.Config.{Config}
 use Rattle.config_parse.specs.declared.fault.ConfigFault.{ConfigFault}
 use Rattle.config_parse.specs.declared.fault.ConfigFault.TheVariants as text_fault
 use Rattle.foreign_parts.specs.Boxes.{Keeps, Stand}
+use Rattle.foreign_parts.specs.Links.{addresses_of}
+use Rattle.foreign_parts.specs.declared.links.LinkPlace.{LinkPlace}
 use Rattle.foreign_parts.specs.declared.boxes.Kind.{Kind}
 use Rattle.graph_checks.specs.Answers.{Checked, Refuses}
 use Rattle.graph_checks.specs.Whole.{Given, checked}
@@ -95,8 +97,8 @@ memory_or (graph.NoSpare name wanted left) = inr (record { told = λ said is. is
 memory_or graph.Memory = inl refl
 
 -- what is handed in stays the same
-pub same_given : {B : Type 0} (stand : B → Kind → Stand) (links : B → List (List ℕ)) (old new : B) → Keeps stand links old new → given_by stand links new ≡ given_by stand links old
-same_given stand links old new keeps = λ i. record { stand = λ k. keeps.stands k i; links = keeps.links_stand i; workers = workers }
+pub same_given : {B : Type 0} (stand : B → Kind → Stand) (links : B → List LinkPlace) (old new : B) → Keeps stand links old new → given_by stand links new ≡ given_by stand links old
+same_given stand links old new keeps = λ i. record { stand = λ k. keeps.stands k i; links = addresses_of (keeps.links_stand i); workers = workers }
 
 module _ (given : Given) (words : List (List ℕ)) where
   cause_by_answer : (answer : Answer) (status : Status) → answer_of words ≡ answer → asked answer ≡ Err status → IsCauseOf given words status

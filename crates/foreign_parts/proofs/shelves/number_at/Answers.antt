@@ -1,4 +1,4 @@
-use Rattle.std.proofs.Common.{◌≡◌, ◌<◌, length, refl, sym, subst, ap, ◌∙◌, arith, slice_get, Some}
+use Rattle.std.proofs.Common.{◌<◌, length, refl, sym, subst, ap, ◌∙◌, arith, slice_get}
 use Rattle.foreign_parts.specs.Shelves.{stock_of, stocks}
 use Rattle.foreign_parts.proofs.Places.{found, found_left, not_found, left_past}
 use Rattle.foreign_parts.proofs.shelves.number_at.Goals as goal

@@ -1,13 +1,14 @@
 use Rattle.std.proofs.lemmas.List.{length-map}
-use Rattle.std.proofs.Common.{[], length, map, refl, sym, ap, subst, ◌∙◌}
+use Rattle.std.proofs.Common.{[], length, map, refl, sym, ap, ap₂, subst, ◌∙◌}
 use Rattle.foreign_parts.specs.declared.boxes.Kind.TheVariants as kind
 use Rattle.foreign_parts.specs.Stocks.{IsOut}
 use Rattle.plugin_graph.specs.Graphs.{contents_of}
 use Rattle.graph_checks.specs.Drawings.{AllDrawn}
 use Rattle.graph_checks.specs.Drawns.{boxes_of}
+use Rattle.graph_checks.specs.Linked.{all_taken, links_there}
 use Rattle.graph_checks.specs.Numbering.{draws_behind}
 use Rattle.graph_checks.specs.Wants.{AreLeft, names_of, so_often}
-use Rattle.graph_checks.specs.Whole.{Given}
+use Rattle.graph_checks.specs.Whole.{given_by}
 use Rattle.graph_checks.proofs.Configured.{checked_reads}
 use Rattle.graph_checks.proofs.Numbers.{drawn_as, nothing_drawn}
 use Rattle.graph_checks.proofs.Planning.{enough, still_kits}
@@ -16,7 +17,7 @@ use Rattle.graph_checks.proofs.compiling.compile.Goals as goal
 
 pub prepare-requires-clause-read : goal.prepare-requires-clause-read
 prepare-requires-clause-read g c =
-    let given : Given = record { stand = g.B.Boxes.stand c.args.rack.now; links = g.B.Boxes.links c.args.rack.now; workers = c.args.workers } in
+    let given = given_by g.B.Boxes.stand g.B.Boxes.links c.args.rack.now c.args.workers in
     checked_reads given c.args.config c.in_ok-wants.ensures.fault
 
 pub draw_into-filters-requires-clause-filters : goal.draw_into-filters-requires-clause-filters
@@ -33,7 +34,7 @@ draw_into-filters-requires-clause-outputs g c =
 
 pub hand_out-requires-clause-enough : goal.hand_out-requires-clause-enough
 hand_out-requires-clause-enough g c =
-    let given : Given = record { stand = g.B.Boxes.stand c.args.rack.now; links = g.B.Boxes.links c.args.rack.now; workers = c.args.workers } in
+    let given = given_by g.B.Boxes.stand g.B.Boxes.links c.args.rack.now c.args.workers in
     let e = c.in_ok-wants.ensures in
     let r = c.in_ok-ready.ensures in
     let boxes = c.draw_into-filters.result.filters.items in
@@ -71,3 +72,11 @@ returns-clause-drawn g c =
     subst (λ bs. AllDrawn (g.B.Stockroom.given d.new.rack) (boxes_of number bs) outputs (g.B.Boxes.stand c.args.rack.now kind.Filter).stocks (g.B.Boxes.stand c.args.rack.now kind.Output).stocks (g.B.Boxes.stand d.new.rack kind.Filter).stocks (g.B.Boxes.stand d.new.rack kind.Output).stocks)
     (sym c.hand_out.ensures.boxes)
     (drawn_before (boxes_of number d.result.filters.items) outputs (ap (λ st. st.stocks) (e.keeps.stands kind.Filter)) (ap (λ st. st.stocks) (e.keeps.stands kind.Output)) d.ensures.drawn)
+
+pub returns-clause-links : goal.returns-clause-links
+returns-clause-links g c =
+    c.draw_into-filters.ensures.links ∙ ap₂ links_there (c.in_ok-ready.ensures.links_wanted ∙ c.in_ok-wants.ensures.wants.links) c.in_ok-wants.ensures.keeps.links_stand
+
+pub returns-clause-taken : goal.returns-clause-taken
+returns-clause-taken g c =
+    c.draw_into-filters.ensures.taken ∙ ap₂ all_taken (c.in_ok-ready.ensures.links_wanted ∙ c.in_ok-wants.ensures.wants.links) c.in_ok-wants.ensures.keeps.links_stand

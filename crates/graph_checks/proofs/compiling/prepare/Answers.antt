@@ -13,4 +13,5 @@ returns g c = record {
   workers_are = c.in_ok-kits.ensures.count;
   filters_wanted = c.in_ok-room.ensures.filters;
   outputs_wanted = c.in_ok-room.ensures.outputs;
+  links_wanted = c.in_ok-room.ensures.links;
 }

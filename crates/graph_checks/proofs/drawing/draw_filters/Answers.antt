@@ -19,6 +19,7 @@ loop-want-preserved g c =
       wants = wants_more ds c.push_reserved.new.self.items _ more left rest c.args.wants next.0 i.wants;
       room = omega (arith, i.room, ap length next.0, ap length more ∙ length-append ds (_ ∷ []), c.push_reserved.ensures.capacity);
       others = e.outputs ∙ i.others;
+      links = e.links ∙ i.links;
       given = e.given ∙ i.given;
       counted = omega (arith, i.counted, next.1, ap length next.0);
     }

@@ -14,6 +14,7 @@ invariant-loop-want g l = record {
   wants : map (λ d. d.want) l.drawn.items ++ l.want-iterator.rest.items ≡ l.fn.wants;
   room : length l.drawn.items + length l.want-iterator.rest.items ≤ vec_capacity l.drawn;
   others : (g.B.Boxes.stand l.rack kind.Filter).stocks ≡ (g.B.Boxes.stand l.fn.rack kind.Filter).stocks;
+  links : g.B.Boxes.links l.rack ≡ g.B.Boxes.links l.fn.rack;
   given : g.B.Stockroom.given l.rack ≡ g.B.Stockroom.given l.fn.rack;
   counted : into_iter_len l.want-iterator ≡ length l.want-iterator.rest.items;
 }

@@ -18,6 +18,7 @@ loop-next-init g c =
     record {
       went = subst (λ n. WentBack g.B.Stockroom.filter_number out c.args.at kits first n kits first) (sym count) (none_back g.B.Stockroom.filter_number out c.args.at kits first c.requires);
       others = refl;
+      links = refl;
       given = refl;
     }
 
@@ -47,5 +48,6 @@ loop-next-preserved g c =
       went = one_back g.B.Stockroom.filter_number out c.args.at kits first (l.next - 1) l.kits.items ss (subst (λ n. WentBack g.B.Stockroom.filter_number out c.args.at kits first n l.kits.items ss) less l.invariant.went) c.index_mut.result.now c.index_mut.ensures.value
           c.give_back_one.new.kit (g.B.Boxes.stand c.give_back_one.new.rack kind.Filter).stocks e.filters e.before;
       others = e.outputs ∙ l.invariant.others;
+      links = e.links ∙ l.invariant.links;
       given = e.given ∙ l.invariant.given;
     }

@@ -8,6 +8,7 @@ abbrev pub invariant-loop-next : goal.invariant-loop-next
 invariant-loop-next g l = record {
   went : WentBack g.B.Stockroom.filter_number (λ ss n. IsOut (g.B.Stockroom.given l.fn.rack) ss (g.B.Boxes.stand l.fn.rack kind.Output).stocks n) l.at l.fn.kits.items (g.B.Boxes.stand l.fn.rack kind.Filter).stocks l.next l.kits.items (g.B.Boxes.stand l.rack kind.Filter).stocks;
   others : (g.B.Boxes.stand l.rack kind.Output).stocks ≡ (g.B.Boxes.stand l.fn.rack kind.Output).stocks;
+  links : g.B.Boxes.links l.rack ≡ g.B.Boxes.links l.fn.rack;
   given : g.B.Stockroom.given l.rack ≡ g.B.Stockroom.given l.fn.rack;
 }
 

@@ -21,6 +21,7 @@ loop-at-init g c =
       may = subst (λ n. MayGoBack out (boxes_of number (columns n (rows kits))) first) (sym wide) c.requires;
       back = ap (λ n. all_back (boxes_of number (columns n (rows kits))) first) wide;
       others = refl;
+      links = refl;
       given = refl;
     }
 
@@ -51,5 +52,6 @@ loop-at-preserved g c =
       may = columns_may number out (l.at - 1) l.kits.items ss may c.give_back_column.new.kits.items left e.filters e.before;
       back = columns_back number out (l.at - 1) l.kits.items ss may c.give_back_column.new.kits.items left e.filters e.before _ so_far;
       others = e.outputs ∙ l.invariant.others;
+      links = e.links ∙ l.invariant.links;
       given = e.given ∙ l.invariant.given;
     }

@@ -11,6 +11,7 @@ invariant-loop-at g l = record {
   may : MayGoBack (λ ss n. IsOut (g.B.Stockroom.given l.fn.rack) ss (g.B.Boxes.stand l.fn.rack kind.Output).stocks n) (boxes_of g.B.Stockroom.filter_number (columns l.at (rows l.kits.items))) (g.B.Boxes.stand l.rack kind.Filter).stocks;
   back : all_back (boxes_of g.B.Stockroom.filter_number (columns l.at (rows l.kits.items))) (g.B.Boxes.stand l.rack kind.Filter).stocks ≡ all_back (boxes_of g.B.Stockroom.filter_number (boxes_of_kits l.fn.kits.items)) (g.B.Boxes.stand l.fn.rack kind.Filter).stocks;
   others : (g.B.Boxes.stand l.rack kind.Output).stocks ≡ (g.B.Boxes.stand l.fn.rack kind.Output).stocks;
+  links : g.B.Boxes.links l.rack ≡ g.B.Boxes.links l.fn.rack;
   given : g.B.Stockroom.given l.rack ≡ g.B.Stockroom.given l.fn.rack;
 }
 

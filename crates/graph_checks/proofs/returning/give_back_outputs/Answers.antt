@@ -25,5 +25,6 @@ loop-drawn-preserved g c =
       may = others_may c.pop.new.self.items c.loop-drawn.left.items c.in-Some.drawn last g.B.Stockroom.output_number (λ ss n. IsOut (g.B.Stockroom.given c.args.rack.now) (g.B.Boxes.stand c.args.rack.now kind.Filter).stocks ss n) c.as_str.result.now c.as_str.ensures (g.B.Boxes.stand c.loop-drawn.rack kind.Output).stocks i.may (g.B.Boxes.stand c.return_output.new.self kind.Output).stocks e.outputs;
       back = others_back c.pop.new.self.items c.loop-drawn.left.items c.in-Some.drawn last g.B.Stockroom.output_number (λ ss n. IsOut (g.B.Stockroom.given c.args.rack.now) (g.B.Boxes.stand c.args.rack.now kind.Filter).stocks ss n) c.as_str.result.now c.as_str.ensures (g.B.Boxes.stand c.loop-drawn.rack kind.Output).stocks i.may (g.B.Boxes.stand c.return_output.new.self kind.Output).stocks _ e.outputs i.back;
       others = e.filters ∙ i.others;
+      links = e.links ∙ i.links;
       given = e.given ∙ i.given;
     }

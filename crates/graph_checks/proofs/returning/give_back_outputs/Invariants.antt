@@ -10,6 +10,7 @@ invariant-loop-drawn g l = record {
   may : MayGoBack (λ ss n. IsOut (g.B.Stockroom.given l.fn.rack) (g.B.Boxes.stand l.fn.rack kind.Filter).stocks ss n) (boxes_of g.B.Stockroom.output_number l.left.items) (g.B.Boxes.stand l.rack kind.Output).stocks;
   back : all_back (boxes_of g.B.Stockroom.output_number l.left.items) (g.B.Boxes.stand l.rack kind.Output).stocks ≡ all_back (boxes_of g.B.Stockroom.output_number l.fn.boxes.items) (g.B.Boxes.stand l.fn.rack kind.Output).stocks;
   others : (g.B.Boxes.stand l.rack kind.Filter).stocks ≡ (g.B.Boxes.stand l.fn.rack kind.Filter).stocks;
+  links : g.B.Boxes.links l.rack ≡ g.B.Boxes.links l.fn.rack;
   given : g.B.Stockroom.given l.rack ≡ g.B.Stockroom.given l.fn.rack;
 }
 
