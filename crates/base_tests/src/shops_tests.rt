@@ -86,6 +86,22 @@ fn workers_do_the_jobs(rt: HostRuntime) -> Result<(), Fail> {
 }
 
 #[test]
+fn a_result_is_waited_for_where_a_job_is_out(rt: HostRuntime) -> Result<(), Fail> {
+    let mut shop = ThreadShop::new(rt.alloc(), 2)?;
+    for _ in 0..2u32 {
+        let worker = shop.hire()?;
+        let _ = thread::spawn(&rt, move || worker.serve(&rt))?;
+    }
+    let none = shop.take_next(&rt).is_none();
+    let given = shop.give(Next(1)).is_none() && shop.give(Next(2)).is_none();
+    let first = shop.take_next(&rt).unwrap_or(0);
+    let second = shop.take_next(&rt).unwrap_or(0);
+    let last = shop.take_next(&rt).is_none();
+    assert!(rt; none && given && last && first.min(second) == 2 && first.max(second) == 3);
+    Ok(())
+}
+
+#[test]
 fn two_workers_work_at_once(rt: HostRuntime) -> Result<(), Fail> {
     let begun = Arc::new(rt.alloc(), AtomicU64::new(0))?;
     let mut shop = ThreadShop::new(rt.alloc(), 2)?;

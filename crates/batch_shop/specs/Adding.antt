@@ -1,5 +1,5 @@
 -- What one worker adds to the results of a shop at the end.
-use Rattle.std.specs.Prelude.{◌≡◌, ℕ, ◌⊎◌, List, [], ◌∷◌, ◌++◌}
+use Rattle.std.specs.Prelude.{◌≡◌, List, [], ◌∷◌, ◌++◌}
 
 module _ {T D : Type 0} where
   -- a result of the job, if there was one

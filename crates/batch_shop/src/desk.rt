@@ -84,6 +84,15 @@ impl<T: Task> Desk<T> {
         None
     }
 
+    /// Sleeps until the job that is out is done, or for so many microseconds. It may also return for no reason.
+    pub(crate) fn rest<R: Wait>(&self, rt: &R, micros: u64) {
+        match self.side.word() {
+            1 => self.side.rest(rt, 1, micros),
+            2 => self.side.rest(rt, 2, micros),
+            _ => {}
+        }
+    }
+
     /// Tells the worker that no job will come.
     pub(crate) fn close(self)
         requires { is_out self ≡ false }

@@ -8,6 +8,7 @@ use crate::task::Task;
 use atomic_table::{Seat, Table};
 use std::alloc::{AllocError, Global};
 use std::sync::{Arc, Wait};
+use std::time::Duration;
 
 /// The table that a shop shares with one worker: a word that says whose turn it is, and a slot.
 type Shared<T> = Arc<
@@ -118,5 +119,11 @@ impl<T: Task> Side<T> {
     /// Sleeps while the word is this, unless it is woken.
     pub(crate) fn sleep<R: Wait>(&self, rt: &R, word: u32) {
         self.table.shared.park(rt, 0, word);
+    }
+
+    /// The same, for so many microseconds at most.
+    pub(crate) fn rest<R: Wait>(&self, rt: &R, word: u32, micros: u64) {
+        let most = Duration::from_micros(micros);
+        self.table.shared.park_timeout(rt, 0, word, most);
     }
 }

@@ -1,6 +1,7 @@
 ghost use Rattle.std.specs.Prelude.{◌≡◌, ◌≤◌, ◌<◌, ◌+◌, ◌⊎◌, [], length, IsTrue, IsFalse, vec_len, vec_capacity, IfOk, IfSome, IfNone, OnOk, OnErr};
 ghost use Rattle.batch_shop.specs.Desks.{job_out};
 ghost use Rattle.batch_shop.specs.Adding.{AddsResult};
+ghost use Rattle.batch_shop.specs.Jobs.{ComesHome};
 
 use crate::desk::Desk;
 use crate::task::{Shop, Task};
@@ -8,6 +9,12 @@ use crate::worker::Worker;
 use plain_data::Items;
 use std::alloc::{AllocError, Global};
 use std::sync::Wait;
+
+/// How often a wait for a result looks for one before it sleeps.
+const LOOKS: u32 = 64;
+
+/// How long a wait sleeps on the word of one worker at most, in microseconds, since another may be done before.
+const REST: u64 = 100;
 
 /// Results that came home.
 pub type Dones<T> = Items<<T as Task>::Done>;
@@ -79,6 +86,28 @@ impl<T: Task> ThreadShop<T> {
         }
     }
 
+    /// The result of a job that is out, which is then home. Where none is done yet it waits until one is, and sleeps
+    /// meanwhile. None exactly where no job is out.
+    pub fn take_next<R: Wait>(&mut self, rt: &R) -> Option<T::Done>
+        ensures home { IfSome result (ComesHome T.gives (jobs_of self.old) (jobs_of self.new)) }
+        ensures none { IfNone result ((jobs_of self.old ≡ []) × (jobs_of self.new ≡ [])) }
+        ensures same { started_of self.new ≡ started_of self.old }
+    {
+        if let Some(done) = self.look() {
+            return Some(done);
+        }
+        for _ in rt.forever() {
+            match self.busy_desk() {
+                Some(at) => self.desks[at].rest(rt, REST),
+                None => return None,
+            }
+            if let Some(done) = self.take() {
+                return Some(done);
+            }
+        }
+        None
+    }
+
     /// Waits for each job that is out, ends the workers, and gives the results, one for each job.
     pub fn close<R: Wait>(self, rt: &R) -> Dones<T>
         ensures { AreResults T.gives (jobs_of self) result }
@@ -91,6 +120,33 @@ impl<T: Task> ThreadShop<T> {
             settle(rt, desk, &mut dones);
         }
         Items::from_vec(dones)
+    }
+
+    /// Looks some times for the result of a job that is out.
+    fn look(&mut self) -> Option<T::Done>
+        ensures home { IfSome result (ComesHome T.gives (jobs_of self.old) (jobs_of self.new)) }
+        ensures none { IfNone result (jobs_of self.new ≡ jobs_of self.old) }
+        ensures same { started_of self.new ≡ started_of self.old }
+    {
+        for _ in 0..LOOKS {
+            if let Some(done) = self.take() {
+                return Some(done);
+            }
+        }
+        None
+    }
+
+    /// The first desk that has a job out; none where none has.
+    fn busy_desk(&self) -> Option<usize>
+        ensures some { IfSome result (λ at. at < length self.now.desks.items) }
+        ensures none { IfNone result (jobs_of self.now ≡ []) }
+    {
+        for at in 0..self.desks.len() {
+            if self.desks[at].has_job() {
+                return Some(at);
+            }
+        }
+        None
     }
 
     /// The first desk from this one on that has no job out; none where each has.
