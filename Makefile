@@ -35,6 +35,7 @@ bench: all
 	bash bench/growth.sh
 	bash bench/store.sh
 	bash bench/page.sh
+	bash bench/queue.sh
 	bash bench/outputs.sh
 	bash bench/letters.sh
 	bash bench/folder.sh

@@ -13,7 +13,8 @@ pub fn run(alloc: Global, words: &[String]) -> Option<u64> {
     coded(alloc, &event(alloc)?, call.as_str(), rounds)
 }
 
-fn coded(alloc: Global, event: &Event, call: &str, rounds: u32) -> Option<u64> {
+/// The size of an event, or how many bytes so many rounds encode or decode of it.
+pub(crate) fn coded(alloc: Global, event: &Event, call: &str, rounds: u32) -> Option<u64> {
     let mut bytes = Vec::new(alloc);
     encode(event, &mut bytes).ok()?;
     match call {
@@ -31,7 +32,7 @@ pub(crate) fn event(alloc: Global) -> Option<Event> {
 }
 
 fn fill(alloc: Global, event: &mut Event) -> Option<()> {
-    put_texts(alloc, event)?;
+    put_texts(alloc, event, &TEXTS)?;
     put_numbers(alloc, event)?;
     put_moment(alloc, event)
 }
@@ -68,8 +69,9 @@ const NUMBERS: [(&str, i64, u8); 5] = [
     ("[geo][longitude]", -174_412, 5),
 ];
 
-fn put_texts(alloc: Global, event: &mut Event) -> Option<()> {
-    for (path, text) in &TEXTS {
+/// Puts texts at their paths.
+pub(crate) fn put_texts(alloc: Global, event: &mut Event, texts: &[(&str, &str)]) -> Option<()> {
+    for (path, text) in texts {
         let text = Text::of(alloc, text).ok()?;
         put(alloc, event, path, Value::Text(text))?;
     }
@@ -88,7 +90,8 @@ fn put_numbers(alloc: Global, event: &mut Event) -> Option<()> {
     Some(())
 }
 
-fn put_moment(alloc: Global, event: &mut Event) -> Option<()> {
+/// Puts a moment at `@timestamp`.
+pub(crate) fn put_moment(alloc: Global, event: &mut Event) -> Option<()> {
     let moment = Instant::from_nanos(1_709_596_800_123_000_000)?;
     put(alloc, event, "@timestamp", Value::Time(moment))
 }

@@ -5,7 +5,6 @@ ghost use Rattle.std.specs.Prelude.{⊤};
 use batch_shop::{Shop, Task, ThreadShop};
 use std::alloc::{AllocError, Global};
 use std::sync::Wait;
-use std::thread;
 
 /// A job of so many turns, each of which waits for the one before it.
 #[derive(Drop)]
@@ -61,7 +60,7 @@ impl Order {
     pub fn fill<R: Wait>(self, rt: &R, mut shop: ThreadShop<Turns>) -> Option<u64> {
         let mut home = 0u64;
         for _ in 0..self.jobs {
-            home = home.wrapping_add(self.give(&mut shop));
+            home = home.wrapping_add(self.give(rt, &mut shop));
         }
         let last = shop.close(rt);
         u64::try_from(last.as_slice().len())
@@ -70,7 +69,7 @@ impl Order {
     }
 
     /// Gives one job, and gives how many results came home until a worker took it.
-    fn give(self, shop: &mut ThreadShop<Turns>) -> u64 {
+    fn give<R: Wait>(self, rt: &R, shop: &mut ThreadShop<Turns>) -> u64 {
         let mut home = 0u64;
         let mut job = Turns(self.turns);
         for _ in 0..u64::MAX {
@@ -78,9 +77,9 @@ impl Order {
                 None => break,
                 Some(back) => job = back,
             }
-            match shop.take() {
+            match shop.take_next(rt) {
                 Some(_) => home = home.wrapping_add(1),
-                None => thread::yield_now(),
+                None => break,
             }
         }
         home

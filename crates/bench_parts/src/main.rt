@@ -15,6 +15,7 @@ mod pages;
 mod parcels;
 mod parse;
 mod patterns;
+mod queue;
 mod store;
 mod templates;
 
@@ -37,6 +38,8 @@ parcels PARCELS
 parse parse|lex|print TIMES FILE
 patterns search FILE LINES
 patterns make FILE COUNT
+queue size|encode|decode ROUNDS
+queue open|fill|keep|purge CAPACITY ROWS
 store FILE APPENDS EVERY
 templates TIMES FILE
 ";
@@ -97,6 +100,7 @@ fn run_on_files(rt: &HostRuntime, part: &str, given: &[String]) -> Option<u64> {
         "pages" => pages::run(rt, given),
         "parse" => parse::run(rt, given),
         "patterns" => patterns::run(rt, given),
+        "queue" => queue::run(rt, given),
         "store" => store::run(rt, given),
         "templates" => templates::run(rt, given),
         _ => None,

@@ -1,5 +1,5 @@
 -- Lists of bits.
-use Rattle.std.proofs.Common.{◌≡◌, ⊎_elim, ℕ, zero, suc, ◌+◌, ◌-◌, ◌*◌, ◌/◌, ◌%◌, ◌^◌, ◌<◌, ◌≤◌, ◌==◌, ◌&&◌, ◌||◌, not, nat_lt, if◌then◌else◌, Bool, true, false, List, [], ◌∷◌, ◌++◌, length, get_or, max, refl, sym, ◌∙◌, ap, arith}
+use Rattle.std.proofs.Common.{◌≡◌, ⊎_elim, ℕ, zero, suc, ◌+◌, ◌-◌, ◌*◌, ◌/◌, ◌%◌, ◌^◌, ◌<◌, ◌≤◌, ◌==◌, ◌&&◌, ◌||◌, not, nat_lt, if◌then◌else◌, Bool, true, false, List, [], ◌∷◌, ◌++◌, length, drop, get_or, max, refl, sym, ◌∙◌, ap, subst, arith, length-append}
 use Rattle.std.proofs.Math.Path.{ap₂}
 use Rattle.std.proofs.Math.Bool.{or-true, or-false}
 use Rattle.std.proofs.Math.Pow.{pow-lt}
@@ -11,7 +11,7 @@ use Rattle.std.specs.Int.{bit_at}
 use Rattle.std.specs.Int.Bits.{bit_or}
 use Rattle.std.proofs.lemmas.Bool.Decides.{nat_tests}
 use Rattle.queue_laws.specs.Kept.{leading}
-use Rattle.persistent_queue.specs.Bits.{bit_of, bits_from, is_among, with_range}
+use Rattle.persistent_queue.specs.Bits.{bit_of, bits_from, is_among, with_range, AreHeld}
 
 -- the same bits are the same list
 pub same_bits : (words other : List ℕ) (from count : ℕ) → ((k : ℕ) → from ≤ k → k < from + count → bit_of other k ≡ bit_of words k) → bits_from other from count ≡ bits_from words from count
@@ -215,3 +215,31 @@ first_after old new from to count first found is bits found_is =
     let set : (k : ℕ) → 0 ≤ k → k < 0 + first → bit_of new k ≡ true =
     λ k past less. bits k ∙ ap (λ (b : Bool). b || is_among from to k) (front_set old 0 count k past (omega (arith, less, is))) in
     found_is ∙ sym (leads_on new 0 first count (omega (arith, is, leading_within old 0 count)) set ∙ ap (λ n. first + leading (bits_from new n (count - first))) here)
+
+-- ---- the last bit goes again
+
+same_last : (xs ys : List Bool) (x y : Bool) → xs ++ x ∷ [] ≡ ys ++ y ∷ [] → (xs ≡ ys) × (x ≡ y)
+same_last [] [] x y is = (refl, ap (λ l. get_or l 0 false) is)
+same_last [] (b ∷ ys) x y is = absurd (omega (arith, ap length is, length-append ys (y ∷ [])))
+same_last (a ∷ xs) [] x y is = absurd (omega (arith, ap length is, length-append xs (x ∷ [])))
+same_last (a ∷ xs) (b ∷ ys) x y is =
+    let rest = same_last xs ys x y (ap (drop 1) is) in
+    (ap₂ (λ (c : Bool) (l : List Bool). c ∷ l) (ap (λ l. get_or l 0 false) is) rest.0, rest.1)
+
+pub bits_popped : (words : List ℕ) (count first : ℕ) (rows : List Bool) → AreHeld words count first → bits_from words 0 count ≡ rows ++ false ∷ [] → (bits_from words 0 (count - 1) ≡ rows) × AreHeld words (count - 1) first
+bits_popped words zero first rows held is = absurd (omega (arith, ap length is, length-append rows (false ∷ [])))
+bits_popped words (suc n) first rows held is =
+    let less : suc n - 1 ≡ n = omega arith in
+    subst (λ k. (bits_from words 0 k ≡ rows) × AreHeld words k first) (sym less) (last.0, record { room = omega (arith, held.room); rest = rest; first_is = first_is })
+  where
+    last : (bits_from words 0 n ≡ rows) × (bit_of words n ≡ false)
+    last =
+        let more : suc n ≡ n + 1 = omega arith in
+        let here : 0 + n ≡ n = omega arith in
+        same_last (bits_from words 0 n) rows (bit_of words n) false (ap (λ k. bits_from words 0 n ++ bit_of words k ∷ []) (sym here) ∙ sym (one_bit_more words 0 n) ∙ ap (bits_from words 0) (sym more) ∙ is)
+
+    rest : (k : ℕ) → n ≤ k → bit_of words k ≡ false
+    rest k past = ⊎_elim (λ same. ap (bit_of words) same ∙ last.1) (λ differs. held.rest k (omega (arith, past, differs))) (cases_eq k n)
+
+    first_is : first ≡ leading (bits_from words 0 n)
+    first_is = held.first_is ∙ ap leading is ∙ leads_still rows ∙ ap leading (sym last.0)

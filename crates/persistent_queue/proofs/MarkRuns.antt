@@ -217,6 +217,7 @@ module _ {S : Type 0} (store : StoreWords S) (v : QueueView) (marks : List Mark)
             top = ap file_length (same v.top.number) ∙ files.top;
             part = λ has. subst (λ (f : Option (List ℕ)). IsPart (bytes_of f) v.cursor.block) (sym (same v.cursor.page))
                 (files.part (has_marked v.cursor.page v has));
+            within = files.within;
           };
     }
 

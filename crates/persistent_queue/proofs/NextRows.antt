@@ -1,6 +1,6 @@
 -- The next rows of a page are those of its elements.
-use Rattle.std.proofs.Common.{◌≡◌, inl, inr, ℕ, zero, suc, ◌+◌, ◌-◌, ◌<◌, ◌≤◌, not, ◌||◌, nat_lt, true, false, List, [], ◌∷◌, ◌++◌, length, map, drop, Option, Some, None, Ok, refl, sym, ap, ◌∙◌, subst, arith, append-nil, append_assoc, length-append}
-use Rattle.std.proofs.lemmas.Bool.{cond-true, cond-false, cases_lt}
+use Rattle.std.proofs.Common.{◌≡◌, inl, inr, ℕ, zero, suc, ◌+◌, ◌-◌, ◌<◌, ◌≤◌, not, ◌||◌, nat_lt, Bool, true, false, if◌then◌else◌, List, [], ◌∷◌, ◌++◌, length, map, drop, Option, Some, None, Ok, refl, sym, ap, ◌∙◌, subst, arith, append-nil, append_assoc, length-append}
+use Rattle.std.proofs.lemmas.Bool.{cond-true, cond-false, cases_lt, true≢false}
 use Rattle.std.proofs.lemmas.Bool.Decides.{nat_tests}
 use Rattle.std.proofs.lemmas.List.{map-append, drop_at}
 use Rattle.crc_frame.proofs.FrameLemmas.{length-frame_of}
@@ -18,17 +18,28 @@ use Rattle.queue_page.proofs.Fronts.{length-left}
 use Rattle.queue_page.proofs.RunReads.{left_more}
 use Rattle.queue_laws.specs.Found.{Row, row_of, since}
 use Rattle.persistent_queue.specs.Batching.{given, with_more, is_over, passed, joined, behind_row, place_in, rows_read}
-use Rattle.persistent_queue.specs.Unread.{told, body_size, taken, taken_with}
+use Rattle.persistent_queue.specs.Unread.{told, body_size, taken, taken_on, taken_with, IsReadOn}
 use Rattle.persistent_queue.specs.declared.page_rows.Reading.{Reading}
 use Rattle.persistent_queue.proofs.RowReads.{rows_none, rows_over, row_step}
 
-spelled : (version : ℕ) (body : List ℕ) (origin : Origin) (event : Ev) → IsBody version body origin event → body_spelling origin event ≡ body
+pub spelled : (version : ℕ) (body : List ℕ) (origin : Origin) (event : Ev) → IsBody version body origin event → body_spelling origin event ≡ body
 spelled version body Unknown event is = is.1.spelled
 spelled version body (Id id) event is = is.1.spelled
 
 none_taken : (most count : ℕ) (bytes : Option ℕ) → taken most count bytes [] ≡ []
 none_taken most zero bytes = refl
 none_taken most (suc count) bytes = refl
+
+-- what a batch that isn't closed takes of further rows, and of none
+pub still_on : (r : Reading) → r.closed ≡ false → (more : List Row) → taken_on r more ≡ taken r.most_bytes (r.most_rows - length r.rows) r.bytes more
+still_on r still more = cond-false _ _ _ still
+
+none_if : (closed : Bool) (rows : List Row) → rows ≡ [] → (if closed then [] else rows) ≡ []
+none_if true rows none = refl
+none_if false rows none = none
+
+pub nothing_on : (r : Reading) → taken_on r [] ≡ []
+nothing_on r = none_if r.closed (taken r.most_bytes (r.most_rows - length r.rows) r.bytes []) (none_taken r.most_bytes (r.most_rows - length r.rows) r.bytes)
 
 module _ (name : List ℕ) (p : PageView) (from : ℕ) (file : List ℕ) (long : p.state.length ≤ length file) where
   abbrev left : Reading → List ℕ
@@ -38,18 +49,30 @@ module _ (name : List ℕ) (p : PageView) (from : ℕ) (file : List ℕ) (long :
   pub record Reads (rows : List PageRow) (r : Reading) : Type 0 where
     pub next : Reading
     pub is : rows_read name p from file (length rows) r ≡ Ok next
-    pub rows_are : map told next.rows ≡ map told r.rows ++ taken r.most_bytes (r.most_rows - length r.rows) r.bytes (since from rows)
+    pub on : IsReadOn p from file rows r next
 
   -- a batch that has as many as it may
-  full : (rows : List PageRow) (r : Reading) → r.closed ≡ false → r.most_rows ≤ length r.rows → Reads rows r
-  full rows r still all =
+  full : (rows : List PageRow) (r : Reading) → r.closed ≡ false → r.place ≤ p.state.length → AreElements p.version r.number r.place rows (left_of file r.place p.state.length) → r.most_rows ≤ length r.rows → Reads rows r
+  full rows r still within els all =
       let t : nat_lt (length r.rows) r.most_rows ≡ false = grind (arith, nat_tests, all) in
       let over : is_over r ≡ true = ap (λ b. b || not (nat_lt (length r.rows) r.most_rows)) still ∙ ap not t in
       let none : r.most_rows - length r.rows ≡ 0 = omega arith in
       record {
         next = r;
         is = rows_over name p from file (length rows) r over;
-        rows_are = sym (append-nil (map told r.rows)) ∙ ap (λ n. map told r.rows ++ taken r.most_bytes n r.bytes (since from rows)) (sym none);
+        on = record {
+          count = 0;
+          few = omega arith;
+          number = omega arith;
+          within = within;
+          left = els;
+          given = refl;
+          goes_on = λ more. ap (λ n. map told r.rows ++ taken r.most_bytes n r.bytes (since from rows ++ more)) none ∙ ap (λ n. map told r.rows ++ taken r.most_bytes n r.bytes more) (sym none)
+              ∙ ap (λ l. map told r.rows ++ l) (sym (still_on r still more));
+          most_rows = refl;
+          most_bytes = refl;
+          all = λ not_over. absurd (true≢false (sym over ∙ not_over));
+        };
       }
 
   -- the first row of those that stand there
@@ -107,7 +130,18 @@ module _ (name : List ℕ) (p : PageView) (from : ℕ) (file : List ℕ) (long :
         record {
           next = rest.next;
           is = step ∙ ap (rows_read name p from file (length rows)) (cond-true _ _ _ t) ∙ rest.is;
-          rows_are = rest.rows_are ∙ ap (λ l. map told r.rows ++ taken r.most_bytes (r.most_rows - length r.rows) r.bytes l) (sym (cond-true _ _ _ u));
+          on = record {
+            count = suc rest.on.count;
+            few = omega (arith, rest.on.few);
+            number = omega (arith, rest.on.number);
+            within = rest.on.within;
+            left = rest.on.left;
+            given = rest.on.given ∙ ap (λ (l : List Row). map told r.rows ++ l) (sym (cond-true _ _ _ u));
+            goes_on = λ more. ap (λ (l : List Row). map told r.rows ++ taken r.most_bytes (r.most_rows - length r.rows) r.bytes (l ++ more)) (cond-true _ _ _ u) ∙ rest.on.goes_on more;
+            most_rows = rest.on.most_rows;
+            most_bytes = rest.on.most_bytes;
+            all = rest.on.all;
+          };
         }
 
     module _ (late : from ≤ r.number) where
@@ -119,45 +153,81 @@ module _ (name : List ℕ) (p : PageView) (from : ℕ) (file : List ℕ) (long :
           let t : nat_lt r.number from ≡ false = grind (arith, nat_tests, late) in
           step ∙ ap (rows_read name p from file (length rows)) (cond-false _ _ _ t ∙ ap (λ n. joined row (with_more r.most_bytes r.bytes n) r) size ∙ ap (λ b. joined row b r) (sym is))
 
-      rows_then : (bytes : Option ℕ) → bytes ≡ with_more r.most_bytes r.bytes (body_size (row_of row))
-          → taken r.most_bytes (r.most_rows - length r.rows) r.bytes (since from (row ∷ rows)) ≡ taken_with bytes (row_of row) (λ b. taken r.most_bytes (r.most_rows - (length r.rows + 1)) b (since from rows))
-      rows_then bytes is =
-          let u : nat_lt row.number from ≡ false = grind (arith, nat_tests, late, number) in
+      since_is : since from (row ∷ rows) ≡ row_of row ∷ since from rows
+      since_is = let u : nat_lt row.number from ≡ false = grind (arith, nat_tests, late, number) in cond-false _ _ _ u
+
+      rows_then : (bytes : Option ℕ) → bytes ≡ with_more r.most_bytes r.bytes (body_size (row_of row)) → (more : List Row)
+          → taken r.most_bytes (r.most_rows - length r.rows) r.bytes (since from (row ∷ rows) ++ more) ≡ taken_with bytes (row_of row) (λ b. taken r.most_bytes (r.most_rows - (length r.rows + 1)) b (since from rows ++ more))
+      rows_then bytes is more =
           let count : r.most_rows - length r.rows ≡ suc (r.most_rows - (length r.rows + 1)) = omega (arith, room) in
-          ap (λ n. taken r.most_bytes n r.bytes (since from (row ∷ rows))) count
-          ∙ ap (taken r.most_bytes (suc (r.most_rows - (length r.rows + 1))) r.bytes) (cond-false _ _ _ u)
-          ∙ ap (λ b. taken_with b (row_of row) (λ b. taken r.most_bytes (r.most_rows - (length r.rows + 1)) b (since from rows))) (sym is)
+          ap (λ n. taken r.most_bytes n r.bytes (since from (row ∷ rows) ++ more)) count
+          ∙ ap (λ (l : List Row). taken r.most_bytes (suc (r.most_rows - (length r.rows + 1))) r.bytes (l ++ more)) since_is
+          ∙ ap (λ b. taken_with b (row_of row) (λ b. taken r.most_bytes (r.most_rows - (length r.rows + 1)) b (since from rows ++ more))) (sym is)
 
       -- one that has no room
       pub one_closes : None ≡ with_more r.most_bytes r.bytes (body_size (row_of row)) → Reads (row ∷ rows) r
       one_closes is = record {
         next = joined row None r;
         is = stepped None is ∙ rows_over name p from file (length rows) (joined row None r) refl;
-        rows_are = sym (append-nil (map told r.rows)) ∙ ap (λ l. map told r.rows ++ l) (sym (rows_then None is));
+        on = record {
+          count = 0;
+          few = omega arith;
+          number = omega arith;
+          within = within;
+          left = els;
+          given = refl;
+          goes_on = λ more. ap (λ l. map told r.rows ++ l) (rows_then None is more);
+          most_rows = refl;
+          most_bytes = refl;
+          all = λ not_over. absurd (true≢false not_over);
+        };
       }
 
       -- one that joins
       pub one_joins : (bytes : ℕ) → Some bytes ≡ with_more r.most_bytes r.bytes (body_size (row_of row)) → Reads rows (joined row (Some bytes) r) → Reads (row ∷ rows) r
       one_joins bytes is rest =
-          let rest_is : List Row = taken r.most_bytes (r.most_rows - (length r.rows + 1)) (Some bytes) (since from rows) in
+          let rest_is : List Row → List Row = λ more. taken r.most_bytes (r.most_rows - (length r.rows + 1)) (Some bytes) (since from rows ++ more) in
           let count : length (r.rows ++ given row ∷ []) ≡ length r.rows + 1 = length-append r.rows (given row ∷ []) in
           record {
             next = rest.next;
             is = stepped (Some bytes) is ∙ rest.is;
-            rows_are = rest.rows_are
-                ∙ (λ i. map-append told r.rows (given row ∷ []) i ++ taken r.most_bytes (r.most_rows - count i) (Some bytes) (since from rows))
-                ∙ append_assoc (map told r.rows) (row_of row ∷ []) rest_is
-                ∙ ap (λ l. map told r.rows ++ l) (sym (rows_then (Some bytes) is));
+            on = record {
+              count = suc rest.on.count;
+              few = omega (arith, rest.on.few);
+              number = omega (arith, rest.on.number);
+              within = rest.on.within;
+              left = rest.on.left;
+              given = rest.on.given ∙ ap (λ (l : List Row). l ++ since from rows) (map-append told r.rows (given row ∷ []))
+                  ∙ append_assoc (map told r.rows) (row_of row ∷ []) (since from rows) ∙ ap (λ (l : List Row). map told r.rows ++ l) (sym since_is);
+              goes_on = λ more. ap (λ l. map told r.rows ++ l) (rows_then (Some bytes) is more)
+                  ∙ sym (append_assoc (map told r.rows) (row_of row ∷ []) (rest_is more))
+                  ∙ (λ i. sym (map-append told r.rows (given row ∷ [])) i ++ taken r.most_bytes (r.most_rows - sym count i) (Some bytes) (since from rows ++ more))
+                  ∙ rest.on.goes_on more;
+              most_rows = rest.on.most_rows;
+              most_bytes = rest.on.most_bytes;
+              all = rest.on.all;
+            };
           }
 
   pub next_rows : (rows : List PageRow) (r : Reading) → r.closed ≡ false → r.place ≤ p.state.length → AreElements p.version r.number r.place rows (left_of file r.place p.state.length) → Reads rows r
   next_rows [] r still within els = record {
     next = r;
     is = rows_none name p from file r;
-    rows_are = sym (append-nil (map told r.rows)) ∙ ap (λ l. map told r.rows ++ l) (sym (none_taken r.most_bytes (r.most_rows - length r.rows) r.bytes));
+    on = record {
+      count = 0;
+      few = omega arith;
+      number = omega arith;
+      within = within;
+      left = els;
+      given = refl;
+      goes_on = λ more. ap (λ l. map told r.rows ++ l) (sym (still_on r still more));
+      most_rows = refl;
+      most_bytes = refl;
+      all = λ not_over. refl;
+    };
   }
   next_rows (row ∷ rows) r still within els = elim (cases_lt (length r.rows) r.most_rows) [
-    | inr all ↦ full (row ∷ rows) r still (omega (arith, all))
+    | inr all ↦ full (row ∷ rows) r still within els (omega (arith, all))
     | inl room ↦ elim (cases_lt r.number from) [
       | inl below ↦ one_passed row rows r still room within els below (next_rows rows (passed row r) still (inside row rows r still room within els) (more row rows r still room within els))
       | inr late ↦ by (omega (arith, late)) room (with_more r.most_bytes r.bytes (body_size (row_of row))) refl (λ bytes. next_rows rows (joined row (Some bytes) r) still (inside row rows r still room within els) (more row rows r still room within els))
@@ -167,3 +237,9 @@ module _ (name : List ℕ) (p : PageView) (from : ℕ) (file : List ℕ) (long :
       by : from ≤ r.number → length r.rows < r.most_rows → (bytes : Option ℕ) → bytes ≡ with_more r.most_bytes r.bytes (body_size (row_of row)) → ((bytes : ℕ) → Reads rows (joined row (Some bytes) r)) → Reads (row ∷ rows) r
       by late room None is again = one_closes row rows r still room within els late is
       by late room (Some bytes) is again = one_joins row rows r still room within els late bytes is (again bytes)
+
+  -- those that the batch has then
+  pub rows_got : (rows : List PageRow) (r next : Reading) → IsReadOn p from file rows r next → map told next.rows ≡ map told r.rows ++ taken r.most_bytes (r.most_rows - length r.rows) r.bytes (since from rows)
+  rows_got rows r next on =
+      sym (append-nil (map told next.rows)) ∙ ap (λ l. map told next.rows ++ l) (sym (nothing_on next)) ∙ sym (on.goes_on [])
+      ∙ ap (λ (l : List Row). map told r.rows ++ taken r.most_bytes (r.most_rows - length r.rows) r.bytes l) (append-nil (since from rows))

@@ -344,6 +344,7 @@ module _ {S : Type 0} (store : StoreWords S) (v : QueueView) where
                   tails = long_left v.folder k (store.seen old) (store.seen new) (other_page told) (other_slots told) 0 v.top.number v.tails climb some files.tails;
                   top = ap file_length (other_page told v.top.number top_differs) ∙ files.top;
                   part = λ has. part_of told files climb top_differs has;
+                  within = files.within;
                 };
           }
         where

@@ -4,3 +4,10 @@ pub mod Calls
 pub mod Opens
 pub mod Batching
 pub mod Unread
+pub mod Taking
+pub mod Acknowledging
+pub mod NextBatch
+pub mod Opening
+pub mod QueueBatches
+pub mod Writing
+pub mod UnreadRows

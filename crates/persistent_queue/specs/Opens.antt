@@ -59,11 +59,12 @@ IsAmong n (o ∷ tails) = (n ≡ o.number) ⊎ IsAmong n tails
 abbrev pub HasPage : ℕ → QueueView → Type 0
 HasPage n v = (n ≡ v.top.number) ⊎ IsAmong n v.tails
 
--- The files of all pages have as many bytes as they say, and what was read last of the page of the next row stands there.
+-- The files of all pages have as many bytes as they say, what was read last of the page of the next row stands there, and that page isn't above the head.
 pub record IsOfFiles (v : QueueView) (content : Content) : Type 0 where
   pub tails : AreLong v.folder v.tails content
   pub top : file_length (content (names_in v.folder (page v.top.number))) ≡ v.top.page.state.length
   pub part : HasPage v.cursor.page v → IsPart (bytes_of (content (names_in v.folder (page v.cursor.page)))) v.cursor.block
+  pub within : v.cursor.page ≤ v.top.number
 
 -- the first of these pages goes of which all rows are recorded as acknowledged, if there is one
 abbrev pub unspent : List Page → List Page

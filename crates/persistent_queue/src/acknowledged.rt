@@ -1,4 +1,4 @@
-ghost use Rattle.std.specs.Prelude.{◌≡◌, ◌≤◌, ◌<◌, ◌^◌, ◌++◌, ◌∷◌, [], false, length, OnOk, OnErr};
+ghost use Rattle.std.specs.Prelude.{◌≡◌, ◌≤◌, ◌<◌, ◌^◌, ◌++◌, ◌∷◌, [], false, length, replicate, List, Bool, IfOk, OnOk, OnErr};
 ghost use Rattle.queue_laws.specs.Kept.{leading};
 ghost use Rattle.persistent_queue.specs.Bits.{with_range};
 
@@ -37,6 +37,19 @@ impl Acknowledged {
         }
     }
 
+    /// Those of a page with so many rows, none of which is acknowledged.
+    pub fn none_of(alloc: Global, count: usize) -> Result<Self, AllocError>
+        requires { count < 2 ^ 32 }
+        ensures { IfOk result (λ acknowledged. acknowledged ≡ replicate count false) }
+    {
+        let words = vec![in alloc; 0; count / 64 + 1]?;
+        Ok(Acknowledged {
+            words,
+            count,
+            leading: 0,
+        })
+    }
+
     /// One row more, which isn't acknowledged. Where there is no memory, all stays.
     pub fn push(&mut self) -> Result<(), AllocError>
         requires { length self.old < 2 ^ 32 }
@@ -46,6 +59,14 @@ impl Acknowledged {
         make_room(&mut self.words, self.count)?;
         self.count += 1;
         Ok(())
+    }
+
+    /// The last row goes again, which isn't acknowledged. It takes no memory.
+    pub(crate) fn pop(&mut self)
+        requires { (rows : List Bool) × (self.old ≡ rows ++ false ∷ []) }
+        ensures { (rows : List Bool) → self.old ≡ rows ++ false ∷ [] → self.new ≡ rows }
+    {
+        self.count -= 1;
     }
 
     /// The rows from one on are acknowledged, up to another, where rows are counted from 0. It takes no

@@ -1,5 +1,18 @@
+use crate::limits::Numbers;
+use crate::page_rows::QueueRow;
+use plain_data::Items;
 use queue_page::Block;
 use std::marker::Model;
+
+/// Rows that a queue gives, one behind the other: at least one.
+#[derive(Drop)]
+pub struct Batch {
+    /// The number of the first row, and that of the row behind the last. Rows between them that the batch
+    /// doesn't have were acknowledged before.
+    pub numbers: Numbers,
+    /// The rows.
+    pub rows: Items<QueueRow>,
+}
 
 /// The place of the next unread row of a queue.
 #[derive(Drop)]

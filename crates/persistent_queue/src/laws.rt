@@ -1,8 +1,68 @@
-//! What holds of batches as rows. Each function here does nothing: its clause is a theorem.
+//! What holds of open queues and of batches as rows. Each function here does nothing: its clause is a theorem.
+ghost use Rattle.persistent_queue.specs.Acknowledging.{AcknowledgedIsOpen, AcknowledgedIsReady};
+ghost use Rattle.persistent_queue.specs.NextBatch.{NextBatchIsRead};
+ghost use Rattle.persistent_queue.specs.QueueBatches.{FirstRowsAreTaken};
 ghost use Rattle.persistent_queue.specs.Unread.{NextRowsAreRead};
+ghost use Rattle.persistent_queue.specs.UnreadRows.{AcknowledgedLeavesUnread, AllAreGiven, MarkLeavesUnread};
+ghost use Rattle.persistent_queue.specs.UnreadRows.{OpenedRowsAreUnread};
+ghost use Rattle.persistent_queue.specs.UnreadRows.{PurgeLeavesUnread, WrittenComesLast};
+
+use store_disk::Store;
 
 /// The rows that are read of a page for a batch are the next ones that aren't below a number, as many as the
 /// batch may have.
 pub fn next_rows_are_read()
     ensures { NextRowsAreRead }
+{}
+
+/// Where the rows of the pages of a queue stand in their files, those that are read for a batch are the next
+/// ones that aren't recorded as acknowledged, in order, as many as the batch may have; and the row behind them
+/// is the next one then.
+pub fn next_batch_is_read()
+    ensures { NextBatchIsRead }
+{}
+
+/// Of a queue whose rows stand in its files a batch takes the first unread rows, in order, as many as it may
+/// have, and none where no row is unread; the others are the unread rows behind it.
+pub fn first_rows_are_taken()
+    ensures { FirstRowsAreTaken }
+{}
+
+/// A store that holds the queue of a folder holds it with rows acknowledged: nothing is recorded of that before
+/// a mark. And the queue takes calls as before.
+pub fn acknowledged_rows_leave_the_queue<S: Store>()
+    ensures holds { AcknowledgedIsOpen S.Store }
+    ensures ready { AcknowledgedIsReady S.Store }
+{}
+
+/// Reads of a store that holds a queue with unread rows give that queue, so a batch takes the first of them. Of
+/// a queue that was opened all rows are unread, page by page, but those recorded as acknowledged.
+pub fn opened_rows_are_unread<S: Store>()
+    ensures { OpenedRowsAreUnread S.Store }
+{}
+
+/// An acknowledgement leaves the same rows unread: what is given next doesn't depend on it before a mark.
+pub fn acknowledged_rows_leave_unread<S: Store>()
+    ensures { AcknowledgedLeavesUnread S.Store }
+{}
+
+/// A row that is written comes behind all unread rows, in the head page or a new one. Where it needs a new
+/// page, that takes each acknowledged row to have been given.
+pub fn a_written_row_comes_last<S: Store>()
+    ensures { WrittenComesLast S.Store }
+{}
+
+/// A page that goes leaves the same rows unread, since all of its own are recorded as acknowledged.
+pub fn a_purge_leaves_unread<S: Store>()
+    ensures { PurgeLeavesUnread S.Store }
+{}
+
+/// Where each acknowledged row was given, a mark leaves the same rows unread.
+pub fn a_mark_leaves_unread<S: Store>()
+    ensures { MarkLeavesUnread S.Store }
+{}
+
+/// Of a queue that was opened, and behind a mark, each acknowledged row was given or is recorded.
+pub fn all_acknowledged_rows_are_given<S: Store>()
+    ensures { AllAreGiven S.Store }
 {}

@@ -1,5 +1,5 @@
-//! The persistent queue of a pipeline, as its callers have it: of it which rows are acknowledged, the mark that
-//! records that, the purge of pages, and how rows of a page are read for a batch.
+//! The persistent queue of a pipeline, as its callers have it: it is opened in a folder, rows are written, given in
+//! batches and acknowledged, a mark records that, and a purge removes pages of which nothing is left.
 #![tactic(auto)]
 
 mod acknowledged;
@@ -7,13 +7,19 @@ mod batching;
 pub mod laws;
 mod limits;
 mod marking;
+mod opening;
 mod page_rows;
 mod pages;
 mod purging;
 mod queue;
+mod rolling;
+mod taking;
 mod words;
+mod writing;
 
 pub use acknowledged::Acknowledged;
+pub use batching::Batch;
 pub use limits::{Limits, Numbers};
 pub use page_rows::{QueueRow, Reading};
 pub use queue::Queue;
+pub use writing::WriteFault;

@@ -1,5 +1,5 @@
 // What is acknowledged and recorded of the pages of a queue.
-ghost use Rattle.std.specs.Prelude.{◌≡◌, ◌+◌, ◌++◌, ◌∷◌, [], true, length, map};
+ghost use Rattle.std.specs.Prelude.{◌≡◌, ◌+◌, true, length, map};
 ghost use Rattle.persistent_queue.specs.Calls.{mark_of, marks_of, tail_marks, with_acknowledged, with_marked};
 
 use crate::limits::Numbers;

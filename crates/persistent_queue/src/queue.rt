@@ -1,4 +1,4 @@
-ghost use Rattle.std.specs.Prelude.{◌≡◌, ◌+◌, ◌-◌, ◌++◌, ◌∷◌, IsErr, IfOk, OnOk, OnErr};
+ghost use Rattle.std.specs.Prelude.{◌≡◌, ◌-◌, IsErr, IfOk, OnOk, OnErr};
 ghost use Rattle.io_traits.specs.Counts.{HasCause};
 ghost use Rattle.queue_laws.specs.Steps.{marked};
 ghost use Rattle.persistent_queue.specs.Calls.{behind_acknowledge, behind_mark, behind_purge, first_spent, last_number};
@@ -18,21 +18,21 @@ use store_disk::{Failed, Store};
 #[derive(Drop)]
 pub struct Queue {
     /// The path of the folder, which ends with a slash.
-    folder: Text,
-    limits: Limits,
+    pub(crate) folder: Text,
+    pub(crate) limits: Limits,
     /// The pages below the head, in rising order.
-    tails: Vec<HeldPage>,
+    pub(crate) tails: Vec<HeldPage>,
     /// The head page, to which rows are appended.
-    top: HeldPage,
+    pub(crate) top: HeldPage,
     /// The checkpoint of each page below the head, and behind them that of the head page: their paths, and
     /// room for what is recorded next.
-    marks: Vec<Mark>,
+    pub(crate) marks: Vec<Mark>,
     /// How many bytes all pages have.
-    bytes: u128,
+    pub(crate) bytes: u128,
     /// How many rows weren't given yet.
-    unread: u64,
+    pub(crate) unread: u64,
     /// The first of them.
-    cursor: Cursor,
+    pub(crate) cursor: Cursor,
 }
 
 impl Model for Queue {

@@ -27,3 +27,4 @@ pub mod QueueTrim
 pub mod QueueReads
 pub mod QueueReady
 pub mod Lengths
+pub mod KnownPages

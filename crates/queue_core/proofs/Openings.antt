@@ -167,4 +167,4 @@ module _ {S : Type 0} (store : StoreWords S) (tell : ImagesTell store) (names : 
 
   pub opening_keeps : (old new : S) → KeepsOpened store names old new → OpeningKeeps store names old new
   opening_keeps old new run q now_kept images = weaker store tell old new (Left old) (λ i. NoChances names i → Kept q (folder_in names i)) run
-      (λ i told_is left chances. ⊎_elim (λ still. images i still chances) (λ same. let k = now_kept told_is in record { held = k.held; is_found = same.1 chances ∙ k.is_found; kept = k.kept }) left)
+      (λ i told_is left chances. ⊎_elim (λ still. images i still chances) (λ same. let k = now_kept told_is in record { held = k.held; is_found = same.1 chances ∙ k.is_found; kept = k.kept; recorded = k.recorded }) left)

@@ -37,7 +37,7 @@ run_ends limit version number place bytes size within are =
     let ends : r2.end ≡ place + length front = (none_there (limit - length r.rows) version (number + length r.rows) (place + length front) rest rest (λ frame is some here. here) none).end in
     ap (λ (x : Run). x.end) same ∙ ends ∙ omega (arith, length-take size bytes, within)
 
-more_numbered : (number : ℕ) (rows more : List PageRow) → AreNumbered number rows → AreNumbered (number + length rows) more → AreNumbered number (rows ++ more)
+pub more_numbered : (number : ℕ) (rows more : List PageRow) → AreNumbered number rows → AreNumbered (number + length rows) more → AreNumbered number (rows ++ more)
 more_numbered number [] more are then_are = subst (λ n. AreNumbered n more) (omega arith) then_are
 more_numbered number (r ∷ rows) more are then_are = (are.0, more_numbered (suc number) rows more are.1 (subst (λ n. AreNumbered n more) (omega arith) then_are))
 

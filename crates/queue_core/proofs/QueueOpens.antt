@@ -12,12 +12,12 @@ use Rattle.queue_page.proofs.PageReads.{Rows, as_rows}
 use Rattle.queue_laws.specs.Folders.{head, page, checkpoint, Folder}
 use Rattle.queue_laws.specs.Checkpoints.{misfit, told}
 use Rattle.queue_laws.specs.Found.{Damaged, Found, Row, Held as HeldPage, told_at, falling, unless, head_held, found_in, read_all}
-use Rattle.queue_laws.specs.Kept.{Page, Queue, IsSound, IsQueue}
+use Rattle.queue_laws.specs.Kept.{Page, Queue, IsSound, IsQueue, all_rows}
 use Rattle.queue_laws.specs.Resting.{Held}
 use Rattle.queue_laws.proofs.SameFiles.{same_held, tail_below}
 use Rattle.queue_core.specs.Opening.{held_tail, held_at, held_of}
 use Rattle.queue_core.specs.Reading.{AreStanding, IsScanned}
-use Rattle.queue_core.specs.Queues.{page_of, all_rows, AreTrim, AreNewest, AreTold, IsNewest, ArePages, IsCut}
+use Rattle.queue_core.specs.Queues.{page_of, AreTrim, AreNewest, AreTold, IsNewest, ArePages, IsCut}
 use Rattle.queue_core.specs.declared.reading.Scanned.{Scanned}
 use Rattle.queue_core.specs.declared.tails.Tail.{Tail}
 use Rattle.queue_core.proofs.TornMarks.{number_of}
@@ -83,12 +83,12 @@ pub record Opens (b : Folder) (turn : ℕ) (s : PageState) (r : Scanned) (rows :
   pub queue : Queue
   pub is : IsQueue queue
   pub held : Held queue b
-  pub tails : ArePages r.tails.items queue.tails
+  pub tails : ArePages r.tails.items r.pages.items queue.tails
   pub read : PageRows
   pub top : queue.top ≡ page_of s.page turn s read
   pub top_is : r.top ≡ view_of s read
   pub marked : queue.marked ≡ s.count
-  pub rows_are : rows ≡ record { rows = all_rows queue.tails queue.top; next = queue.top.least + length queue.top.rows }
+  pub rows_are : rows ≡ record { rows = all_rows queue.tails queue.top; next = queue.top.least + length queue.top.rows; recorded = queue.top.least + queue.marked }
 
 module _ (m b : Folder) (turn : ℕ) (s : PageState) (numbers : List ℕ) (r : Scanned) (scanned : IsScanned m s numbers r) (tells : told (m head) ≡ Ok s) (newest : IsNewest (bytes_of (m head)) turn s) (turns : AreNewest m r.tails.items)
     (stand : AreStanding 0 s.page m numbers) (bytes : (n : ℕ) → n ≤ s.page → IsBytes (bytes_of (m (page n)))) (trim : AreTrim m r.tails.items)
@@ -137,8 +137,8 @@ module _ (m b : Folder) (turn : ℕ) (s : PageState) (numbers : List ℕ) (r : S
   both = unless_none (falling 0 (map (held_tail m) r.tails.items ++ head_held m s ∷ [])) (read_all (map (held_tail m) r.tails.items) (head_held m s)) scanned.rows
       (sym (ap (λ x. and_then x (found_in (head_held m s))) scanned.tails) ∙ scanned.is_found)
 
-  built : Built m 0 0 s.page r.tails.items top scanned.rows
-  built = build m (head_held m s) top (λ n less. bytes n (omega (arith, less))) sound.number sound refl (λ found is. ap (λ (f : Found). f.rows) (head_rows m s read opens found is)) 0 0 r.tails.items scanned.rows (omega arith)
+  built : Built m 0 0 s.page r.tails.items r.pages.items top scanned.rows
+  built = build m (head_held m s) top (λ n less. bytes n (omega (arith, less))) sound.number sound refl (λ found is. ap (λ (f : Found). f.rows) (head_rows m s read opens found is)) 0 0 r.tails.items r.pages.items scanned.rows scanned.pages (omega arith)
       both.1 both.0 (subst (AreStanding 0 s.page m) (sym listed_are.numbers_are) stand) trim turns listed_are.tells
 
   abbrev q : Queue
@@ -173,5 +173,7 @@ module _ (m b : Folder) (turn : ℕ) (s : PageState) (numbers : List ℕ) (r : S
     top = refl;
     top_is = view_is;
     marked = refl;
-    rows_are = ap₂ (λ (l : List Row) (n : ℕ). record { rows = l; next = n }) built.rows (omega (arith, scanned.next, least_is, count_is));
+    rows_are =
+        ap₂ (λ (l : List Row) (n : ℕ). record { rows = l; next = n; recorded = scanned.rows.recorded }) built.rows (omega (arith, scanned.next, least_is, count_is))
+        ∙ ap (λ (n : ℕ). record { rows = all_rows q.tails q.top; next = q.top.least + length q.top.rows; recorded = n }) scanned.recorded;
   }

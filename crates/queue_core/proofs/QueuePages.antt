@@ -9,19 +9,20 @@ use Rattle.store_disk.specs.declared.pages.PageState.{PageState}
 use Rattle.queue_checkpoint.specs.Checkpoints.{slots_of}
 use Rattle.queue_page.specs.Elements.{and_then}
 use Rattle.queue_page.specs.Grammar.{AreElements, IsPage}
-use Rattle.queue_page.specs.Pages.{PageRows, recorded, opened, extended}
+use Rattle.queue_page.specs.Pages.{PageRows, recorded, opened, extended, view_of}
+use Rattle.queue_page.specs.Views.{PageView}
 use Rattle.queue_page.specs.declared.row.PageRow.{PageRow}
 use Rattle.queue_page.proofs.ElementReads.{and_then_ok}
 use Rattle.queue_page.proofs.Spelling.{pages_are_spelled}
 use Rattle.queue_laws.specs.Folders.{page, checkpoint, Folder}
 use Rattle.queue_laws.specs.Checkpoints.{Misfit, misfit, bounded, told, told_by}
 use Rattle.queue_laws.specs.Found.{Damaged, or_damage, Found, since, Held, falling, opened_page, with_page, read_all}
-use Rattle.queue_laws.specs.Kept.{Page, leading, state_at, NoTail, AreNumbered, IsSound, Rising}
+use Rattle.queue_laws.specs.Kept.{Page, leading, state_at, NoTail, AreNumbered, IsSound, Rising, all_rows}
 use Rattle.queue_laws.specs.Resting.{Records, TailHeld, TailsHeld}
 use Rattle.queue_laws.proofs.Recording.{read_is_recorded}
-use Rattle.queue_core.specs.Opening.{held_tail}
+use Rattle.queue_core.specs.Opening.{held_tail, view_at, views_of}
 use Rattle.queue_core.specs.Reading.{AreStanding}
-use Rattle.queue_core.specs.Queues.{below, page_of, ArePages, all_rows, IsTrim, AreTrim, IsNewest, AreNewest, AreTold}
+use Rattle.queue_core.specs.Queues.{below, page_of, ArePages, IsTrim, AreTrim, IsNewest, AreNewest, AreTold}
 use Rattle.queue_core.specs.declared.tails.Tail.{Tail}
 
 -- ---- rows
@@ -137,9 +138,30 @@ module _ (number turn : ℕ) (s : PageState) (slots file : Option (List ℕ)) (r
 
 -- ---- all of them
 
-pub record Built (b : Folder) (from end h : ℕ) (tails : List Tail) (top : Page) (found : Found) : Type 0 where
+-- the first of the pages as they are to callers
+record FirstView (b : Folder) (s : PageState) (tails : List Tail) (views : List PageView) (read : PageRows) : Type 0 where
+  more : List PageView
+  is : views ≡ view_of s read ∷ more
+  behind : views_of b tails ≡ Ok more
+
+first_view : (b : Folder) (t : Tail) (tails : List Tail) (views : List PageView) (read : PageRows) → opened false t.state (bytes_of (b (page t.number))) ≡ Ok read → views_of b (t ∷ tails) ≡ Ok views
+    → FirstView b t.state tails views read
+first_view b t tails views read opens seen =
+    let first = and_then_ok (view_at false (held_tail b t)) (λ y. and_then (views_of b tails) (λ ys. Ok (y ∷ ys))) views seen in
+    let rest = and_then_ok (views_of b tails) (λ ys. Ok (first.0 ∷ ys)) views first.2 in
+    let is : view_at false (held_tail b t) ≡ Ok (view_of t.state read) =
+    ap (λ r. or_damage (and_then r (λ rows. Ok (view_of t.state rows))) (λ m. (page t.number, misfit m.place m.found m.expected))) opens in
+    record { more = rest.0; is = sym (ok_views rest.2) ∙ ap (λ v. v ∷ rest.0) (ok_view (sym first.1 ∙ is)); behind = rest.1 }
+  where
+    ok_views : {x y : List PageView} → ◌≡◌ {A = Result (List PageView) Damaged} (Ok x) (Ok y) → x ≡ y
+    ok_views is = cc
+
+    ok_view : {x y : PageView} → ◌≡◌ {A = Result PageView Damaged} (Ok x) (Ok y) → x ≡ y
+    ok_view is = cc
+
+pub record Built (b : Folder) (from end h : ℕ) (tails : List Tail) (views : List PageView) (top : Page) (found : Found) : Type 0 where
   pub pages : List Page
-  pub are : ArePages tails pages
+  pub are : ArePages tails views pages
   pub held : TailsHeld pages b
   pub rising : Rising from end pages top
   pub rows : found.rows ≡ all_rows pages top
@@ -156,28 +178,31 @@ module _ (b : Folder) (top : Held) (q_top : Page) (bytes : (n : ℕ) → n < q_t
       some_none : {d : Damaged} → ◌≡◌ {A = Option Damaged} (Some d) None → ⊥
       some_none is = absurd cc
 
-  pub build : (from end : ℕ) (tails : List Tail) (found : Found) → from ≤ q_top.number → read_all (map (held_tail b) tails) top ≡ Ok found → falling end (map (held_tail b) tails ++ top ∷ []) ≡ None
-      → AreStanding from q_top.number b (map (λ t. t.number) tails) → AreTrim b tails → AreNewest b tails → AreTold b tails → Built b from end q_top.number tails q_top found
-  build from end [] found below_top reads falls stand trim newest tells =
+  pub build : (from end : ℕ) (tails : List Tail) (views : List PageView) (found : Found) → views_of b tails ≡ Ok views → from ≤ q_top.number → read_all (map (held_tail b) tails) top ≡ Ok found
+      → falling end (map (held_tail b) tails ++ top ∷ []) ≡ None → AreStanding from q_top.number b (map (λ t. t.number) tails) → AreTrim b tails → AreNewest b tails → AreTold b tails
+      → Built b from end q_top.number tails views q_top found
+  build from end [] views found seen below_top reads falls stand trim newest tells =
       let f = falls_not end top [] falls in
       record { pages = []; are = refl; held = tt; rising = (below_top, omega (arith, f.0, least_is), sound); rows = rows_are found reads; gone = λ n past less none. stand n past less }
-  build from end (t ∷ tails) found below_top reads falls stand trim newest tells =
+  build from end (t ∷ tails) views found seen below_top reads falls stand trim newest tells =
       let f = falls_not end (held_tail b t) (map (held_tail b) tails ++ top ∷ []) falls in
       let first = and_then_ok (opened_page false (held_tail b t)) (λ read. and_then (read_all (map (held_tail b) tails) top) (λ rest. Ok (with_page (held_tail b t) read rest))) found reads in
       let read = first.0 in
       let behind = and_then_ok (read_all (map (held_tail b) tails) top) (λ rest. Ok (with_page (held_tail b t) read rest)) found first.2 in
       let file = b (page t.number) in
       let slots = b (checkpoint t.number) in
-      let recorded_is = opened_rows t.state (bytes_of file) read (damage_ok (opened false t.state (bytes_of file)) (λ m. (page t.number, misfit m.place m.found m.expected)) read first.1) in
+      let opened_is = damage_ok (opened false t.state (bytes_of file)) (λ m. (page t.number, misfit m.place m.found m.expected)) read first.1 in
+      let recorded_is = opened_rows t.state (bytes_of file) read opened_is in
+      let one = first_view b t tails views read opened_is seen in
       let held = tail_held t.number t.turn t.state slots file read (bytes t.number stand.1) stand.2 recorded_is trim.0 newest.0 tells.0 in
       let count = count_is t.number t.turn t.state slots file read (bytes t.number stand.1) stand.2 recorded_is trim.0 newest.0 tells.0 in
       let bounds = in_bounds t.state t.state (told_bounded slots t.turn t.state newest.0 tells.0) in
       let is_sound = tail_sound t.number t.turn t.state slots file read (bytes t.number stand.1) stand.2 recorded_is trim.0 newest.0 tells.0 bounds (omega (arith, stand.1, low)) in
-      let rest = build (suc t.number) (t.state.least + t.state.count) tails behind.0 (omega (arith, stand.1)) behind.1 f.1 stand.4 trim.1 newest.1 tells.1 in
+      let rest = build (suc t.number) (t.state.least + t.state.count) tails one.more behind.0 one.behind (omega (arith, stand.1)) behind.1 f.1 stand.4 trim.1 newest.1 tells.1 in
       let with_rest : with_page (held_tail b t) read behind.0 ≡ found = found_ok behind.2 in
       record {
         pages = page_of t.number t.turn t.state read ∷ rest.pages;
-        are = (read, rest.pages, refl, count, rest.are);
+        are = (read, rest.pages, one.more, refl, count, one.is, rest.are);
         held = (held, rest.held);
         rising = (stand.0, stand.1, f.0, is_sound, subst (λ e. Rising (suc t.number) e rest.pages q_top) (ap (λ n. t.state.least + n) (sym count)) rest.rising);
         rows = ap (λ (x : Found). x.rows) (sym with_rest) ∙ ap (λ l. since t.state.first_open read.rows ++ l) rest.rows;

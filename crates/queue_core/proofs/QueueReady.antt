@@ -71,7 +71,7 @@ module _ {S : Type 0} (store : StoreWords S) (tell : ImagesTell store) (names : 
   ready_first file slots o old new apart file_is slots_are begun made none turn_is state_is top_is told_is written = record {
     queue = first_queue;
     is = record {
-      tails = subst (λ l. ArePages l []) (sym none) refl;
+      tails = subst (λ l. ArePages l o.pages.pages.items []) (sym none) refl;
       read = record { version = 2; rows = []; length = 1 };
       top = λ i. record { number = sym (ap (λ (x : PageState). x.page) state_is) i; version = 2; least = sym (ap (λ (x : PageState). x.least) state_is) i; rows = []; acknowledged = []; from = sym (ap (λ (x : PageState). x.first_open) state_is) i; turn = sym turn_is i };
       top_is = top_is ∙ (λ i. record { version = 2; state = record { page = o.state.page; first_open = o.state.first_open; least = o.state.least; count = ap (λ (x : PageState). x.count) state_is i; length = ap (λ (x : PageState). x.length) state_is i } });

@@ -63,6 +63,7 @@ pub record ReadsRows (tails : List Held) (top : Held) (v : PageView) : Type 0 wh
   pub rows : Found
   pub reads : read_all tails top ≡ Ok rows
   pub next : rows.next ≡ v.state.least + v.state.count
+  pub recorded : rows.recorded ≡ top.state.least + top.state.count
 
 pub all_read : (tails : List Held) (top : Held) (views : List PageView) (v : PageView) → collected (view_at false) tails ≡ Ok views → view_at true top ≡ Ok v → ReadsRows tails top v
 all_read [] top views v tails_are top_is =
@@ -71,6 +72,7 @@ all_read [] top views v tails_are top_is =
       rows = top_found top h.read;
       reads = ap (λ (r : Result PageRows Damaged). and_then r (λ read. Ok (top_found top read))) h.opens;
       next = ap (λ (w : PageView). w.state.least + w.state.count) h.view;
+      recorded = refl;
     }
 all_read (p ∷ tails) top views v tails_are top_is =
     let first = and_then_ok (view_at false p) (λ y. and_then (collected (view_at false) tails) (λ ys. Ok (y ∷ ys))) views tails_are in
@@ -82,6 +84,7 @@ all_read (p ∷ tails) top views v tails_are top_is =
       reads = ap (λ (r : Result PageRows Damaged). and_then r (λ read. and_then (read_all tails top) (λ found. Ok (with_page p read found)))) h.opens
           ∙ ap (λ (r : Result Found Damaged). and_then r (λ found. Ok (with_page p h.read found))) more.reads;
       next = more.next;
+      recorded = more.recorded;
     }
 
 behind_lost : (v : PageView) (e : Damaged) (r : Result (List PageView) Damaged) → and_then r (λ ys. Ok (v ∷ ys)) ≡ Err e → r ≡ Err e

@@ -118,9 +118,13 @@ module _ (text : List ℕ) (old new : Content) (s : PageState) (l : Listing) (li
   none_left role goes = ⊎_elim (λ some. reads (names_in text role) ∙ without_gone gone old (names_in text role) (goes some)) (λ none. reads (names_in text role) ∙ without_none gone old (names_in text role) none)
       (some_or_none (old (names_in text role)))
 
+  paired : (n : ℕ) → n < s.page → IsSome (old (names_in text (page n))) → IsUnread (read_in (names_in text) old) s (checkpoint n) → ⊥
+  paired n below some is = ⊎_elim (λ above. omega (arith, below, above)) (λ none. false≢true (subst (λ (o : Option (List ℕ)). IsSome o) none some)) is
+
   pub tidied : IsTidied s (read_in (names_in text) old) (read_in (names_in text) new)
   tidied = record {
     pages = λ n within. ⊎_elim (λ same. same) (λ none. absurd (omega (arith, within, unread (page n) none.1))) (lacks (names_in text (page n)));
+    slots = λ n below some. ⊎_elim (λ same. same) (λ none. absurd (paired n below some (unread (checkpoint n) none.1))) (lacks (names_in text (checkpoint n)));
     head_is = ⊎_elim (λ same. same) (λ none. absurd (unread head none.1)) (lacks (names_in text head));
     found_is = unread_may_go (names_in text) gone old new s tells unread lacks;
     no_pages = λ n above fits. none_left (page n) (page_goes text (read_in (names_in text) old) s l listed n above fits);

@@ -10,3 +10,4 @@ pub mod Listing
 pub mod Unread
 pub mod Opened
 pub mod Queues
+pub mod Known

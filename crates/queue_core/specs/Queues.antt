@@ -8,11 +8,12 @@ use Rattle.store_disk.specs.declared.pages.PageState.{PageState}
 use Rattle.queue_checkpoint.specs.Checkpoints.{FitsSlot, newest_in}
 use Rattle.queue_page.specs.Laws.{AreBytes}
 use Rattle.queue_page.specs.Pages.{PageRows, view_of}
+use Rattle.queue_page.specs.Views.{PageView}
 use Rattle.queue_page.specs.declared.row.PageRow.{PageRow}
 use Rattle.queue_laws.specs.Folders.{Role, page, checkpoint, Folder, Names}
 use Rattle.queue_laws.specs.Checkpoints.{told}
-use Rattle.queue_laws.specs.Found.{Row, since, found}
-use Rattle.queue_laws.specs.Kept.{Page, Queue, Stands}
+use Rattle.queue_laws.specs.Found.{found}
+use Rattle.queue_laws.specs.Kept.{Page, Queue, all_rows, Stands}
 use Rattle.queue_core.specs.Marks.{read_in}
 use Rattle.queue_core.specs.Reading.{AreStanding}
 use Rattle.queue_core.specs.Ready.{Ready}
@@ -39,15 +40,12 @@ page_of number turn s read = record {
   turn = turn;
 }
 
--- the pages of which these tell, with as many rows
-abbrev pub ArePages : List Tail → List Page → Type 0
-ArePages [] pages = pages ≡ []
-ArePages (t ∷ tails) pages = (read : PageRows) × (rest : List Page) × (pages ≡ page_of t.number t.turn t.state read ∷ rest) × (length read.rows ≡ t.state.count) × ArePages tails rest
-
--- their rows, and those of the head page, from the first number of each on that isn't recorded as acknowledged
-abbrev pub all_rows : List Page → Page → List Row
-all_rows [] top = since top.from top.rows
-all_rows (p ∷ tails) top = since p.from p.rows ++ all_rows tails top
+-- the pages of which these tell, as they are to callers, with as many rows
+abbrev pub ArePages : List Tail → List PageView → List Page → Type 0
+ArePages [] views pages = pages ≡ []
+ArePages (t ∷ tails) views pages =
+    (read : PageRows) × (rest : List Page) × (more : List PageView) × (pages ≡ page_of t.number t.turn t.state read ∷ rest) × (length read.rows ≡ t.state.count) × (views ≡ view_of t.state read ∷ more)
+    × ArePages tails more rest
 
 -- ---- folders as a queue writes them
 
@@ -87,12 +85,12 @@ pub record IsAsWritten (folder : Folder) (o : Opened) : Type 0 where
 
 -- the queue of a folder that was opened
 pub record IsQueueOf (folder : Folder) (o : Opened) (q : Queue) : Type 0 where
-  pub tails : ArePages o.pages.tails.items q.tails
+  pub tails : ArePages o.pages.tails.items o.pages.pages.items q.tails
   pub read : PageRows
   pub top : q.top ≡ page_of o.state.page o.turn o.state read
   pub top_is : o.pages.top ≡ view_of o.state read
   pub marked : q.marked ≡ o.state.count
-  pub is_found : found folder ≡ Ok (record { rows = all_rows q.tails q.top; next = q.top.least + length q.top.rows })
+  pub is_found : found folder ≡ Ok (record { rows = all_rows q.tails q.top; next = q.top.least + length q.top.rows; recorded = q.top.least + q.marked })
 
 -- ---- what reads give once pages are read
 

@@ -26,6 +26,7 @@ pub record IsScanned (folder : Folder) (s : PageState) (numbers : List ℕ) (r :
   pub rows : Found
   pub is_found : found_of folder s numbers ≡ Ok rows
   pub next : rows.next ≡ r.top.state.least + r.top.state.count
+  pub recorded : rows.recorded ≡ s.least + s.count
 
 abbrev pub FindsScanned : Names → Folder → PageState → List ℕ → Result Scanned QueueFault → Type 0
 FindsScanned names folder s numbers (Ok r) = IsScanned folder s numbers r

@@ -1,5 +1,5 @@
 -- The files of a folder of which nothing is found, and the folder without them.
-use Rattle.std.specs.Prelude.{◌≡◌, ◌<◌, ◌≤◌, ◌^◌, ◌&&◌, ◌==◌, not, nat_lt, ℕ, Bool, IsTrue, List, ◌++◌, map, filter, None, Ok}
+use Rattle.std.specs.Prelude.{◌≡◌, ◌<◌, ◌≤◌, ◌^◌, ◌&&◌, ◌==◌, not, nat_lt, ℕ, Bool, IsTrue, List, ◌++◌, map, filter, None, IsSome, Ok}
 use Rattle.std.specs.List.{list_any}
 use Rattle.store_trait.specs.Images.{Image, IsAtRest}
 use Rattle.store_trait.specs.Moments.{MayLeaveNow, EachMoment}
@@ -26,10 +26,11 @@ unpaired folder top pages checkpoints = map (λ n. names_in folder (checkpoint n
 abbrev pub unread_names : List ℕ → ℕ → Listing → List (List ℕ)
 unread_names folder top l = pages_above folder top l.pages.items ++ unpaired folder top l.pages.items l.checkpoints.items
 
--- The folder without them holds the same: the pages up to the head and the head slot are the same files, and no other file that a queue may have
--- stands from the head on.
+-- The folder without them holds the same: the pages up to the head, the checkpoints of those below it and the head slot are the same files, and no
+-- other file that a queue may have stands from the head on.
 pub record IsTidied (s : PageState) (a b : Folder) : Type 0 where
   pub pages : (n : ℕ) → n ≤ s.page → b (page n) ≡ a (page n)
+  pub slots : (n : ℕ) → n < s.page → IsSome (a (page n)) → b (checkpoint n) ≡ a (checkpoint n)
   pub head_is : b head ≡ a head
   pub found_is : found b ≡ found a
   pub no_pages : (n : ℕ) → s.page < n → n < 2 ^ 32 → b (page n) ≡ None

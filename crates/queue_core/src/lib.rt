@@ -19,6 +19,7 @@ mod telling;
 mod unread;
 
 pub use marking::{Mark, mark_pages};
+pub use naming::{checkpoint_name, head_name, page_name};
 pub use opening::{Opened, open_folder};
 pub use purging::remove_page;
 pub use reading::{Scanned, read_pages};

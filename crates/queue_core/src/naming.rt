@@ -14,21 +14,21 @@ pub(crate) const PAGE: &str = "page.";
 pub(crate) const CHECKPOINT: &str = "checkpoint.";
 
 /// The path of the page of this number, in a folder whose path ends with a slash.
-pub(crate) fn page_name(alloc: Global, folder: &str, number: u32) -> Result<Text, AllocError>
+pub fn page_name(alloc: Global, folder: &str, number: u32) -> Result<Text, AllocError>
     ensures { IfOk result (λ name. name ≡ names_in folder.now (page number)) }
 {
     joined(alloc, folder, PAGE, Buffer::new().format(number))
 }
 
 /// The path of the checkpoint of this page below the head.
-pub(crate) fn checkpoint_name(alloc: Global, folder: &str, number: u32) -> Result<Text, AllocError>
+pub fn checkpoint_name(alloc: Global, folder: &str, number: u32) -> Result<Text, AllocError>
     ensures { IfOk result (λ name. name ≡ names_in folder.now (checkpoint number)) }
 {
     joined(alloc, folder, CHECKPOINT, Buffer::new().format(number))
 }
 
 /// The path of the checkpoint of the head page.
-pub(crate) fn head_name(alloc: Global, folder: &str) -> Result<Text, AllocError>
+pub fn head_name(alloc: Global, folder: &str) -> Result<Text, AllocError>
     ensures { IfOk result (λ name. name ≡ names_in folder.now head) }
 {
     joined(alloc, folder, CHECKPOINT, "head")

@@ -5,6 +5,7 @@ ghost use Rattle.io_traits.specs.Folders.{folder_start};
 ghost use Rattle.io_traits.specs.Reads.{bytes_of};
 ghost use Rattle.store_disk.specs.declared.faults.QueueFault.TheVariants as f;
 ghost use Rattle.queue_laws.specs.Folders.{head, names_in};
+ghost use Rattle.queue_core.specs.Known.{AreStated, WasOpened};
 ghost use Rattle.queue_core.specs.Marks.{read_in};
 ghost use Rattle.queue_core.specs.Queues.{IsNewest, OpensReady};
 ghost use Rattle.queue_core.specs.Unread.{IsRead};
@@ -23,6 +24,7 @@ use std::alloc::Global;
 use store_disk::{PageState, QueueFault, Store};
 
 /// A folder that is open.
+#[derive(Drop)]
 pub struct Opened {
     /// The turn of the newest slot of the head.
     pub turn: u64,
@@ -51,6 +53,9 @@ pub fn open_folder<S: Store>(
     ensures keeps { OpeningKeeps S.Store (names_in folder.now) store.old store.new }
     ensures ready { IfOk result (λ o. OpensReady S.Store (names_in folder.now) o store.old
         store.new) }
+    ensures stated { IfOk result (λ o. AreStated o.state o.pages) }
+    ensures opened { IfOk result (λ o. WasOpened S.Store (names_in folder.now) o store.old
+        store.new) }
     ensures cause { HasCause (S.faults store.old) (S.faults store.new) (result ≡ Err f.Fault) }
 {
     store.sync()?;
@@ -73,6 +78,9 @@ fn open_seen<S: Store>(
         → HoldsFound S.Store (names_in folder.now) store.old store.new }
     ensures ready { IfOk result (λ o. IsSeen S.Store (names_in folder.now) look store.old
         → OpensReady S.Store (names_in folder.now) o store.old store.new) }
+    ensures stated { IfOk result (λ o. AreStated o.state o.pages) }
+    ensures opened { IfOk result (λ o. IsSeen S.Store (names_in folder.now) look store.old
+        → WasOpened S.Store (names_in folder.now) o store.old store.new) }
     ensures cause { HasCause (S.faults store.old) (S.faults store.new) (result ≡ Err f.Fault) }
 {
     let Look {
@@ -104,6 +112,9 @@ fn begin_folder<S: Store>(
         → HoldsFound S.Store (names_in folder.now) store.old store.new }
     ensures ready { IfOk result (λ o. IsBegun S.Store (names_in folder.now) store.old
         → OpensReady S.Store (names_in folder.now) o store.old store.new) }
+    ensures stated { IfOk result (λ o. AreStated o.state o.pages) }
+    ensures opened { IfOk result (λ o. IsBegun S.Store (names_in folder.now) store.old
+        → WasOpened S.Store (names_in folder.now) o store.old store.new) }
     ensures cause { HasCause (S.faults store.old) (S.faults store.new) (result ≡ Err f.Fault) }
 {
     let page = page_name(alloc, folder, 0)?;
@@ -137,6 +148,11 @@ fn open_pages<S: Store>(
         → (IsTrue S.tells → IsNewest (bytes_of (S.seen store.old (names_in folder.now head)))
         turn state)
         → OpensReady S.Store (names_in folder.now) o store.old store.new) }
+    ensures stated { IfOk result (λ o. AreStated o.state o.pages) }
+    ensures opened { IfOk result (λ o. IsRead S.Store (names_in folder.now) listing state store.old
+        → (IsTrue S.tells → IsNewest (bytes_of (S.seen store.old (names_in folder.now head)))
+        turn state)
+        → WasOpened S.Store (names_in folder.now) o store.old store.new) }
     ensures cause { HasCause (S.faults store.old) (S.faults store.new) (result ≡ Err f.Fault) }
 {
     remove_unread(alloc, store, folder, &listing, &state)?;

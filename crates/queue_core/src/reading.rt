@@ -3,6 +3,7 @@ ghost use Rattle.std.specs.Prelude.{◌≡◌, ◌≤◌, ◌-◌, ◌+◌, ◌^
 ghost use Rattle.io_traits.specs.Counts.{HasCause};
 ghost use Rattle.store_disk.specs.declared.faults.QueueFault.TheVariants as f;
 ghost use Rattle.queue_laws.specs.Folders.{names_in};
+ghost use Rattle.queue_core.specs.Known.{AreStated};
 ghost use Rattle.queue_core.specs.Marks.{read_in};
 ghost use Rattle.queue_core.specs.Queues.{IsAllAtRest, LeavesRead};
 ghost use Rattle.queue_core.specs.Reading.{FindsScanned, KeepsFound};
@@ -15,6 +16,7 @@ use std::alloc::Global;
 use store_disk::{PageState, QueueFault, Store};
 
 /// The pages of a folder.
+#[derive(Drop)]
 pub struct Scanned {
     /// What the checkpoints tell of the pages below the head.
     pub tails: Vec<Tail>,
@@ -40,6 +42,7 @@ pub fn read_pages<S: Store>(
     ensures found { IsTrue S.tells → FindsScanned (names_in folder.now)
         (read_in (names_in folder.now) (S.seen store.old)) head.now numbers.now result }
     ensures keeps { KeepsFound S.Store (names_in folder.now) head.now store.old store.new }
+    ensures stated { IfOk result (λ r. AreStated head.now r) }
     ensures leaves { IfOk result (λ r. IsAllAtRest S.Store store.old
         → LeavesRead S.Store (names_in folder.now) head.now r store.old store.new) }
     ensures cause { HasCause (S.faults store.old) (S.faults store.new) (result ≡ Err f.Fault) }

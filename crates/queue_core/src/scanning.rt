@@ -1,8 +1,9 @@
 // The pages below the head, read one after the other.
-ghost use Rattle.std.specs.Prelude.{◌≡◌, ◌≤◌, ◌-◌, ◌+◌, ◌++◌, ◌∷◌, ◌^◌, [], IsTrue, Err, map, false, option_map};
+ghost use Rattle.std.specs.Prelude.{◌≡◌, ◌≤◌, ◌-◌, ◌+◌, ◌++◌, ◌∷◌, ◌^◌, [], IsTrue, IfOk, Err, map, false, option_map};
 ghost use Rattle.io_traits.specs.Counts.{HasCause};
 ghost use Rattle.store_trait.specs.Calls.{ChangesNothing};
 ghost use Rattle.store_disk.specs.declared.faults.QueueFault.TheVariants as f;
+ghost use Rattle.queue_page.specs.Views.{PageView};
 ghost use Rattle.queue_laws.specs.Folders.{Folder, names_in};
 ghost use Rattle.queue_laws.specs.Found.{falling, head_held};
 ghost use Rattle.queue_core.specs.Marks.{read_in};
@@ -59,6 +60,8 @@ pub(crate) fn scan_tails<S: Store>(
     ensures pages { IsTrue S.tells
         → Finds (λ pages. pages.items) (names_in folder.now) result
         (views_of (read_in (names_in folder.now) (S.seen store.old)) tails.now) }
+    ensures states { IfOk result (λ pages. map (λ t. t.state) tails.now
+        ≡ map (λ (p : PageView). p.state) pages.items) }
     ensures same { ChangesNothing S.tells S.seen S.moment S.may_leave store.old store.new }
     ensures cause { HasCause (S.faults store.old) (S.faults store.new) (result ≡ Err f.Fault) }
 {
@@ -86,6 +89,7 @@ fn scan_tail<S: Store>(
     ensures page { IsTrue S.tells → Finds (λ page. page) (names_in folder.now) result
         (view_at false
         (held_tail (read_in (names_in folder.now) (S.seen store.old)) tail.now)) }
+    ensures state { IfOk result (λ page. page.state ≡ tail.now.state) }
     ensures same { ChangesNothing S.tells S.seen S.moment S.may_leave store.old store.new }
     ensures cause { HasCause (S.faults store.old) (S.faults store.new) (result ≡ Err f.Fault) }
 {

@@ -22,7 +22,7 @@ marked_rows q [] rows next enough kept = record {
 marked_rows q (p ∷ tails) rows next enough kept = (kept.0, kept.1, kept.2, ⊎_elim (λ s. inr s) (λ s. inr s) kept.3, marked_rows q tails kept.1 next enough kept.4)
 
 pub marked_keeps : MarkedKeeps
-marked_keeps q folder enough kept = record { held = kept.held; is_found = kept.is_found; kept = marked_rows q q.tails kept.held.rows kept.held.next enough kept.kept }
+marked_keeps q folder enough kept = record { held = kept.held; is_found = kept.is_found; kept = marked_rows q q.tails kept.held.rows kept.held.next enough kept.kept; recorded = (omega (arith, enough, kept.recorded.0), kept.recorded.1) }
 
 -- ---- a row
 
@@ -48,7 +48,7 @@ row_rows q row [] rows next kept =
 row_rows q row (p ∷ tails) rows next kept = (kept.0, kept.1, kept.2, kept.3, row_rows q row tails kept.1 next kept.4)
 
 pub row_keeps : RowKeeps
-row_keeps q row folder kept = record { held = kept.held; is_found = kept.is_found; kept = row_rows q row q.tails kept.held.rows kept.held.next kept.kept }
+row_keeps q row folder kept = record { held = kept.held; is_found = kept.is_found; kept = row_rows q row q.tails kept.held.rows kept.held.next kept.kept; recorded = kept.recorded }
 
 -- ---- a new head page
 
@@ -76,7 +76,7 @@ rolled_rows q [] rows next enough kept = rolled_top q kept.0 kept.1 rows next en
 rolled_rows q (p ∷ tails) rows next enough kept = (kept.0, kept.1, kept.2, kept.3, rolled_rows q tails kept.1 next enough kept.4)
 
 pub rolled_keeps : RolledKeeps
-rolled_keeps q folder enough kept = record { held = kept.held; is_found = kept.is_found; kept = rolled_rows q q.tails kept.held.rows kept.held.next enough kept.kept }
+rolled_keeps q folder enough kept = record { held = kept.held; is_found = kept.is_found; kept = rolled_rows q q.tails kept.held.rows kept.held.next enough kept.kept; recorded = (omega (arith, enough, kept.recorded.0), kept.recorded.1) }
 
 -- ---- a page that goes
 
@@ -108,4 +108,5 @@ purged_keeps q before behind p folder parts sound spent kept = record {
   is_found = kept.is_found;
   kept = subst (λ tails. RowsKept q tails kept.held.rows kept.held.next) (sym parts)
       (purged_rows (with_tails (before ++ behind) q) q before behind p kept.held.rows kept.held.next refl refl sound spent kept.kept);
+  recorded = kept.recorded;
 }

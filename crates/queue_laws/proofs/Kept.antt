@@ -43,4 +43,8 @@ standing_is_kept q folder is stands =
           ∙ ap (λ (o : Option Damaged). unless o (read_all hs.pages top)) (none_falls 0 0 q.tails q.top hs.pages top is hs.fit refl)
           ∙ r.is;
       kept = r.kept;
+      recorded = (
+        omega (arith, r.recorded, t.enough, t.not_less, t.within, length-take t.recorded q.top.rows),
+        omega (arith, r.recorded, r.next_is, t.not_less, length-take t.recorded q.top.rows),
+      );
     }

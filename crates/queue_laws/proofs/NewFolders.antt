@@ -1,5 +1,5 @@
 -- Folders of a new queue.
-use Rattle.std.proofs.Common.{◌≡◌, inr, ⊎_elim, ℕ, zero, suc, ◌+◌, ◌<◌, ◌≤◌, ◌^◌, ◌&&◌, not, nat_lt, Bool, true, List, [], ◌∷◌, length, take, Option, Some, None, is_some, Ok, refl, ◌∙◌, subst, arith}
+use Rattle.std.proofs.Common.{◌≡◌, inr, ⊎_elim, ℕ, zero, suc, ◌+◌, ◌<◌, ◌≤◌, ◌^◌, ◌&&◌, not, nat_lt, Bool, true, List, [], ◌∷◌, length, take, Option, Some, None, is_some, Ok, refl, ◌∙◌, subst, arith, ap}
 use Rattle.std.proofs.Math.Path.{ap₂}
 use Rattle.std.proofs.lemmas.Bool.{and_parts, cases_eq, cond-true}
 use Rattle.std.proofs.lemmas.Bool.Decides.{nat_tests}
@@ -108,4 +108,6 @@ first_is_empty folder kept =
     let top = kept.kept in
     let rows : kept.held.rows ≡ [] = ⊎_elim (λ is. is ∙ none_since 1 top.count) (λ is. is ∙ none_since _ top.count) top.since in
     let next : kept.held.next ≡ 1 = omega (arith, top.next_is, top.within) in
-    kept.is_found ∙ ap₂ (λ (l : List Row) (n : ℕ). Ok (record { rows = l; next = n })) rows next
+    let recorded : kept.held.recorded ≡ 1 = omega (arith, kept.recorded, next) in
+    kept.is_found ∙ ap₂ (λ (l : List Row) (n : ℕ). Ok (record { rows = l; next = n; recorded = kept.held.recorded })) rows next
+    ∙ ap (λ (n : ℕ). Ok (record { rows = []; next = 1; recorded = n })) recorded

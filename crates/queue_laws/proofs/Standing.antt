@@ -114,14 +114,16 @@ since_one p x rows (inl is) = inl (ap (λ n. since n rows) is)
 since_one p x rows (inr is) = inr (ap (λ n. since n rows) is)
 
 -- all pages are read, and give the rows of the queue
-pub record ReadAs (q : Queue) (tails : List Page) (found : Result Found Damaged) : Type 0 where
+pub record ReadAs (q : Queue) (tails : List Page) (end next : ℕ) (found : Result Found Damaged) : Type 0 where
   pub held : Found
   pub is : found ≡ Ok held
   pub kept : RowsKept q tails held.rows held.next
+  pub recorded : held.recorded ≡ end
+  pub next_is : held.next ≡ next
 
 pub reads : (q : Queue) (tails : List Page) (hs : List Held) (top : Held) (read : PageRows) (count first_open : ℕ) → Fit tails hs → opened_page true top ≡ Ok read
     → top.state.first_open ≡ first_open → (first_open ≡ q.top.from) ⊎ (first_open ≡ first_open_of q.top) → top.state.least ≡ q.top.least → read.rows ≡ take count q.top.rows
-    → q.marked ≤ count → count ≤ length q.top.rows → length (take count q.top.rows) ≡ count → ReadAs q tails (read_all hs top)
+    → q.marked ≤ count → count ≤ length q.top.rows → length (take count q.top.rows) ≡ count → ReadAs q tails (top.state.least + top.state.count) (q.top.least + count) (read_all hs top)
 reads q [] [] top read count first_open fit opens since_is one least gives enough within long = record {
   held = top_found top read;
   is = ap (λ (r : Result PageRows Damaged). and_then r (λ read. Ok (top_found top read))) opens;
@@ -132,6 +134,8 @@ reads q [] [] top read count first_open fit opens since_is one least gives enoug
     since = subst (IsSince q.top (take count q.top.rows)) (sym (ap (λ n. since n read.rows) since_is ∙ ap (since first_open) gives)) (since_one q.top first_open (take count q.top.rows) one);
     next_is = omega (arith, least, ap length gives, long);
   };
+  recorded = refl;
+  next_is = omega (arith, least, ap length gives, long);
 }
 reads q [] (h ∷ hs) top read count first_open fit opens since_is one least gives enough within long = absurd fit
 reads q (p ∷ tails) [] top read count first_open fit opens since_is one least gives enough within long = absurd fit
@@ -146,4 +150,6 @@ reads q (p ∷ tails) (h ∷ hs) top read count first_open fit opens since_is on
           ap (λ (r : Result PageRows Damaged). and_then r (λ read. and_then (read_all hs top) (λ found. Ok (with_page h read found)))) (page_opens p h f)
           ∙ ap (λ (r : Result Found Damaged). and_then r (λ found. Ok (with_page h page_rows found))) more.is;
       kept = (since h.state.first_open p.rows, more.held.rows, refl, subst (IsSince p p.rows) (ap (λ n. since n p.rows) (sym front)) (since_one p f.first_open p.rows f.one), more.kept);
+      recorded = more.recorded;
+      next_is = more.next_is;
     }

@@ -38,10 +38,11 @@ or_damage (Err m) damage = Err (damage m)
 abbrev pub told_at : Role → Option (List ℕ) → Result PageState Damaged
 told_at role file = or_damage (told file) (λ m. (role, m))
 
--- the rows, and the number that the next row will have
+-- the rows, the number that the next row will have, and that behind the rows of which the head page's checkpoint speaks
 pub record Found : Type 0 where
   pub rows : List Row
   pub next : ℕ
+  pub recorded : ℕ
 
 -- ---- a new folder
 
@@ -95,7 +96,7 @@ abbrev pub opened_page : Bool → Held → Result PageRows Damaged
 opened_page is_head p = or_damage (opened is_head p.state p.bytes) (λ m. (page p.number, misfit m.place m.found m.expected))
 
 abbrev pub top_found : Held → PageRows → Found
-top_found p read = record { rows = since p.state.first_open read.rows; next = p.state.least + length read.rows }
+top_found p read = record { rows = since p.state.first_open read.rows; next = p.state.least + length read.rows; recorded = p.state.least + p.state.count }
 
 abbrev pub with_page : Held → PageRows → Found → Found
 with_page p read found = record found { rows = since p.state.first_open read.rows ++ found.rows }
@@ -113,7 +114,7 @@ abbrev pub of_head : Folder → PageState → Result Found Damaged
 of_head folder s = and_then (held s.page 0 folder) (found_in (head_held folder s))
 
 abbrev pub nothing_found : Found
-nothing_found = record { rows = []; next = 1 }
+nothing_found = record { rows = []; next = 1; recorded = 1 }
 
 abbrev pub found : Folder → Result Found Damaged
 found folder = if is_new folder then Ok nothing_found else and_then (told_at head (folder head)) (of_head folder)

@@ -37,6 +37,11 @@ pub record Queue : Type 0 where
 
 -- ---- in terms of rows
 
+-- of these pages, the head page being the last, the rows from the first number of each on that wasn't recorded as acknowledged
+abbrev pub all_rows : List Page → Page → List Row
+all_rows [] top = since top.from top.rows
+all_rows (p ∷ tails) top = since p.from p.rows ++ all_rows tails top
+
 -- these rows are those of a page from one of its two numbers on
 abbrev pub IsSince : Page → List PageRow → List Row → Type 0
 IsSince p rows found = (found ≡ since p.from rows) ⊎ (found ≡ since (first_open_of p) rows)
@@ -55,11 +60,12 @@ RowsKept q [] rows next = TopKept q rows next
 RowsKept q (p ∷ tails) rows next = (front : List Row) × (rest : List Row) × (rows ≡ front ++ rest) × IsSince p p.rows front × RowsKept q tails rest next
 
 -- Nothing in the folder is damaged, and it holds the rows of the queue that aren't acknowledged, or weren't when that was last recorded, page by
--- page; and of those behind the last record the first, be they none or all.
+-- page; and of those behind the last record the first, be they none or all. Its checkpoint speaks at least of what was recorded.
 pub record Kept (q : Queue) (folder : Folder) : Type 0 where
   pub held : Found
   pub is_found : found folder ≡ Ok held
   pub kept : RowsKept q q.tails held.rows held.next
+  pub recorded : (q.top.least + q.marked ≤ held.recorded) × (held.recorded ≤ held.next)
 
 -- ---- the same file by file
 

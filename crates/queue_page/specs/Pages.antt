@@ -1,5 +1,5 @@
 -- What a page of the queue says of which a checkpoint says how far it goes: its first damage, or its rows.
-use Rattle.std.specs.Prelude.{ℕ, ◌+◌, ◌-◌, ◌^◌, ◌==◌, ◌||◌, min, nat_lt, Bool, List, ◌++◌, length, take, drop, get_or, if◌then◌else◌, Option, Some, None, Result, Ok, Err}
+use Rattle.std.specs.Prelude.{◌≡◌, ◌≤◌, false, ℕ, ◌+◌, ◌-◌, ◌^◌, ◌==◌, ◌||◌, min, nat_lt, Bool, List, ◌++◌, length, take, drop, get_or, if◌then◌else◌, Option, Some, None, Result, Ok, Err}
 use Rattle.store_disk.specs.declared.pages.PageState.{PageState}
 use Rattle.queue_page.specs.Blocks.{left_of}
 use Rattle.queue_page.specs.Elements.{number_of, element_at, misfit, and_then}
@@ -95,3 +95,9 @@ row_at page place file = element_at page.version (number_of (left_of file place 
 -- the page with one element more, of so many bytes
 abbrev pub with_element : PageView → ℕ → PageView
 with_element page len = record page { state = record page.state { count = page.state.count + 1; length = page.state.length + len } }
+
+-- How a page stands that was recorded so: with the same numbers, and all of them below 2^63 - 1; of the head page, there may be rows behind its extent.
+pub record IsGrown (head : Bool) (recorded now : PageState) : Type 0 where
+  pub same : now ≡ record recorded { count = now.count; length = now.length }
+  pub numbers : now.least + now.count ≤ 2 ^ 63 - 1
+  pub exact : head ≡ false → now ≡ recorded

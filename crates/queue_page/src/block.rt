@@ -1,5 +1,5 @@
 // A part of a file that is held in memory, so that elements are read from it one behind the other.
-ghost use Rattle.std.specs.Prelude.{◌≡◌, ◌≤◌, ◌+◌, ℕ, length, vec_len, IsTrue, List, OnOk, IfOk, IfErr, Err};
+ghost use Rattle.std.specs.Prelude.{◌≡◌, ◌≤◌, ◌+◌, ℕ, [], length, vec_len, IsTrue, List, OnOk, IfOk, IfErr, Err};
 ghost use Rattle.io_traits.specs.Counts.{HasCause};
 ghost use Rattle.store_trait.specs.Calls.{ChangesNothing};
 ghost use Rattle.queue_page.specs.Answers.{IsNoMisfit};
@@ -40,7 +40,8 @@ impl Block {
     /// A block that holds nothing yet, with so much room, which grows to the largest element that is
     /// read.
     pub fn new(alloc: Global, room: usize) -> Result<Block, AllocError>
-        ensures { IfOk result (λ block. (file : List ℕ) → IsPart file block) }
+        ensures part { IfOk result (λ block. (file : List ℕ) → IsPart file block) }
+        ensures empty { IfOk result (λ block. block ≡ record { place = 0; bytes = [] }) }
     {
         Ok(Block {
             place: 0,

@@ -4,7 +4,7 @@ ghost use Rattle.io_traits.specs.Counts.{HasCause};
 ghost use Rattle.store_trait.specs.Calls.{ChangesNothing};
 ghost use Rattle.queue_page.specs.Answers.{Tells};
 ghost use Rattle.queue_page.specs.Blocks.{IsPart, OnFile};
-ghost use Rattle.queue_page.specs.Pages.{version_of, is_version, recorded_view, opened_view, counted_view, room_of, behind_view};
+ghost use Rattle.queue_page.specs.Pages.{IsGrown, version_of, is_version, recorded_view, opened_view, counted_view, room_of, behind_view};
 ghost use Rattle.queue_page.specs.declared.fault.RowFault.TheVariants as r;
 
 use crate::block::Block;
@@ -128,6 +128,7 @@ fn room_of(state: &PageState) -> u64
     requires { state.now.least + state.now.count ≤ 2 ^ 63 - 1 }
     ensures room { result ≡ room_of state.now }
     ensures few { result + state.now.count < 2 ^ 32 }
+    ensures numbers { state.now.least + state.now.count + result ≤ 2 ^ 63 - 1 }
 {
     let rows = u64::from(u32::MAX - state.count);
     let numbers = NUMBERS_END - (state.least + u64::from(state.count));
@@ -148,6 +149,7 @@ pub(crate) fn read_behind<S: Store>(
     ensures page { OnFile S.Store store.old name.now block.old (λ file. len ≡ length file
         → Tells (λ page. page) result (Ok (behind_view page file))) }
     ensures within { IfOk result (λ page. page.state.length ≤ len) }
+    ensures grown { IfOk result (λ grown. IsGrown true page.state grown.state) }
     ensures part { OnFile S.Store store.old name.now block.old (λ file. IsPart file block.new) }
     ensures same { ChangesNothing S.tells S.seen S.moment S.may_leave store.old store.new }
     ensures cause { HasCause (S.faults store.old) (S.faults store.new) (result ≡ Err r.Fault) }
@@ -177,6 +179,7 @@ pub(crate) fn read_page<S: Store>(
     ensures page { OnFile S.Store store.old name.now block.old (λ file. len ≡ length file
         → Tells (λ page. page) result (opened_view head state.now file)) }
     ensures within { IfOk result (λ page. page.state.length ≤ len) }
+    ensures grown { IfOk result (λ page. IsGrown head state.now page.state) }
     ensures same { ChangesNothing S.tells S.seen S.moment S.may_leave store.old store.new }
     ensures cause { HasCause (S.faults store.old) (S.faults store.new) (result ≡ Err r.Fault) }
 {

@@ -11,7 +11,7 @@ ghost use Rattle.queue_page.specs.Blocks.{OnFile, IsPart, left_of};
 ghost use Rattle.queue_page.specs.Elements.{element_at};
 ghost use Rattle.queue_page.specs.Grammar.{IsNext};
 ghost use Rattle.queue_page.specs.Leaving.{LeavesSame, LeavesFirst};
-ghost use Rattle.queue_page.specs.Pages.{opened_view, kept_of, row_at, with_element};
+ghost use Rattle.queue_page.specs.Pages.{IsGrown, opened_view, kept_of, row_at, with_element};
 ghost use Rattle.queue_page.specs.declared.row.PageRow.{PageRow as Row};
 ghost use Rattle.queue_page.specs.declared.fault.RowFault.TheVariants as r;
 
@@ -111,6 +111,8 @@ impl Page {
         // It is the page that the file says, or its first damage.
         ensures page { IsTrue S.tells → Answers (λ page. page) name.now result
             (opened_view head state.now (bytes_of (S.seen store.old name.now))) }
+
+        ensures grown { IfOk result (λ page. IsGrown head state.now page.state) }
 
         // What is kept of the file, and what is settled where it was at rest.
         ensures kept { IfOk result (λ page. IsTrue S.tells → S.seen store.new name.now
@@ -243,6 +245,7 @@ fn scan_file<S: Store>(
         → Answers (λ page. page) name.now result
         (opened_view head state.now (bytes_of (S.seen store.old name.now))) }
     ensures within { IfOk result (λ page. page.state.length ≤ len) }
+    ensures grown { IfOk result (λ page. IsGrown head state.now page.state) }
     ensures same { ChangesNothing S.tells S.seen S.moment S.may_leave store.old store.new }
     ensures cause { HasCause (S.faults store.old) (S.faults store.new) (result ≡ Err f.Fault) }
 {

@@ -4,32 +4,16 @@ All numbers are big endian. The answers stand beside their rows and were worked 
 which is that of `zlib`, and for what stops leave of an output, which is worked out here from its calls.
 """
 
+from queue_rows import EMPTY, ROWS as QUEUES, checked, element, foreign, overlaid, slot, u
 from zlib import crc32
 
-TABLES = ["pages", "prefixes", "heads", "failing", "appends", "slots", "turns", "names", "positions", "outputs", "batches", "images", "letters", "sheds", "segments", "counts", "queues", "stops", "frames"]
-ROWS = {name: [] for name in TABLES}
+TABLES = ["pages", "prefixes", "heads", "failing", "appends", "slots", "turns", "names", "positions", "outputs", "batches", "images", "letters", "sheds", "segments", "counts", "queues", "stops", "runs", "halts", "faults", "frames"]
+ROWS = {name: [] for name in TABLES} | QUEUES
 LAST = 2**63 - 1
-
-
-def u(width, number):
-    return number.to_bytes(width, "big")
-
-
-def checked(covered):
-    return covered + u(4, crc32(covered))
-
-
-def element(number, body):
-    return checked(u(8, number) + u(4, len(body)) + body)
 
 
 def page(version, bodies, least=1):
     return u(1, version) + b"".join(element(least + i, body) for i, body in enumerate(bodies))
-
-
-def slot(turn, number, first_open, least, count, length, version=1, zero=0):
-    fields = u(4, number) + u(8, first_open) + u(8, least) + u(4, count) + u(8, length)
-    return checked(u(2, version) + u(8, turn) + fields + u(2, zero))
 
 
 def changed(data, at, new):
@@ -51,7 +35,6 @@ def row(table, words, data, answer):
 
 # ---- pages
 
-EMPTY = bytes(8)
 FIFTEEN = bytes.fromhex("0000000100000001610300000000000000" + "0f0100000000")  # a = 1.5
 TEN = bytes.fromhex("0000000100000001610300000000000000" + "0a0100000000")  # 10 with a scale of 1
 LONG = bytes.fromhex("000000010000000161") + b"\x04" + u(4, 70000) + b"x" * 70000 + bytes(4)
@@ -401,15 +384,6 @@ def run(slots, file, more):
     old = place(0, len(file)) if begun else slots
     last = place(1, len(kept) + len(more))
     return first + [("log", len(kept), more), None, ("pos", 24, last), None], (old, kept), (old + last, kept + more)
-
-
-def overlaid(at, data, old):
-    return old[:at] + data + old[at + len(data) :]
-
-
-def foreign(start, end, old):
-    start = min(start, len(old))
-    return overlaid(start, b"\xa5" * (end - start), old)
 
 
 def left(fate, at, new, old):

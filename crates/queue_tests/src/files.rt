@@ -1,7 +1,7 @@
 use crate::words::first_number;
 use plain_data::{Items, Text};
 use std::alloc::{AllocError, Global};
-use store_disk::{MemoryStore, PageState, QueueFault, Script, Table};
+use store_disk::{Damage, MemoryStore, PageState, QueueFault, Script, Table};
 
 /// A store with one file, of which the call of this number fails.
 pub fn store_with(
@@ -38,15 +38,18 @@ pub fn add_fault(
     fault: &QueueFault,
 ) -> Result<(), AllocError> {
     match fault {
-        QueueFault::Damaged(damage) => {
-            let (place, found, expected) = (damage.place, damage.found, damage.expected);
-            write!(
-                to,
-                "{} at {place}: {found}, not {expected}",
-                damage.file.as_str()
-            )
-        }
+        QueueFault::Damaged(damage) => add_damage(to, damage),
         QueueFault::Fault => write!(to, "fault, of {}", store.script().faults()),
         QueueFault::Memory => Err(AllocError),
     }
+}
+
+/// Adds where something is damaged.
+pub fn add_damage(to: &mut String, damage: &Damage) -> Result<(), AllocError> {
+    let (place, found, expected) = (damage.place, damage.found, damage.expected);
+    write!(
+        to,
+        "{} at {place}: {found}, not {expected}",
+        damage.file.as_str()
+    )
 }

@@ -28,14 +28,24 @@
 //!   comes of each, the ids of the letters that the queue holds then, or its damage, and the files.
 //! - `stops`: such a row. The answer is all that its queue may hold where a stop comes at any moment, with any choice, or
 //!   where one call of the store fails.
+//! - `runs`: how many bytes a page may have, and a queue, the files of a folder, and behind semicolons runs of calls of the
+//!   persistent queue in that folder, with an opening before each: `w:ORIGIN` writes an empty event, `t:COUNT` takes a batch,
+//!   `a:FIRST-BEHIND` acknowledges rows by their numbers, `m` marks, `p` purges, and `u` asks how many rows are unread. The
+//!   answer has that of each call, and the lengths and sums of the files. A call that doesn't go well ends its run.
+//! - `halts`: such a row. The answers are those of its last run behind a stop, at each change of the store in the runs before,
+//!   with each choice of what it leaves; those that stand there already, or before, are left out.
+//! - `faults`: such a row. The answers are those of its last run behind such a stop, where a call of the store in the runs
+//!   before fails, each once; in front of them stands how many answers those gave.
 //! - `frames`: bytes, of which the CRC-32 is computed, and which are read as a frame.
 //!
-//! `data/rows.py` made the tables and `stdout`, by the tables of the formats and with the CRC-32 of Python's `zlib`.
+//! `data/rows.py`, with `data/queue_rows.py`, made the tables and `stdout`, by the tables of the formats and with the CRC-32 of Python's `zlib`.
 #![tactic(auto)]
 
+mod calls;
 mod files;
 mod frames;
 mod letters;
+mod open_queues;
 mod outputs;
 mod pages;
 mod queues;
@@ -64,10 +74,13 @@ enum Table {
     Counts,
     Queues,
     Stops,
+    Runs,
+    Halts,
+    Faults,
     Frames,
 }
 
-const TABLES: [(&str, Table); 19] = [
+const TABLES: [(&str, Table); 22] = [
     ("pages", Table::Pages),
     ("prefixes", Table::Pages),
     ("heads", Table::Pages),
@@ -86,6 +99,9 @@ const TABLES: [(&str, Table); 19] = [
     ("counts", Table::Counts),
     ("queues", Table::Queues),
     ("stops", Table::Stops),
+    ("runs", Table::Runs),
+    ("halts", Table::Halts),
+    ("faults", Table::Faults),
     ("frames", Table::Frames),
 ];
 
@@ -120,6 +136,9 @@ fn add_answer(to: &mut String, table: Table, row: &str) -> Result<(), AllocError
         Table::Counts => letters::add_written(to, row),
         Table::Queues => queues::add_run(to, row),
         Table::Stops => queues::add_stops(to, row),
+        Table::Runs => open_queues::add_run(to, row),
+        Table::Halts => open_queues::add_halts(to, row),
+        Table::Faults => open_queues::add_faults(to, row),
         Table::Frames => frames::add_read(to, row),
     }
 }

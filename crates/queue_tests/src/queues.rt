@@ -12,7 +12,7 @@ use std::alloc::{AllocError, Global};
 use store_disk::{ListFault, MemoryStore, QueueFault, Script, Store, Table};
 
 /// The folder of the queue.
-const FOLDER: &str = "q/";
+pub const FOLDER: &str = "q/";
 
 /// What a queue holds, and what it does where that is too little.
 #[derive(Clone, Copy)]
@@ -25,7 +25,7 @@ struct Rules {
 const CALLS: u64 = 100;
 
 /// How many images each moment has.
-const CHOICES: u64 = 4;
+pub const CHOICES: u64 = 4;
 
 /// Adds what comes of a row's letters, which are appended batch by batch, with an opening before each; what
 /// the queue holds then, and which files its folder has.
@@ -67,8 +67,9 @@ fn rules_of(row: &str) -> (Rules, &str) {
     (rules, row)
 }
 
-// The files of a row stand between bars, each with the last part of its name in front.
-fn store_of(alloc: Global, failing: u64, files: &str) -> Result<MemoryStore, AllocError> {
+/// A store with the files of a row, which stand between bars, each with the last part of its name in front; the
+/// call of this number fails.
+pub fn store_of(alloc: Global, failing: u64, files: &str) -> Result<MemoryStore, AllocError> {
     let mut table = Table::new(alloc);
     for file in files.split('|') {
         let (part, digits) = first_word(file.trim());
@@ -80,7 +81,8 @@ fn store_of(alloc: Global, failing: u64, files: &str) -> Result<MemoryStore, All
     MemoryStore::new(table, Script::new(alloc, &[failing], &[])?, u64::MAX)
 }
 
-fn name_of(alloc: Global, part: &str) -> Result<Text, AllocError> {
+/// The path of a file in the folder of the queue.
+pub fn name_of(alloc: Global, part: &str) -> Result<Text, AllocError> {
     let mut name = String::new(alloc);
     name.push_str(FOLDER)?;
     name.push_str(part)?;
@@ -216,7 +218,8 @@ fn add_image(
 
 // ---- the calls, of any store and without clauses, so that nothing is said of a store in memory where they are made
 
-fn parts<S: Store>(alloc: Global, store: &mut S) -> Result<Names, ListFault> {
+/// The last parts of the names in the folder of the queue.
+pub fn parts<S: Store>(alloc: Global, store: &mut S) -> Result<Names, ListFault> {
     store.list(alloc, FOLDER)
 }
 

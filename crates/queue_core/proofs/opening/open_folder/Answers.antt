@@ -4,6 +4,7 @@ use Rattle.queue_laws.specs.Found.{found}
 use Rattle.queue_core.specs.Marks.{read_in}
 use Rattle.queue_core.proofs.Openings.{hands_on, no_damage, synced, then_looked, is_seen, then_opened, finds, opening_keeps}
 use Rattle.queue_core.proofs.QueueReady.{if_ok_so, ready_from}
+use Rattle.queue_core.proofs.KnownPages.{opened_from}
 use Rattle.queue_core.proofs.opening.open_folder.Goals as goal
 
 pub returns-in_err-sync-clause-any_moment : goal.returns-in_err-sync-clause-any_moment
@@ -55,3 +56,11 @@ returns-clause-ready g c =
     if_ok_so _ _ c.open_seen.result c.open_seen.ensures.ready
     (λ o ready. ready_from g.S.Store g.met.S.Store.images_tell (names_in c.args.folder.now) o c.args.store.now c.look_at.new.store c.open_seen.new.store
     (λ told. c.look_at.ensures.same.reads told ∙ c.sync.ensures.settled.reads told) (ready seen))
+
+pub returns-clause-opened : goal.returns-clause-opened
+returns-clause-opened g c =
+    let seen = is_seen g.S.Store g.met.S.Store.images_tell (names_in c.args.folder.now) c.args.store.now c.sync.new.self c.sync.ensures.settled c.in_ok-sync.ensures.durable c.look_at.new.store c.look_at.ensures.same
+    c.in_ok-look.look c.in_ok-look.ensures.looked in
+    if_ok_so _ _ c.open_seen.result c.open_seen.ensures.opened
+    (λ o opened. opened_from g.S.Store g.met.S.Store.images_tell (names_in c.args.folder.now) o c.args.store.now c.look_at.new.store c.open_seen.new.store
+    (λ told. c.look_at.ensures.same.reads told ∙ c.sync.ensures.settled.reads told) (opened seen))

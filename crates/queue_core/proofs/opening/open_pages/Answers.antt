@@ -5,6 +5,7 @@ use Rattle.queue_laws.specs.Found.{found}
 use Rattle.queue_core.specs.Marks.{read_in}
 use Rattle.queue_core.proofs.Openings.{hands_on, no_damage, gone_first, then_read, reads_pages, loses_pages}
 use Rattle.queue_core.proofs.QueueReady.{ready_pages}
+use Rattle.queue_core.proofs.KnownPages.{opens_pages}
 use Rattle.queue_core.proofs.opening.open_pages.Goals as goal
 
 pub returns-in_err-remove_unread-clause-found : goal.returns-in_err-remove_unread-clause-found
@@ -52,4 +53,12 @@ returns-clause-ready g c read newest =
     let numbers = c.as_slice.ensures.value ∙ filter_same _ (λ n. nat_lt n c.args.state.page) _ (λ x b f' k. search rules) _ _ c.retain.ensures.filtered in
     let tidy = c.in_ok-remove_unread.ensures.gone read in
     ready_pages g.S.Store g.met.S.Store.images_tell (names_in c.args.folder.now) c.args.listing c.args.turn c.args.state c.args.store.now c.remove_unread.new.store c.read_pages.new.store read (c.remove_unread.ensures.keeps read) tidy
+    newest fits c.as_slice.result.now numbers c.in_ok-pages.pages c.in_ok-pages.ensures.found (c.in_ok-pages.ensures.leaves tidy.rests)
+
+pub returns-clause-opened : goal.returns-clause-opened
+returns-clause-opened g c read newest =
+    let fits : c.args.state.page < 2 ^ 32 = search rules in
+    let numbers = c.as_slice.ensures.value ∙ filter_same _ (λ n. nat_lt n c.args.state.page) _ (λ x b f' k. search rules) _ _ c.retain.ensures.filtered in
+    let tidy = c.in_ok-remove_unread.ensures.gone read in
+    opens_pages g.S.Store g.met.S.Store.images_tell (names_in c.args.folder.now) c.args.listing c.args.turn c.args.state c.args.store.now c.remove_unread.new.store c.read_pages.new.store read tidy
     newest fits c.as_slice.result.now numbers c.in_ok-pages.pages c.in_ok-pages.ensures.found (c.in_ok-pages.ensures.leaves tidy.rests)

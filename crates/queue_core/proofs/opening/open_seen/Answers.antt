@@ -45,3 +45,14 @@ returns-in-Ok-clause-ready g c =
     if_ok_so _ _ c.open_pages.result c.open_pages.ensures.ready
     (λ o ready seen. ready (sees_pages g.S.Store g.met.S.Store.images_tell (names_in c.args.folder.now) c.args.look c.args.store.now _ _ c.told.result seen c.told.ensures.told c.in-Ok.is)
     (λ told. newest_of _ c.args.look.slots _ _ (seen.looked told).slots_are c.in-Ok.ensures.newest c.in-Ok.ensures.fits))
+
+pub returns-then-is_new-clause-opened : goal.returns-then-is_new-clause-opened
+returns-then-is_new-clause-opened g c =
+    if_ok_so _ _ c.begin_folder.result c.begin_folder.ensures.opened
+    (λ o opened seen. opened (sees_new g.S.Store g.met.S.Store.images_tell (names_in c.args.folder.now) c.args.look c.args.store.now seen c.is_new.result c.is_new.ensures c.if-is_new.true))
+
+pub returns-in-Ok-clause-opened : goal.returns-in-Ok-clause-opened
+returns-in-Ok-clause-opened g c =
+    if_ok_so _ _ c.open_pages.result c.open_pages.ensures.opened
+    (λ o opened seen. opened (sees_pages g.S.Store g.met.S.Store.images_tell (names_in c.args.folder.now) c.args.look c.args.store.now _ _ c.told.result seen c.told.ensures.told c.in-Ok.is)
+    (λ told. newest_of _ c.args.look.slots _ _ (seen.looked told).slots_are c.in-Ok.ensures.newest c.in-Ok.ensures.fits))

@@ -1,8 +1,9 @@
-use Rattle.std.proofs.Common.{◌∙◌}
+use Rattle.std.proofs.Common.{map, sym, ap, ◌∙◌}
 use Rattle.store_disk.proofs.Looking.{nothing_then}
 use Rattle.queue_laws.specs.Folders.{names_in}
 use Rattle.queue_laws.proofs.ApartNames.{names_apart}
 use Rattle.queue_core.specs.Marks.{read_in}
+use Rattle.queue_core.specs.declared.tails.Tail.{Tail}
 use Rattle.queue_core.proofs.ScanReads.{handed_on, none_falls, pages_lost, pages_read, head_lost, head_read, found_tail_lost, found_top_lost, found_rows, rows_found}
 use Rattle.queue_core.proofs.QueueReads.{leaves_read}
 use Rattle.queue_core.proofs.FoundStays.{looked, opened_run}
@@ -88,6 +89,7 @@ returns-clause-found g c told =
       rows = rows.rows;
       is_found = rows_found folder s c.args.numbers.now tails held rises c.in_ok-pages.pages.items read c.in_ok-top.top rows;
       next = rows.next;
+      recorded = rows.recorded;
     }
 
 pub returns-clause-leaves : goal.returns-clause-leaves
@@ -96,3 +98,11 @@ returns-clause-leaves g c rests =
     (nothing_then g.S.Store c.args.store.now c.read_tails.new.store c.scan_tails.new.store c.read_tails.ensures.same c.scan_tails.ensures.same)
     c.as_str.result.now (c.as_str.ensures ∙ c.in_ok-name-2.ensures) (record { tails = c.in_ok-tails.tails; pages = c.in_ok-pages.pages; top = c.in_ok-top.top }) c.in_ok-top.ensures.page c.in_ok-top.ensures.kept c.in_ok-top.ensures.settled
     c.scan.ensures.reads c.scan.ensures.beside c.in_ok-tails.ensures.newest
+
+pub returns-clause-stated : goal.returns-clause-stated
+returns-clause-stated g c = record {
+  states = sym (ap (map (λ (t : Tail). t.state)) c.as_slice-2.ensures.value) ∙ c.in_ok-pages.ensures.states;
+  bounded = c.in_ok-tails.ensures.bounded;
+  rises = λ folder. none_falls folder c.args.head.now c.as_slice.result.now c.in_ok-tails.tails.items c.first_falling.result c.as_slice.ensures.value c.in_default.is c.first_falling.ensures;
+  top = c.in_ok-top.ensures.grown;
+}

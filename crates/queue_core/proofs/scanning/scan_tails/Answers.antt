@@ -5,7 +5,9 @@ use Rattle.queue_page.specs.Views.{PageView}
 use Rattle.queue_laws.specs.Folders.{names_in}
 use Rattle.queue_core.specs.Marks.{read_in}
 use Rattle.queue_core.specs.Opening.{held_tail, view_at, views_of}
+use Rattle.queue_core.specs.declared.tails.Tail.{Tail}
 use Rattle.queue_core.proofs.Fallings.{no_tail, bounded_at}
+use Rattle.queue_core.proofs.KnownPages.{mapped_more, mapped_end}
 use Rattle.queue_core.proofs.Collecting.{collect_end, item_lost, item_read}
 use Rattle.queue_core.proofs.scanning.scan_tails.Goals as goal
 
@@ -24,6 +26,7 @@ loop-tail-preserved g c =
     let at = c.loop-tail.tail-index in
     record {
       same = nothing_then g.S.Store c.args.store.now c.loop-tail.store c.scan_tail.new.store inv.same c.scan_tail.ensures.same;
+      states = mapped_more (λ (t : Tail). t.state) (λ (p : PageView). p.state) c.args.tails.now c.loop-tail.pages.items c.push.new.self.items at _ c.in-Ok.page (drop_more c.args.tails.now at _ c.loop-tail-test.true) c.in-Ok-push.ensures.items c.in-Ok.ensures.state inv.states;
       faults = c.in-Ok.ensures.cause.same (λ is. absurd cc) ∙ inv.faults;
       so_far = λ told. item_read (λ content t. view_at false (held_tail (read_in names content) t)) (λ content (page : PageView). page) names (g.S.Store.seen c.args.store.now) (g.S.Store.seen c.loop-tail.store) (inv.same.reads told)
           c.loop-tail.pages.items c.args.tails.now at _ (drop_more c.args.tails.now at _ c.loop-tail-test.true) (inv.so_far told) c.in-Ok.page c.push.new.self.items c.in-Ok-push.ensures.items (c.in-Ok.ensures.page told);
@@ -36,3 +39,6 @@ pub returns-clause-pages : goal.returns-clause-pages
 returns-clause-pages g c told =
     let folder = read_in (names_in c.args.folder.now) (g.S.Store.seen c.args.store.now) in
     collect_end (λ t. view_at false (held_tail folder t)) (views_of folder c.args.tails.now) c.loop-tail.pages.items c.args.tails.now c.loop-tail.tail-index c.loop-tail-test.false (c.loop-tail.invariant.so_far told)
+
+pub returns-clause-states : goal.returns-clause-states
+returns-clause-states g c = mapped_end (λ (t : Tail). t.state) (λ (p : PageView). p.state) c.args.tails.now c.loop-tail.pages.items c.loop-tail.tail-index c.loop-tail-test.false c.loop-tail.invariant.states

@@ -1,0 +1,254 @@
+-- A queue that was opened, its files, and the queue that it stands for.
+use Rattle.std.proofs.Common.{◌≡◌, ◌≤◌, ⊎_elim, ℕ, zero, suc, ◌+◌, ◌<◌, ◌^◌, nat_lt, ◌&&◌, ◌==◌, ◌/◌, ◌%◌, not, Bool, true, false, IsTrue, List, [], ◌∷◌, ◌++◌, length, map, replicate, get_or, drop, Option, Some, None, Result, Ok, Err, refl, sym, ◌∙◌, ap, subst, arith, append_assoc, append-nil}
+use Rattle.std.proofs.Math.Path.{ap₂}
+use Rattle.std.proofs.lemmas.Bool.Decides.{nat_tests}
+use Rattle.std.proofs.lemmas.List.{drop_all}
+use Rattle.std.proofs.lemmas.Nat.Bits.{bit_at-zero}
+use Rattle.std.proofs.lemmas.Result.{err_from_is_err_and}
+use Rattle.std.specs.Int.{bit_at}
+use Rattle.std.specs.Result.{IsErrAnd}
+use Rattle.store_disk.specs.declared.faults.QueueFault.{QueueFault}
+use Rattle.io_traits.specs.Folders.{Content}
+use Rattle.io_traits.specs.Reads.{bytes_of}
+use Rattle.store_trait.specs.declared.stores.Store.{Ghosts as StoreWords}
+use Rattle.store_disk.specs.declared.pages.PageState.{PageState}
+use Rattle.queue_checkpoint.specs.Checkpoints.{newest_in}
+use Rattle.queue_checkpoint.proofs.FileReads.{found_within, newest_says, sayer}
+use Rattle.queue_page.specs.Pages.{PageRows, view_of}
+use Rattle.queue_page.specs.Views.{PageView}
+use Rattle.queue_laws.specs.Folders.{head, page, checkpoint, Folder, names_in}
+use Rattle.queue_laws.specs.Found.{Damaged, Found, Held, found, is_new}
+use Rattle.queue_laws.specs.Kept.{Page, AreNumbered, IsSound, Rising, leading}
+use Rattle.queue_laws.specs.Resting.{TailsHeld}
+use Rattle.queue_laws.proofs.NewFolders.{new_is_empty}
+use Rattle.queue_core.specs.Collected.{IsLost}
+use Rattle.queue_core.specs.Known.{AreStated, IsFirst, IsReadOf, WasOpened}
+use Rattle.queue_core.specs.Marks.{read_in}
+use Rattle.queue_core.specs.Queues.{ArePages, AreNewest, IsAsWritten, OpensReady, page_of}
+use Rattle.queue_core.specs.Reading.{AreStanding}
+use Rattle.queue_core.specs.declared.opening.Opened.{Opened}
+use Rattle.queue_core.specs.declared.tails.Tail.{Tail}
+use Rattle.queue_core.proofs.ScanReads.{found_rows, rows_found}
+use Rattle.queue_core.proofs.StandingPages.{pages_are_found}
+use Rattle.persistent_queue.specs.Bits.{bit_of, bits_from, is_among, with_range}
+use Rattle.persistent_queue.specs.Calls.{tail_checkpoints}
+use Rattle.persistent_queue.specs.Opening.{below_number, page_opened, queue_opened, tails_opened, unread_in, unread_of, FindsQueue, OpensAs, OpensFolder}
+use Rattle.persistent_queue.specs.Opens.{AreLong, ArePagesOf, Climb, IsPageOf, IsReady, TailsSlotted}
+use Rattle.persistent_queue.specs.Views.{OpenPage, QueueView}
+use Rattle.persistent_queue.specs.declared.limits.Limits.{Limits}
+use Rattle.persistent_queue.proofs.OpenedRows.{SameStates, all_count, below_same, few_unread, first_state, other_states}
+use Rattle.persistent_queue.proofs.PageNumbers.{first_within}
+
+-- ---- which rows are acknowledged
+
+zero_at : (n i : ℕ) → ◌≡◌ {A = ℕ} (get_or (replicate n 0) i 0) 0
+zero_at zero i = refl
+zero_at (suc n) zero = refl
+zero_at (suc n) (suc i) = zero_at n i
+
+-- no bit of zeros is set
+pub no_bit : (n k : ℕ) → bit_of (replicate n 0) k ≡ false
+unfolding bit_of
+no_bit n k = ap (λ w. bit_at w (k % 64) == 1) (zero_at n (k / 64)) ∙ ap (λ b. b == 1) (bit_at-zero (k % 64))
+
+pub no_bits : (n from count : ℕ) → bits_from (replicate n 0) from count ≡ replicate count false
+no_bits n from zero = refl
+no_bits n from (suc count) = ap₂ (λ (b : Bool) (l : List Bool). b ∷ l) (no_bit n from) (no_bits n (suc from) count)
+
+pub none_leads : (count : ℕ) → leading (replicate count false) ≡ 0
+none_leads zero = refl
+none_leads (suc count) = refl
+
+among_first : (from k : ℕ) → is_among 0 from k ≡ nat_lt k from
+unfolding is_among
+among_first from k =
+    let none : nat_lt k 0 ≡ false = grind (arith, nat_tests) in
+    ap (λ (b : Bool). not b && nat_lt k from) none
+
+-- of rows of which none is acknowledged, those below a number are
+pub range_below : (from number count : ℕ) → with_range number 0 from (replicate count false) ≡ below_number from number count
+range_below from number zero = refl
+range_below from number (suc count) = ap₂ (λ (b : Bool) (l : List Bool). b ∷ l) (among_first from number) (range_below from (suc number) count)
+
+-- ---- pages one by one
+
+pub state_there : (i : ℕ) (tails : List Tail) (views : List PageView) (t : Tail) (v : PageView) (rest : List Tail) (more : List PageView) → SameStates tails views → drop i tails ≡ t ∷ rest → drop i views ≡ v ∷ more → v.state ≡ t.state
+state_there zero tails views t v rest more same split parts = sym (first_state (sym (ap (map (λ (x : Tail). x.state)) split) ∙ same ∙ ap (map (λ (p : PageView). p.state)) parts))
+state_there (suc i) [] views t v rest more same split parts = absurd (omega (arith, ap length split))
+state_there (suc i) (x ∷ tails) [] t v rest more same split parts = absurd (omega (arith, ap length same))
+state_there (suc i) (x ∷ tails) (y ∷ views) t v rest more same split parts = state_there i tails views t v rest more (other_states same) split parts
+
+module _ (folder : List ℕ) where
+  pub filed : (tails : List Tail) (views : List PageView)
+      → map (λ (o : OpenPage). o.file) (tails_opened folder tails views) ≡ map (λ (o : OpenPage). names_in folder (page o.number)) (tails_opened folder tails views)
+  filed [] views = refl
+  filed (t ∷ tails) [] = refl
+  filed (t ∷ tails) (v ∷ views) = ap (λ l. names_in folder (page t.number) ∷ l) (filed tails views)
+
+  pub slots_filed : (tails : List Tail) (views : List PageView) → SameStates tails views → map (λ (t : Tail). names_in folder (checkpoint t.number)) tails ≡ tail_checkpoints folder (tails_opened folder tails views)
+  slots_filed [] views same = refl
+  slots_filed (t ∷ tails) [] same = absurd (omega (arith, ap length same))
+  slots_filed (t ∷ tails) (v ∷ views) same = ap (λ l. names_in folder (checkpoint t.number) ∷ l) (slots_filed tails views (other_states same))
+
+  -- one page more
+  pub opened_more : (tails : List Tail) (views : List PageView) (done items : List OpenPage) (i : ℕ) (t : Tail) (v : PageView) (o : OpenPage) → drop i tails ≡ t ∷ drop (i + 1) tails → drop i views ≡ v ∷ drop (i + 1) views
+      → items ≡ done ++ o ∷ [] → o ≡ page_opened folder t.number t.turn t.state.first_open v → tails_opened folder tails views ≡ done ++ tails_opened folder (drop i tails) (drop i views)
+      → tails_opened folder tails views ≡ items ++ tails_opened folder (drop (i + 1) tails) (drop (i + 1) views)
+  opened_more tails views done items i t v o split parts more is so_far =
+      let rest = tails_opened folder (drop (i + 1) tails) (drop (i + 1) views) in
+      so_far ∙ ap₂ (λ ts vs. done ++ tails_opened folder ts vs) split parts ∙ ap (λ (x : OpenPage). done ++ x ∷ rest) (sym is) ∙ sym (append_assoc done (o ∷ []) rest) ∙ ap (λ l. l ++ rest) (sym more)
+
+  pub opened_end : (tails : List Tail) (views : List PageView) (done : List OpenPage) (i : ℕ) → length tails ≤ i → tails_opened folder tails views ≡ done ++ tails_opened folder (drop i tails) (drop i views)
+      → tails_opened folder tails views ≡ done
+  opened_end tails views done i all so_far = so_far ∙ ap (λ ts. done ++ tails_opened folder ts (drop i views)) (drop_all i tails all) ∙ append-nil done
+
+  climbs : (f : Folder) (from end : ℕ) (tails : List Tail) (views : List PageView) → SameStates tails views → from ≤ end → AreStanding from end f (map (λ t. t.number) tails) → Climb from end (tails_opened folder tails views)
+  climbs f from end [] views same within stand = within
+  climbs f from end (t ∷ tails) [] same within stand = absurd (omega (arith, ap length same))
+  climbs f from end (t ∷ tails) (v ∷ views) same within stand = (stand.0, climbs f (suc t.number) end tails views (other_states same) (omega (arith, stand.1)) stand.4)
+
+  -- the checkpoints have slots
+  slot_long : (slots : List ℕ) (turn : ℕ) (s : PageState) → newest_in slots ≡ Some (turn, s) → 48 ≤ length slots
+  slot_long slots turn s is =
+      let w = sayer slots turn s is in
+      let place = found_within slots w.newest w.is.is in
+      omega (arith, place.inside)
+
+  slotted : (content : Content) (tails : List Tail) (views : List PageView) → SameStates tails views → AreNewest (read_in (names_in folder) content) tails → TailsSlotted folder (tails_opened folder tails views) content
+  slotted content [] views same newest = tt
+  slotted content (t ∷ tails) [] same newest = absurd (omega (arith, ap length same))
+  slotted content (t ∷ tails) (v ∷ views) same newest =
+      (slot_long (bytes_of (content (names_in folder (checkpoint t.number)))) t.turn t.state newest.0.is, slotted content tails views (other_states same) newest.1)
+
+  -- the files are as long as they say
+  says_long : {x y : ℕ × PageState} → ◌≡◌ {A = Option (ℕ × PageState)} (Some x) (Some y) → x.1.length ≡ y.1.length
+  says_long is = cc
+
+  longs : (content : Content) (tails : List Tail) (views : List PageView) (pages : List Page) → SameStates tails views → ArePages tails views pages → TailsHeld pages (read_in (names_in folder) content)
+      → AreNewest (read_in (names_in folder) content) tails → AreLong folder (tails_opened folder tails views) content
+  longs content [] views pages same are held newest = tt
+  longs content (t ∷ tails) [] pages same are held newest = absurd (omega (arith, ap length same))
+  longs content (t ∷ tails) (v ∷ views) pages same are held newest =
+      let p = page_of t.number t.turn t.state are.0 in
+      let all = subst (λ ps. TailsHeld ps (read_in (names_in folder) content)) are.3 held in
+      let slots = bytes_of (content (names_in folder (checkpoint t.number))) in
+      let says = newest_says slots all.0.records.slot all.0.records.bytes all.0.records.newest in
+      let long : t.state.length ≡ length all.0.bytes = says_long (sym newest.0.is ∙ says) ∙ ap (λ (s : PageState). s.length) all.0.records.says_is in
+      let views_are : views ≡ are.2 = ap (drop 1) are.5 in (
+        ap (λ (o : Option (List ℕ)). length (bytes_of o)) all.0.stands ∙ sym long ∙ ap (λ (s : PageState). s.length) (first_state same),
+        longs content tails views are.1 (other_states same) (subst (λ vs. ArePages tails vs are.1) (sym views_are) are.6) all.1 newest.1,
+      )
+
+  -- ---- pages of a queue
+
+  page_is : (number turn : ℕ) (s : PageState) (read : PageRows) → AreNumbered s.least read.rows → IsPageOf (page_opened folder number turn s.first_open (view_of s read)) (page_of number turn s read)
+  page_is number turn s read numbered = record { number = refl; version = refl; least = refl; count = refl; acknowledged = below_same s.first_open s.least read.rows numbered; from = refl; turn = refl }
+
+  pages_are : (number end : ℕ) (tails : List Tail) (views : List PageView) (pages : List Page) (top : Page) → Rising number end pages top → ArePages tails views pages → ArePagesOf (tails_opened folder tails views) pages
+  pages_are number end [] views pages top rising are = subst (λ ps. ArePagesOf [] ps) (sym are) tt
+  pages_are number end (t ∷ tails) views pages top rising are =
+      let p = page_of t.number t.turn t.state are.0 in
+      let rises = subst (λ ps. Rising number end ps top) are.3 rising in
+      subst (λ vs. ArePagesOf (tails_opened folder (t ∷ tails) vs) pages) (sym are.5)
+      (subst (λ ps. ArePagesOf (page_opened folder t.number t.turn t.state.first_open (view_of t.state are.0) ∷ tails_opened folder tails are.2) ps) (sym are.3)
+      (page_is t.number t.turn t.state are.0 rises.3.numbered, pages_are (suc t.number) (t.state.least + length are.0.rows) tails are.2 are.1 top rises.4 are.6))
+
+  top_sound : (number end : ℕ) (pages : List Page) (top : Page) → Rising number end pages top → IsSound top
+  top_sound number end [] top rising = rising.2
+  top_sound number end (p ∷ pages) top rising = top_sound (suc p.number) (p.least + length p.rows) pages top rising.4
+
+-- a fault that is handed on
+pub hands_on : (folder : List ℕ) (limits : Limits) (f : Folder) (result : Result QueueView QueueFault) (lost : QueueFault) → IsErrAnd result (λ e. e ≡ lost) → IsLost (names_in folder) lost (found f) → FindsQueue folder limits f result
+hands_on folder limits f result lost err is_lost =
+    let p = err_from_is_err_and result err in
+    subst (λ r. FindsQueue folder limits f r) (sym (p.1 ∙ ap Err p.2)) is_lost
+
+-- ---- what is known in any case
+
+module _ (folder : List ℕ) (o : Opened) (stated : AreStated o.state o.pages) where
+  abbrev tails : List OpenPage
+  tails = tails_opened folder o.pages.tails.items o.pages.pages.items
+
+  abbrev top : OpenPage
+  top = page_opened folder o.state.page o.turn o.state.first_open o.pages.top
+
+  least_same : o.pages.top.state.least ≡ o.state.least
+  least_same = ap (λ (s : PageState). s.least) stated.top.same
+
+  pub unread_fits : unread_in tails + unread_of top < 2 ^ 64
+  unread_fits =
+      let f : Folder = λ role. None in
+      let t : Held = record { number = o.state.page; state = o.state; bytes = [] } in
+      omega (arith, few_unread folder f t 0 o.pages.tails.items o.pages.pages.items stated.states (stated.rises f), stated.top.numbers, least_same)
+
+-- ---- what the store tells
+
+module _ {S : Type 0} (store : StoreWords S) (folder : List ℕ) (limits : Limits) (o : Opened) (old new : S) (stated : AreStated o.state o.pages) (was : WasOpened store (names_in folder) o old new) where
+  abbrev v : QueueView
+  v = queue_opened folder limits o
+
+  pub is_ready : IsReady store v new
+  is_ready told =
+      let l = was.leaves told in
+      record {
+        climb = climbs folder (read_in (names_in folder) (store.seen new)) 0 o.state.page o.pages.tails.items o.pages.pages.items stated.states (omega arith) l.standing;
+        tails = slotted folder (store.seen new) o.pages.tails.items o.pages.pages.items stated.states l.newest;
+        top = slot_long folder (bytes_of (store.seen new (names_in folder head))) o.turn o.state l.head_is.is;
+      }
+
+  opens_as : OpensReady store (names_in folder) o old new → IsTrue store.tells → IsAsWritten (read_in (names_in folder) (store.seen old)) o → OpensAs store v o old new
+  opens_as ready told written =
+      let q = ready told written in
+      let l = was.leaves told in
+      let queue = q.queue in
+      let held = q.ready.held told in
+      record {
+        queue = queue;
+        is = q.is;
+        opens = record {
+          ready = q.ready;
+          tails = pages_are folder 0 0 o.pages.tails.items o.pages.pages.items queue.tails queue.top q.ready.is q.is.tails;
+          top = subst (λ (view : PageView). IsPageOf (page_opened folder o.state.page o.turn o.state.first_open view) queue.top) (sym q.is.top_is)
+              (subst (λ (p : Page). IsPageOf (page_opened folder o.state.page o.turn o.state.first_open (view_of o.state q.is.read)) p) (sym q.is.top)
+              (page_is folder o.state.page o.turn o.state q.is.read (subst (λ (p : Page). IsSound p) q.is.top (top_sound folder 0 0 queue.tails queue.top q.ready.is)).numbered));
+          files = λ told. record {
+            tails = longs folder (store.seen new) o.pages.tails.items o.pages.pages.items queue.tails stated.states q.is.tails held.tails l.newest;
+            top = l.exact;
+            part = λ has. refl;
+            within = first_within v.tails v.top (is_ready told).climb;
+          };
+        };
+      }
+
+  pub opens_folder : OpensReady store (names_in folder) o old new → OpensFolder store folder limits old new v
+  opens_folder ready = record { opened = o; is = refl; reads = was.reads; ready = opens_as ready }
+
+  -- ---- how many rows are unread
+
+  abbrev the_top : Folder → Held
+  the_top f = record { number = o.state.page; state = o.state; bytes = bytes_of (f (page o.state.page)) }
+
+  ok_same : {x y : Found} → ◌≡◌ {A = Result Found Damaged} (Ok x) (Ok y) → x ≡ y
+  ok_same is = cc
+
+  pub unread_found : IsTrue store.tells → (rows : Found) → found (read_in (names_in folder) (store.seen old)) ≡ Ok rows → v.unread ≡ length rows.rows
+  unread_found told rows is = ⊎_elim (λ first. new_count first.0 first.1) (λ reads. read_count reads) (was.reads told)
+    where
+      f : Folder
+      f = read_in (names_in folder) (store.seen old)
+
+      new_count : is_new f ≡ true → IsFirst o → v.unread ≡ length rows.rows
+      new_count new first =
+          let none : rows.rows ≡ [] = ap (λ (x : Found). x.rows) (ok_same (sym is ∙ new_is_empty f new)) in
+          let count : o.pages.top.state.count ≡ 0 = ap (λ (p : PageView). p.state.count) first.top ∙ ap (λ (s : PageState). s.count) first.state in
+          let no_tails : unread_in (tails_opened folder o.pages.tails.items o.pages.pages.items) ≡ 0 = ap (λ ts. unread_in (tails_opened folder ts o.pages.pages.items)) first.tails in
+          omega (arith, ap length none, count, no_tails)
+
+      read_count : IsReadOf f o → v.unread ≡ length rows.rows
+      read_count reads =
+          let s = reads.scanned in
+          let numbers = map (λ (t : Tail). t.number) o.pages.tails.items in
+          let rises = stated.rises f in
+          let r = found_rows f o.state numbers o.pages.tails.items s.tails rises o.pages.pages.items s.pages o.pages.top s.top in
+          let same : rows ≡ r.rows = ok_same (sym is ∙ pages_are_found f o.state numbers reads.tells reads.standing ∙ rows_found f o.state numbers o.pages.tails.items s.tails rises o.pages.pages.items s.pages o.pages.top r) in
+          sym (ap (λ (x : Found). length x.rows) same ∙ all_count folder f (the_top f) o.state.page o.turn o.pages.top s.top o.pages.tails.items o.pages.pages.items r.rows r.reads s.pages)

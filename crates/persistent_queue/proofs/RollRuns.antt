@@ -1,0 +1,191 @@
+-- A new head page behind those of an open queue.
+use Rattle.std.proofs.Common.{◌≡◌, ◌⊎◌, ⊎_elim, inl, inr, ℕ, suc, ◌+◌, ◌-◌, ◌<◌, ◌≤◌, ◌^◌, IsTrue, List, [], ◌∷◌, ◌++◌, length, Option, Some, refl, sym, ◌∙◌, ap, subst, arith, length-append}
+use Rattle.std.proofs.Math.Path.{ap₂}
+use Rattle.io_traits.specs.Folders.{Content}
+use Rattle.io_traits.specs.Reads.{bytes_of, file_length}
+use Rattle.crc_frame.specs.Slots.{next_turn}
+use Rattle.store_trait.specs.declared.stores.Store.{Ghosts as StoreWords}
+use Rattle.crc_frame.specs.Frames.{frame_of}
+use Rattle.element_code.specs.declared.row.Origin.{Origin}
+use Rattle.element_code.specs.declared.row.Origin.TheVariants.{Unknown, Id}
+use Rattle.event_tree.specs.Events.{Ev}
+use Rattle.queue_page.specs.Blocks.{IsPart}
+use Rattle.queue_page.specs.Bodies.{IsBody}
+use Rattle.queue_page.specs.Grammar.{IsElement, AreElements, IsPage}
+use Rattle.queue_page.specs.declared.row.PageRow.{PageRow}
+use Rattle.queue_laws.specs.Folders.{Role, head, page, checkpoint, Folder, names_in}
+use Rattle.queue_laws.specs.Kept.{Page, Queue, leading}
+use Rattle.queue_laws.specs.Resting.{Held, TailHeld, TailsHeld, TopHeld}
+use Rattle.queue_laws.specs.Steps.{CanRoll, rolled}
+use Rattle.queue_laws.specs.Steps.{sealed as sealed_page}
+use Rattle.queue_laws.proofs.ApartNames.{names_apart}
+use Rattle.queue_laws.proofs.Torn.{is_whole}
+use Rattle.queue_laws.proofs.Whole.{rising_top}
+use Rattle.queue_core.specs.Marks.{read_in}
+use Rattle.queue_core.specs.Ready.{Ready, Keeps, IsNextPageOf, PageKeeps, PageReady}
+use Rattle.queue_core.specs.Writes.{NoneShorter}
+use Rattle.queue_core.specs.declared.rolling.NextPage.{NextPage}
+use Rattle.persistent_queue.specs.Calls.{end_of, first_open}
+use Rattle.persistent_queue.specs.Opens.{AreLong, ArePagesOf, Climb, HasPage, IsAmong, IsOfFiles, IsPageOf, IsReady, Opens, TailsSlotted}
+use Rattle.persistent_queue.specs.Views.{OpenPage, QueueView}
+use Rattle.persistent_queue.specs.Writing.{behind_roll, next_page, sealed}
+use Rattle.persistent_queue.proofs.AppendRuns.{slotted_still}
+
+-- ---- pages with the same rows have the same bytes
+
+same_body : (version : ℕ) (a b : List ℕ) (origin : Origin) (event : Ev) → IsBody version a origin event → IsBody version b origin event → a ≡ b
+same_body version a b Unknown event is other = sym is.1.spelled ∙ other.1.spelled
+same_body version a b (Id id) event is other = sym is.1.spelled ∙ other.1.spelled
+
+same_element : (version place : ℕ) (row : PageRow) (a b : List ℕ) → IsElement version place row a → IsElement version place row b → a ≡ b
+same_element version place row a b is other = sym is.framed ∙ ap (frame_of row.number) (same_body version is.body other.body row.origin row.event is.is_body other.is_body) ∙ other.framed
+
+same_elements : (version number place : ℕ) (rows : List PageRow) (a b : List ℕ) → AreElements version number place rows a → AreElements version number place rows b → a ≡ b
+same_elements version number place [] a b are other = are ∙ sym other
+same_elements version number place (row ∷ rows) a b are other =
+    sym are.2 ∙ ap₂ (λ (x y : List ℕ). x ++ y) (same_element version place row are.0 other.0 are.4 other.4) (same_elements version (number + 1) row.next rows are.1 other.1 are.5 other.5) ∙ other.2
+
+same_page : (version least : ℕ) (rows : List PageRow) (a b : List ℕ) → IsPage a version least rows → IsPage b version least rows → a ≡ b
+same_page version least rows a b is other = is.begins ∙ ap (λ l. version ∷ l) (same_elements version least 1 rows is.elements other.elements is.are other.are) ∙ sym other.begins
+
+-- ---- one page more
+
+climb_more : (from end : ℕ) (tails : List OpenPage) (o : OpenPage) → o.number ≡ end → Climb from end tails → Climb from (suc end) (tails ++ o ∷ [])
+climb_more from end [] o is climb = (omega (arith, is, climb), omega (arith, is))
+climb_more from end (t ∷ tails) o is climb = (climb.0, climb_more (suc t.number) end tails o is climb.1)
+
+slotted_more : (folder : List ℕ) (content : Content) (tails : List OpenPage) (o : OpenPage) → TailsSlotted folder tails content → 48 ≤ file_length (content (names_in folder (checkpoint o.number)))
+    → TailsSlotted folder (tails ++ o ∷ []) content
+slotted_more folder content [] o slotted one = (one, tt)
+slotted_more folder content (t ∷ tails) o slotted one = (slotted.0, slotted_more folder content tails o slotted.1 one)
+
+are_more : (tails : List OpenPage) (pages : List Page) (o : OpenPage) (p : Page) → ArePagesOf tails pages → IsPageOf o p → ArePagesOf (tails ++ o ∷ []) (pages ++ p ∷ [])
+are_more [] [] o p are is = (is, tt)
+are_more [] (x ∷ pages) o p are is = absurd are
+are_more (t ∷ tails) [] o p are is = absurd are
+are_more (t ∷ tails) (x ∷ pages) o p are is = (are.0, are_more tails pages o p are.1 is)
+
+among_more : (n : ℕ) (tails : List OpenPage) (o : OpenPage) → IsAmong n (tails ++ o ∷ []) → IsAmong n tails ⊎ (n ≡ o.number)
+among_more n [] o (inl is) = inr is
+among_more n [] o (inr none) = absurd none
+among_more n (t ∷ tails) o (inl is) = inl (inl is)
+among_more n (t ∷ tails) o (inr more) = ⊎_elim (λ among. inl (inr among)) (λ is. inr is) (among_more n tails o more)
+
+held_front : (tails : List Page) (p : Page) (folder : Folder) → TailsHeld (tails ++ p ∷ []) folder → TailsHeld tails folder × TailHeld p (folder (checkpoint p.number)) (folder (page p.number))
+held_front [] p folder held = (tt, held.0)
+held_front (t ∷ tails) p folder held = let rest = held_front tails p folder held.1 in ((held.0, rest.0), rest.1)
+
+-- ---- files that stay
+
+module _ (folder : List ℕ) (old new : Content) where
+  abbrev Stays : ℕ → Type 0
+  Stays n = new (names_in folder (page n)) ≡ old (names_in folder (page n))
+
+  tails_stay : (tails : List OpenPage) (pages : List Page) → ArePagesOf tails pages → TailsHeld pages (read_in (names_in folder) old) → TailsHeld pages (read_in (names_in folder) new) → (n : ℕ) → IsAmong n tails → Stays n
+  tails_stay [] pages are held now n among = absurd among
+  tails_stay (o ∷ tails) [] are held now n among = absurd are
+  tails_stay (o ∷ tails) (p ∷ pages) are held now n (inl is) =
+      subst Stays (are.0.number ∙ sym is)
+      (now.0.stands ∙ ap Some (same_page p.version p.least p.rows now.0.bytes held.0.bytes now.0.is_page held.0.is_page) ∙ sym held.0.stands)
+  tails_stay (o ∷ tails) (p ∷ pages) are held now n (inr among) = tails_stay tails pages are.1 held.1 now.1 n among
+
+  long_more : (tails : List OpenPage) (o : OpenPage) → ((n : ℕ) → IsAmong n tails → Stays n) → AreLong folder tails old → file_length (new (names_in folder (page o.number))) ≡ o.page.state.length
+      → AreLong folder (tails ++ o ∷ []) new
+  long_more [] o stay long one = (one, tt)
+  long_more (t ∷ tails) o stay long one = (ap file_length (stay t.number (inl refl)) ∙ long.0, long_more tails o (λ n among. stay n (inr among)) long.1 one)
+
+-- a page that was just begun has one byte
+begun_long : (q : Queue) (slots file : Option (List ℕ)) → TopHeld (rolled q) slots file → file_length file ≡ 1
+begun_long q slots file held =
+    let first : length held.front ≡ 1 = ap length held.is_page.begins ∙ ap (λ (l : List ℕ). suc (length l)) held.is_page.are in
+    let none : length held.tail ≡ 0 = ap length held.behind in
+    ap file_length held.stands ∙ length-append held.front held.tail ∙ omega (arith, first, none)
+
+-- ---- the call
+
+module _ {S : Type 0} (store : StoreWords S) (v : QueueView) (old new : S) (next : NextPage) (next_is : next ≡ next_page v.folder v.top) where
+  pub ready_rolled : (IsTrue store.tells → NoneShorter (store.seen old) (store.seen new)) → (IsTrue store.tells → 48 ≤ file_length (store.seen new next.checkpoint)) → IsReady store v old → IsReady store (behind_roll v) new
+  ready_rolled longer slot ready told =
+      let slotted = ready told in
+      let here = subst (λ (n : NextPage). 48 ≤ file_length (store.seen new n.checkpoint)) next_is (slot told) in
+      record {
+        climb = climb_more 0 v.top.number v.tails (sealed v.top) refl slotted.climb;
+        tails = slotted_more v.folder (store.seen new) v.tails (sealed v.top) (slotted_still v.folder (store.seen old) (store.seen new) (longer told) v.tails slotted.tails) here;
+        top = omega (arith, slotted.top, longer told (names_in v.folder head));
+      }
+
+  module _ (number : suc v.top.number < 2 ^ 32 - 1) (recorded : v.top.from ≡ first_open v.top) (q : Queue) (all : q.marked ≡ length q.top.rows) (opens : Opens store v q old) where
+    abbrev names : Role → List ℕ
+    names = names_in v.folder
+
+    ends : q.top.least + length q.top.rows ≡ end_of v.top
+    ends = omega (arith, opens.top.least, opens.top.count)
+
+    can : CanRoll q
+    can = let t = opens.top in record { marked = all; from = t.from ∙ recorded ∙ sym (ap₂ (λ (n : ℕ) (l : List _). n + leading l) t.least t.acknowledged); number = omega (arith, t.number, number) }
+
+    is_next : IsNextPageOf store names q old opens.ready next
+    is_next told =
+        let t = opens.top in
+        let held = (opens.ready.held told).top in
+        let long : length (held.front ++ held.tail) ≡ v.top.page.state.length = sym (ap file_length held.stands) ∙ ap (λ n. file_length (store.seen old (names (page n)))) t.number ∙ (opens.files told).top in
+        record {
+          checkpoint_is = ap (λ (n : NextPage). n.checkpoint) next_is ∙ ap (λ n. names (checkpoint n)) (sym t.number);
+          sealed_is = ap (λ (n : NextPage). n.sealed) next_is ∙ (λ i. record { page = sym t.number i; first_open = sym (t.from ∙ recorded) i; least = sym t.least i; count = sym t.count i; length = sym long i });
+          file_is = ap (λ (n : NextPage). n.file) next_is ∙ ap (λ n. names (page (suc n))) (sym t.number);
+          head_is = ap (λ (n : NextPage). n.head) next_is;
+          turn_is = ap (λ (n : NextPage). n.turn) next_is ∙ ap next_turn (sym t.turn);
+          state_is = ap (λ (n : NextPage). n.state) next_is ∙ (λ i. record { page = suc (sym t.number i); first_open = sym ends i; least = sym ends i; count = 0; length = 1 });
+        }
+
+    pub keeps_page : PageKeeps store next old new → Keeps store names q old new
+    keeps_page keeps = keeps names q (names_apart v.folder) opens.ready can is_next
+
+    module _ (page_ready : PageReady store next old new) where
+      now : Ready store names (rolled q) new
+      now = page_ready names q (names_apart v.folder) opens.ready can is_next
+
+      module _ (told : IsTrue store.tells) where
+        before : Held q (read_in names (store.seen old))
+        before = opens.ready.held told
+
+        behind : Held (rolled q) (read_in names (store.seen new))
+        behind = now.held told
+
+        tails_same : (n : ℕ) → IsAmong n v.tails → store.seen new (names (page n)) ≡ store.seen old (names (page n))
+        tails_same = tails_stay v.folder (store.seen old) (store.seen new) v.tails q.tails opens.tails before.tails (held_front q.tails (sealed_page q.top) (read_in names (store.seen new)) behind.tails).0
+
+        top_same : store.seen new (names (page v.top.number)) ≡ store.seen old (names (page v.top.number))
+        top_same =
+            let one = (held_front q.tails (sealed_page q.top) (read_in names (store.seen new)) behind.tails).1 in
+            let whole = is_whole q (store.seen old (names head)) (store.seen old (names (page q.top.number))) (rising_top 0 0 q.tails q.top opens.ready.is) before.top in
+            subst (λ n. store.seen new (names (page n)) ≡ store.seen old (names (page n))) opens.top.number
+            (one.stands ∙ ap Some (same_page q.top.version q.top.least q.top.rows one.bytes (before.top.front ++ before.top.tail) one.is_page whole) ∙ sym before.top.stands)
+
+        part_now : HasPage v.cursor.page (behind_roll v) → IsPart (bytes_of (store.seen new (names (page v.cursor.page)))) v.cursor.block
+        part_now (inl is) = absurd (omega (arith, is, (opens.files told).within))
+        part_now (inr more) = at (among_more v.cursor.page v.tails (sealed v.top) more)
+          where
+            at : IsAmong v.cursor.page v.tails ⊎ (v.cursor.page ≡ v.top.number) → IsPart (bytes_of (store.seen new (names (page v.cursor.page)))) v.cursor.block
+            at (inl among) = subst (λ (f : Option (List ℕ)). IsPart (bytes_of f) v.cursor.block) (sym (tails_same v.cursor.page among)) ((opens.files told).part (inr among))
+            at (inr is) =
+                subst (λ (f : Option (List ℕ)). IsPart (bytes_of f) v.cursor.block) (sym (subst (λ n. store.seen new (names (page n)) ≡ store.seen old (names (page n))) (sym is) top_same)) ((opens.files told).part (inl is))
+
+        files_now : IsOfFiles (behind_roll v) (store.seen new)
+        files_now = record {
+          tails = long_more v.folder (store.seen old) (store.seen new) v.tails (sealed v.top) tails_same (opens.files told).tails (ap file_length top_same ∙ (opens.files told).top);
+          top = ap (λ n. file_length (store.seen new (names (page (suc n))))) (sym opens.top.number) ∙ begun_long q (store.seen new (names head)) (store.seen new (names (page (suc q.top.number)))) behind.top;
+          part = part_now;
+          within = omega (arith, (opens.files told).within);
+        }
+
+      pub opens_rolled : Opens store (behind_roll v) (rolled q) new
+      opens_rolled =
+          let t = opens.top in
+          record {
+            ready = now;
+            tails = are_more v.tails q.tails (sealed v.top) (sealed_page q.top) opens.tails
+                (record { number = t.number; version = t.version; least = t.least; count = t.count; acknowledged = t.acknowledged; from = t.from; turn = refl });
+            top = record { number = ap suc t.number; version = refl; least = ends; count = refl; acknowledged = refl; from = ends; turn = ap next_turn t.turn };
+            files = files_now;
+          }

@@ -1,0 +1,241 @@
+// The next unread rows of a queue, as a batch.
+ghost use Rattle.std.specs.Prelude.{◌≡◌, ◌≤◌, ◌-◌, ◌⊎◌, ◌++◌, ◌∷◌, [], ℕ, List, IsTrue, IfOk, OnErr, Ok, Err, None};
+ghost use Rattle.io_traits.specs.Counts.{HasCause};
+ghost use Rattle.io_traits.specs.Reads.{bytes_of, file_length};
+ghost use Rattle.store_trait.specs.Calls.{ChangesNothing};
+ghost use Rattle.store_disk.specs.declared.faults.QueueFault.TheVariants as f;
+ghost use Rattle.queue_page.specs.Blocks.{IsPart};
+ghost use Rattle.queue_page.specs.Elements.{and_then};
+ghost use Rattle.persistent_queue.specs.Batching.{Finds};
+ghost use Rattle.persistent_queue.specs.Opens.{Becomes, IsOfFiles, IsReady, KeepsQueue};
+ghost use Rattle.persistent_queue.specs.Taking.{stand, entered, is_passed, page_read, pages_read, begun, rows_taken, batch_of, rows_in, with_block, taken_of, AreThere, WasRead};
+
+use crate::batching::{Batch, Cursor};
+use crate::limits::Numbers;
+use crate::page_rows::Reading;
+use crate::pages::HeldPage;
+use crate::queue::Queue;
+use queue_page::{BLOCK_LEN, Block};
+use std::alloc::{AllocError, Global};
+use std::mem;
+use store_disk::{QueueFault, Store};
+
+/// How many bytes the bodies of the rows of a batch may have together, unless it has a single row: 64 MiB.
+const BATCH_BYTES: u64 = 67_108_864;
+
+/// The place of the first row in the file of a page.
+const FIRST_PLACE: u64 = 1;
+
+/// Whether nothing is read of a page for a batch, where the next row stands in the page of this number.
+fn is_passed(held: &HeldPage, page: u32, reading: &Reading) -> bool
+    ensures { result ≡ is_passed held.now (stand page reading.now) }
+{
+    held.number < page || held.is_spent() || reading.is_over()
+}
+
+/// Goes to the first row of a page, unless the next row stands in it. Where there is no memory, all stays.
+fn enter(
+    alloc: Global,
+    held: &HeldPage,
+    page: &mut u32,
+    block: &mut Block,
+    reading: &mut Reading,
+) -> Result<(), AllocError>
+    ensures page { IfOk result (λ _. page.new ≡ held.now.number) }
+    ensures reading { IfOk result (λ _.
+        reading.new ≡ entered held.now (stand page.old reading.old)) }
+    ensures part { IfOk result (λ _. (file : List ℕ)
+        → (page.old ≡ held.now.number → IsPart file block.old) → IsPart file block.new) }
+{
+    if held.number != *page {
+        *block = Block::new(alloc, BLOCK_LEN)?;
+        *page = held.number;
+        reading.number = held.page.state().least;
+        reading.place = FIRST_PLACE;
+    }
+    Ok(())
+}
+
+/// Reads rows of a page for a batch, unless it has none or the batch has as many as it may. The block holds
+/// what was read last of the page in which the next row stands.
+fn read_one<S: Store>(
+    alloc: Global,
+    store: &mut S,
+    held: &HeldPage,
+    page: &mut u32,
+    block: &mut Block,
+    reading: &mut Reading,
+) -> Result<(), QueueFault>
+    ensures rows { IsTrue S.tells
+        → (page.old ≡ held.now.number
+        → IsPart (bytes_of (S.seen store.old held.now.file)) block.old)
+        → held.now.page.state.length ≤ file_length (S.seen store.old held.now.file)
+        → Finds (λ _. stand page.new reading.new) result
+        (page_read (S.seen store.old) held.now (stand page.old reading.old)) }
+    ensures part { IfOk result (λ _. IsTrue S.tells
+        → (page.old ≡ held.now.number
+        → IsPart (bytes_of (S.seen store.old held.now.file)) block.old)
+        → ((page.new ≡ page.old) × (block.new ≡ block.old))
+        ⊎ ((page.new ≡ held.now.number)
+        × IsPart (bytes_of (S.seen store.old held.now.file)) block.new)) }
+    ensures same { ChangesNothing S.tells S.seen S.moment S.may_leave store.old store.new }
+    ensures cause { HasCause (S.faults store.old) (S.faults store.new) (result ≡ Err f.Fault) }
+{
+    if is_passed(held, *page, reading) {
+        return Ok(());
+    }
+    enter(alloc, held, page, block, reading)?;
+    reading.read_page(
+        alloc,
+        store,
+        held.file.as_str(),
+        &held.page,
+        held.from,
+        block,
+    )
+}
+
+/// Reads rows of pages for a batch, of those below the head and then of the head page, from the page on in
+/// which the next row stands. The block holds what was read last of that page.
+fn read_all<S: Store>(
+    alloc: Global,
+    store: &mut S,
+    tails: &[HeldPage],
+    top: &HeldPage,
+    page: &mut u32,
+    block: &mut Block,
+    reading: &mut Reading,
+) -> Result<(), QueueFault>
+    ensures rows { (names : ℕ → List ℕ) → IsTrue S.tells
+        → AreThere names (S.seen store.old) page.old block.old (tails.now ++ top.now ∷ [])
+        → Finds (λ _. stand page.new reading.new) result
+        (pages_read (S.seen store.old) (tails.now ++ top.now ∷ []) (stand page.old reading.old)) }
+    ensures part { IfOk result (λ _. (names : ℕ → List ℕ) → IsTrue S.tells
+        → AreThere names (S.seen store.old) page.old block.old (tails.now ++ top.now ∷ [])
+        → WasRead names (S.seen store.old) page.old block.old page.new block.new) }
+    ensures same { ChangesNothing S.tells S.seen S.moment S.may_leave store.old store.new }
+    ensures cause { HasCause (S.faults store.old) (S.faults store.new) (result ≡ Err f.Fault) }
+{
+    for place in 0..tails.len() {
+        read_one(alloc, store, &tails[place], page, block, reading)?;
+    }
+    read_one(alloc, store, top, page, block, reading)
+}
+
+/// Reads the next rows for a batch, at most so many, and goes behind them. Where that fails, the next row is
+/// the one before it.
+fn read_from<S: Store>(
+    alloc: Global,
+    store: &mut S,
+    tails: &[HeldPage],
+    top: &HeldPage,
+    cursor: &mut Cursor,
+    most: u32,
+) -> Result<Reading, QueueFault>
+    ensures rows { (names : ℕ → List ℕ) → IsTrue S.tells
+        → AreThere names (S.seen store.old) cursor.old.page cursor.old.block
+        (tails.now ++ top.now ∷ [])
+        → Finds (λ reading. stand cursor.new.page reading) result
+        (pages_read (S.seen store.old) (tails.now ++ top.now ∷ []) (begun most cursor.old)) }
+    ensures cursor { IfOk result (λ reading. (cursor.new.number ≡ reading.number)
+        × (cursor.new.place ≡ reading.place)) }
+    ensures part { IfOk result (λ _. (names : ℕ → List ℕ) → IsTrue S.tells
+        → AreThere names (S.seen store.old) cursor.old.page cursor.old.block
+        (tails.now ++ top.now ∷ [])
+        → WasRead names (S.seen store.old) cursor.old.page cursor.old.block
+        cursor.new.page cursor.new.block) }
+    ensures err { OnErr result
+        (cursor.new ≡ record cursor.old { block = cursor.new.block }) }
+    ensures lost { OnErr result ((file : List ℕ) → IsPart file cursor.old.block
+        → IsPart file cursor.new.block) }
+    ensures same { ChangesNothing S.tells S.seen S.moment S.may_leave store.old store.new }
+    ensures cause { HasCause (S.faults store.old) (S.faults store.new) (result ≡ Err f.Fault) }
+{
+    let mut page = cursor.page;
+    let mut reading = Reading::new(
+        alloc,
+        most as usize,
+        BATCH_BYTES,
+        cursor.number,
+        cursor.place,
+    );
+    let mut block = mem::replace(&mut cursor.block, Block::new(alloc, 0)?);
+    read_all(
+        alloc,
+        store,
+        tails,
+        top,
+        &mut page,
+        &mut block,
+        &mut reading,
+    )?;
+    cursor.page = page;
+    cursor.number = reading.number;
+    cursor.place = reading.place;
+    cursor.block = block;
+    Ok(reading)
+}
+
+/// The rows that were read, if there are any.
+fn batch_of(reading: Reading) -> Option<Batch>
+    ensures { result ≡ batch_of reading }
+{
+    let first = match reading.rows.get(0) {
+        None => return None,
+        Some(row) => row.number,
+    };
+    Some(Batch {
+        numbers: Numbers {
+            first,
+            behind: reading.number,
+        },
+        rows: reading.rows,
+    })
+}
+
+impl Queue {
+    /// Takes the next unread rows, in order: as many as there are, but no more than these at most, and
+    /// ending before the row with which the bodies would have more than 64 MiB together, unless that is the
+    /// first. `None` where no row is unread. Rows that were acknowledged when the queue was opened are
+    /// passed over.
+    ///
+    /// Where it fails, no row is taken, and the next call begins with the same row.
+    pub fn take_batch<S: Store>(
+        &mut self,
+        alloc: Global,
+        store: &mut S,
+        most: u32,
+    ) -> Result<Option<Batch>, QueueFault>
+        requires { 1 ≤ most }
+
+        // The next rows, and the queue behind them; or the first damage of an element that is read for them.
+        ensures batch { IsTrue S.tells → IsOfFiles self.old (S.seen store.old)
+            → Finds (λ batch. (batch, self.new)) result
+            (and_then (rows_taken most (S.seen store.old) self.old)
+            (taken_of self.new.cursor.block self.old)) }
+        ensures none { self.old.unread ≡ 0 → result ≡ Ok None }
+        ensures unread { IfOk result (λ batch.
+            self.new.unread ≡ self.old.unread - rows_in batch) }
+        ensures rest { self.new ≡ record self.old {
+          unread = self.new.unread;
+          cursor = self.new.cursor;
+        } }
+        ensures err { OnErr result (self.new ≡ with_block self.new.cursor.block self.old) }
+
+        // Of the queue of a folder: it stays, and so does what a stop leaves.
+        ensures ready { IsReady S.Store self.old store.old → IsReady S.Store self.new store.new }
+        ensures keeps { KeepsQueue S.Store self.old store.old store.new }
+        ensures stays { Becomes S.Store (λ q. q) self.old self.new store.old store.new }
+
+        ensures same { ChangesNothing S.tells S.seen S.moment S.may_leave store.old store.new }
+        ensures cause { HasCause (S.faults store.old) (S.faults store.new) (result ≡ Err f.Fault) }
+    {
+        if self.unread == 0 {
+            return Ok(None);
+        }
+        let tails = self.tails.as_slice();
+        let reading = read_from(alloc, store, tails, &self.top, &mut self.cursor, most)?;
+        self.unread = self.unread.saturating_sub(reading.rows.len() as u64);
+        Ok(batch_of(reading))
+    }
+}

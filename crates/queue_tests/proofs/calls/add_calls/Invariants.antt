@@ -1,0 +1,5 @@
+use Rattle.persistent_queue.specs.Opens.{IsReady}
+use Rattle.queue_tests.proofs.calls.add_calls.Given as goal
+
+abbrev pub invariant-loop-call : goal.invariant-loop-call
+invariant-loop-call g l = IsReady g.S.Store l.queue l.store
