@@ -8,7 +8,7 @@ use Rattle.history_laws.specs.Entries.{Entry, Accept, Mark, Assure, Read, Back, 
 use Rattle.history_laws.specs.Lists.{IsIn}
 use Rattle.history_laws.specs.States.{Plan, Written, Out, State, start, newest, numbers_out, out_of, left_of, reads, tells_letters, top_of, written, next, after}
 use Rattle.history_laws.specs.Legal.{IsBack, Legal_at, Legal}
-use Rattle.history_laws.specs.Laws.{PrefixesAreLegal, WasDelivered, AcknowledgedWereDelivered, AssuredStand}
+use Rattle.history_laws.specs.Laws.{PrefixesAreLegal, WasDelivered, AcknowledgedWereDelivered, SettledStand, AssuredStand}
 use Rattle.history_laws.proofs.Lists.{in_front, in_either, filter_keeps, filter_has}
 use Rattle.history_laws.proofs.Batches.{AsDue, AreDue, found_due, next_due}
 use Rattle.history_laws.proofs.Numbers.{IsSane, start_sane, numbers_have, next_sane}
@@ -182,13 +182,26 @@ prefixes_are_legal makes told more legal = legal_first makes start told more leg
 pub acknowledged_were_delivered : AcknowledgedWereDelivered
 acknowledged_were_delivered makes told w legal has acked = from_start makes told legal w (has, acked)
 
+stays_end : (makes : Makes) (told more : List Entry) (w : Written) → Legal makes start (told ++ more) → IsIn w (after makes start told).rows → w.number ≤ (after makes start told).front
+    → IsIn w (after makes start (told ++ more)).rows × (w.number ≤ (after makes start (told ++ more)).front)
+stays_end makes told more w legal has settled =
+    let now = after makes start told in
+    let ahead : now.front < now.low = all_ahead makes start told (legal_first makes start told more legal) (omega arith) in
+    let stays = all_stay makes w now more (legal_rest makes start told more legal) ahead (has, settled) in
+    subst (λ (s : State). IsIn w s.rows × (w.number ≤ s.front)) (sym (after_both makes start told more)) stays
+
+-- a row that is settled stays one
+pub settled_stays : (makes : Makes) (told more : List Entry) (w : Written) → Legal makes start (told ++ more) → IsIn w (after makes start told).rows → w.number ≤ (after makes start told).front
+    → IsIn w (after makes start (told ++ more)).rows
+settled_stays makes told more w legal has settled = (stays_end makes told more w legal has settled).0
+
+pub settled_stand : SettledStand
+settled_stand makes told more w found legal has settled fits =
+    let stays = stays_end makes told more w legal has settled in
+    ⊎_elim (λ x. inl x) (λ (i : IsIn w.number (after makes start (told ++ more)).acknowledged). inr (from_start makes _ legal w (stays.0, i)))
+    (fits.rows.settled w stays.0 stays.1)
+
 pub assured_stand : AssuredStand
 assured_stand makes told rest input front w found legal has settled fits =
-    let now = after makes start told in
-    let legal_now = legal_rest makes start told (Assure input front ∷ rest) legal in
-    let ahead : now.front < now.low = all_ahead makes start told (legal_first makes start told (Assure input front ∷ rest) legal) (omega arith) in
-    let stays = all_stay makes w now (Assure input front ∷ rest) legal_now ahead (has, omega (arith, settled, legal_now.0.1)) in
-    let end = after_both makes start told (Assure input front ∷ rest) in
-    let stays_end = subst (λ (s : State). IsIn w s.rows × (w.number ≤ s.front)) (sym end) stays in
-    ⊎_elim (λ x. inl x) (λ (i : IsIn w.number (after makes start (told ++ Assure input front ∷ rest)).acknowledged). inr (from_start makes _ legal w (stays_end.0, i)))
-    (fits.rows.settled w stays_end.0 stays_end.1)
+    let assures = (legal_rest makes start told (Assure input front ∷ rest) legal).0.1 in
+    settled_stand makes told (Assure input front ∷ rest) w found legal has (omega (arith, settled, assures)) fits

@@ -8,5 +8,12 @@ pub mod Telling
 pub mod Files
 pub mod DeadLetters
 pub mod Rejections
+pub mod Steps
 pub mod Giving
 pub mod Standing
+pub mod Arriving
+pub mod Reaching
+pub mod Holding
+pub mod Following
+pub mod Unread
+pub mod Moments

@@ -11,6 +11,10 @@ module _ {X : Type 0} (x : X) where
   in_front (y ∷ xs) ys (inl e) = inl e
   in_front (y ∷ xs) ys (inr i) = inr (in_front xs ys i)
 
+  pub in_behind : (xs ys : List X) → IsIn x ys → IsIn x (xs ++ ys)
+  in_behind [] ys i = i
+  in_behind (y ∷ xs) ys i = inr (in_behind xs ys i)
+
   pub in_either : (xs ys : List X) → IsIn x (xs ++ ys) → IsIn x xs ⊎ IsIn x ys
   in_either [] ys i = inr i
   in_either (y ∷ xs) ys (inl e) = inl (inl e)

@@ -52,7 +52,7 @@ pub record IsSane (s : State) : Type 0 where
 pub start_sane : IsSane start
 start_sane = record { numbered = record { below = λ w i. absurd i; unique = λ v w i. absurd i }; acked = λ n i. absurd i; outs = λ o w i. absurd i }
 
-take_has : {X : Type 0} (x : X) (n : ℕ) (xs : List X) → IsIn x (take n xs) → IsIn x xs
+pub take_has : {X : Type 0} (x : X) (n : ℕ) (xs : List X) → IsIn x (take n xs) → IsIn x xs
 take_has x zero xs i = absurd i
 take_has x (suc n) [] i = absurd i
 take_has x (suc n) (y ∷ ys) (inl e) = inl e

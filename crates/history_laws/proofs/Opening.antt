@@ -26,16 +26,16 @@ among_found n (x ∷ rows) is =
     (λ (more : is_among n (numbers_found rows) ≡ true). let rest = among_found n rows more in (rest.0, inr rest.1, rest.2))
     (or_cases (n == x.number) (is_among n (numbers_found rows)) is)
 
-in_among : (n : ℕ) (ns : List ℕ) → is_among n ns ≡ true → IsIn n ns
+pub in_among : (n : ℕ) (ns : List ℕ) → is_among n ns ≡ true → IsIn n ns
 in_among n [] is = absurd (cc)
 in_among n (m ∷ ns) is =
     ⊎_elim (λ (e : (n == m) ≡ true). inl (eqb-true n m e)) (λ (more : is_among n ns ≡ true). inr (in_among n ns more)) (or_cases (n == m) (is_among n ns) is)
 
-or_second : (x y : Bool) → y ≡ true → (x || y) ≡ true
+pub or_second : (x y : Bool) → y ≡ true → (x || y) ≡ true
 or_second true y e = refl
 or_second false y e = e
 
-among_in : (n : ℕ) (ns : List ℕ) → IsIn n ns → is_among n ns ≡ true
+pub among_in : (n : ℕ) (ns : List ℕ) → IsIn n ns → is_among n ns ≡ true
 among_in n [] i = absurd i
 among_in n (m ∷ ns) (inl same) = ap (λ b. b || is_among n ns) (eq-eqb n m same)
 among_in n (m ∷ ns) (inr i) = or_second (n == m) (is_among n ns) (among_in n ns i)
@@ -91,6 +91,7 @@ module _ (s : State) (are : AreNumbered s.rows s.low) (found : Found) (limits : 
     };
     behind = fits.behind;
     within = fits.within;
+    recorded = fits.recorded;
   }
 
   -- the last row that is found, where there is one
@@ -100,7 +101,7 @@ module _ (s : State) (are : AreNumbered s.rows s.low) (found : Found) (limits : 
   last_found (r ∷ x ∷ rows) = ⊎_elim (λ e. inl e) (λ (l : (y : Row) × IsIn y (x ∷ rows) × (y.number ≡ last_number (x ∷ rows))). inr (l.0, inr l.1, l.2)) (last_found (x ∷ rows))
 
   -- up to the top a row is found, or acknowledged still
-  found_or_acked : (w : Written) → IsIn w opened.rows → IsFound found.rows w ⊎ IsIn w.number opened.acknowledged
+  pub found_or_acked : (w : Written) → IsIn w opened.rows → IsFound found.rows w ⊎ IsIn w.number opened.acknowledged
   found_or_acked w i = ⊎_elim (λ (f : IsFound found.rows w). inl f) (acked_still w (was_in w i) (is_below w i)) by_place
     where
       by_last : s.front < w.number → IsFound found.rows w ⊎ IsIn w.number s.acknowledged

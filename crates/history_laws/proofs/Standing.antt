@@ -20,7 +20,7 @@ use Rattle.history_laws.proofs.Rejections.{rejections_were_appended}
 use Rattle.history_laws.proofs.DeadLetters.{appends_change, appended_before, start_known, end_known, letters_were_appended}
 
 -- what was told up to some step was told
-told_since : (makes : Makes) (plan : Plan) (d : Due) (before more : List Entry) → WasTold makes start before plan d → WasTold makes start (before ++ more) plan d
+pub told_since : (makes : Makes) (plan : Plan) (d : Due) (before more : List Entry) → WasTold makes start before plan d → WasTold makes start (before ++ more) plan d
 told_since makes plan d before more w = record {
   before = w.before;
   entry = w.entry;
@@ -37,9 +37,9 @@ told_since makes plan d before more w = record {
 
 module _ (makes : Makes) (bytes : Bytes) (places : Places) (told : List Entry) (i : Image) (row : Written) (legal : Legal makes start told) where
   -- with one delivery more, too
-  with_more : (path more whole content : List ℕ) → content ≡ whole ++ more → (part : List ℕ) → ((front : List ℕ) × (back : List ℕ) × (whole ≡ front ++ part ++ back))
+  with_more : (more whole content : List ℕ) → content ≡ whole ++ more → (part : List ℕ) → ((front : List ℕ) × (back : List ℕ) × (whole ≡ front ++ part ++ back))
       → (front : List ℕ) × (back : List ℕ) × (content ≡ front ++ part ++ back)
-  with_more path more whole content is part parts = (
+  with_more more whole content is part parts = (
     parts.0,
     parts.1 ++ more,
     is ∙ ap (λ (l : List ℕ). l ++ more) parts.2 ∙ append_assoc (parts.0 ++ part) parts.1 more,
@@ -56,7 +56,7 @@ module _ (makes : Makes) (bytes : Bytes) (places : Places) (told : List Entry) (
       (appends_change (limits_in told) (after makes start told).limits (end_known (limits_in told) makes bytes start told (λ l i. i) (start_known (limits_in told))) l.shed l.parts dead.whole dead.held l.appends))
       dead.or_more
 
-  all_stands : ((file : FilePlace) → IsIn file places.files → FileSound makes bytes file told i) → DeadSound makes bytes places.dead places.dead_base told i → WasDelivered makes start told row → AllStands makes bytes places told i row
+  pub all_stands : ((file : FilePlace) → IsIn file places.files → FileSound makes bytes file told i) → DeadSound makes bytes places.dead places.dead_base told i → WasDelivered makes start told row → AllStands makes bytes places told i row
   all_stands files dead w = record {
     delivered = w;
     in_files = λ file is id events due_there.
@@ -68,7 +68,7 @@ module _ (makes : Makes) (bytes : Bytes) (places : Places) (told : List Entry) (
         let here = ⊎_elim
         (λ (same : sound.content ≡ sound.whole). (parts.0, parts.1, same ∙ parts.2))
         (λ (l : FileLeft bytes file.path (after makes start told) sound.whole sound.content).
-        with_more file.path (next_bytes bytes (is_file file.path) (Some l.0)) sound.whole sound.content l.2 (bytes w.out.plan.config id events) parts)
+        with_more (next_bytes bytes (is_file file.path) (Some l.0)) sound.whole sound.content l.2 (bytes w.out.plan.config id events) parts)
         sound.or_more in
         (sound.content, here.0, here.1, sound.holds, here.2);
     in_letters = λ letters due_there.

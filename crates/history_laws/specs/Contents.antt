@@ -4,7 +4,6 @@ use Rattle.settings_lines.specs.declared.settings.Policy.TheVariants.{Hold}
 use Rattle.event_tree.specs.Events.{Ev}
 use Rattle.event_tree.specs.declared.lists.DeadPart.{DeadPart}
 use Rattle.config_tree.specs.declared.tree.Config.{Config}
-use Rattle.foreign_parts.specs.Delivering.{taken}
 use Rattle.foreign_parts.specs.declared.output.Fate.{Fate}
 use Rattle.foreign_parts.specs.declared.place.Place.{Place}
 use Rattle.foreign_parts.specs.declared.place.Place.TheVariants as place
@@ -176,41 +175,3 @@ module _ (makes : Makes) (bytes : Bytes) where
   abbrev pub DeadHolds : State → Held → List Entry → Held → Type 0
   DeadHolds s base [] content = content ≡ base
   DeadHolds s base (e ∷ told) content = (now : Held) × DeadAfter s e told base now × DeadHolds (next makes s e) now told content
-
-  -- what was given to stdout since the pipeline was last opened
-  abbrev pub printed_after : State → Entry → List ℕ → List ℕ
-  printed_after s (Deliver batch at events fates) old = old ++ next_bytes bytes is_stdout (out_of batch s.out)
-  printed_after s (Opened rows limit policy) old = []
-  printed_after s (Accept input parcel number event) old = old
-  printed_after s (Mark front) old = old
-  printed_after s (Assure input front) old = old
-  printed_after s (Read batch generation numbers) old = old
-  printed_after s (Back batch verdicts) old = old
-  printed_after s (Shed batch older newer) old = old
-  printed_after s (Letters batch letters) old = old
-  printed_after s (Ack batch) old = old
-  printed_after s (Purge page) old = old
-  printed_after s (Adopt generation config draws) old = old
-
-  abbrev pub printed : State → List ℕ → List Entry → List ℕ
-  printed s old [] = old
-  printed s old (e ∷ told) = printed (next makes s e) (printed_after s e old) told
-
--- the events that a box took since the pipeline was last opened
-abbrev pub given_after : ℕ → Entry → List Ev → List Ev
-given_after number (Deliver batch at events fates) old = if is_box number at then old ++ taken fates events else old
-given_after number (Opened rows limit policy) old = []
-given_after number (Accept input parcel row event) old = old
-given_after number (Mark front) old = old
-given_after number (Assure input front) old = old
-given_after number (Read batch generation numbers) old = old
-given_after number (Back batch verdicts) old = old
-given_after number (Shed batch older newer) old = old
-given_after number (Letters batch letters) old = old
-given_after number (Ack batch) old = old
-given_after number (Purge page) old = old
-given_after number (Adopt generation config draws) old = old
-
-abbrev pub given : ℕ → List Ev → List Entry → List Ev
-given number old [] = old
-given number old (e ∷ told) = given number (given_after number e old) told

@@ -47,11 +47,13 @@ AreInputs [] now = now ≡ []
 AreInputs (plan ∷ plans) now =
     (before : List Input) × AreInputs plans before × Renumbered (length before) before (named_from 1 plan.config.inputs) now
 
--- the input of this number has this id by them
-pub record HasId (plans : List Plan) (number : ℕ) (id : List ℕ) : Type 0 where
+-- by them this is the input of this number
+pub record IsInput (plans : List Plan) (number : ℕ) (input : Input) : Type 0 where
   pub inputs : List Input
   pub are : AreInputs plans inputs
-  pub input : Input
   pub has : IsIn input inputs
   pub number_is : input.number ≡ number
-  pub id_is : input.id ≡ id
+
+-- the input of this number has this id by them
+abbrev pub HasId : List Plan → ℕ → List ℕ → Type 0
+HasId plans number id = (input : Input) × IsInput plans number input × (input.id ≡ id)

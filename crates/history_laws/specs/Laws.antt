@@ -1,5 +1,5 @@
 -- What holds of every legal history.
-use Rattle.std.specs.Prelude.{◌≡◌, ◌⊎◌, ◌≤◌, ℕ, List, [], ◌∷◌, ◌++◌, Some, ⊤}
+use Rattle.std.specs.Prelude.{◌≡◌, ◌⊎◌, ◌≤◌, ℕ, List, [], ◌∷◌, ◌++◌, Some}
 use Rattle.event_tree.specs.Events.{Ev}
 use Rattle.event_tree.specs.declared.lists.DeadPart.{DeadPart}
 use Rattle.settings_lines.specs.declared.settings.Policy.{Policy}
@@ -13,11 +13,12 @@ use Rattle.event_flow.specs.Meaning as due
 use Rattle.queue_laws.specs.Found.{Found}
 use Rattle.dead_letters.specs.Found.{Held}
 use Rattle.dead_letters.specs.declared.shedding.Shedding.{Shedding}
-use Rattle.history_laws.specs.Contents.{Bytes, Appended, FileHolds, DeadHolds, printed, given}
+use Rattle.history_laws.specs.Contents.{Bytes, Appended, FileHolds, DeadHolds}
 use Rattle.history_laws.specs.Entries.{Entry, Accept, Mark, Assure, Read, Back, Shed, Deliver, Letters, Ack, Purge, Adopt, Opened}
 use Rattle.history_laws.specs.Legal.{rejections, Legal_at, Legal, Fits, IsFound}
 use Rattle.history_laws.specs.Lists.{IsIn}
 use Rattle.history_laws.specs.States.{Plan, Written, Out, Limits, State, start, out_of, unread, due_of, next, after}
+use Rattle.history_laws.specs.Steps.{NoOpening, printed, given}
 
 -- what was told up to any step is legal too
 abbrev pub PrefixesAreLegal : Type 0
@@ -42,6 +43,13 @@ abbrev pub AcknowledgedWereDelivered : Type 0
 AcknowledgedWereDelivered =
     (makes : Makes) (told : List Entry) (w : Written) → Legal makes start told → IsIn w (after makes start told).rows → IsIn w.number (after makes start told).acknowledged
     → WasDelivered makes start told w
+
+-- A row that is settled is found in each folder that fits the history, whatever was told since; or all that was due of it was told.
+abbrev pub SettledStand : Type 0
+SettledStand =
+    (makes : Makes) (told more : List Entry) (w : Written) (found : Found)
+    → Legal makes start (told ++ more) → IsIn w (after makes start told).rows → w.number ≤ (after makes start told).front → Fits (after makes start (told ++ more)) found
+    → IsFound found.rows w ⊎ WasDelivered makes start (told ++ more) w
 
 -- An event that was acknowledged to its input is found in each folder that fits the history, whatever was told since; or all that was due of it was told.
 abbrev pub AssuredStand : Type 0
@@ -158,19 +166,13 @@ RejectionsWereAppended =
     → DeadHolds makes bytes start base told content → (w : WasTold makes start told plan (due.Events id at events))
     → (rejections plan.config id (fates_of w.entry) events ≡ []) ⊎ WereAppended (limits_in told) base content (rejections plan.config id (fates_of w.entry) events)
 
--- the pipeline wasn't opened again
-abbrev pub NoOpening : List Entry → Type 0
-NoOpening [] = ⊤
-NoOpening (Opened rows limit policy ∷ told) = ⊥
-NoOpening (e ∷ told) = NoOpening told
-
 -- What was told of stdout and of a box since the pipeline was last opened stands in what it was given: the bytes of the events, and the events that the box took.
 abbrev pub RunsGiveToStdout : Type 0
 RunsGiveToStdout =
     (makes : Makes) (bytes : Bytes) (told : List Entry) (plan : Plan) (id : List ℕ) (events : List Ev) → (w : WasTold makes start told plan (due.Events id place.Stdout events)) → NoOpening w.rest
-    → (front : List ℕ) × (back : List ℕ) × (printed makes bytes start [] told ≡ front ++ bytes plan.config id events ++ back)
+    → (front : List ℕ) × (back : List ℕ) × (printed makes bytes told ≡ front ++ bytes plan.config id events ++ back)
 
 abbrev pub RunsGiveToBoxes : Type 0
 RunsGiveToBoxes =
     (makes : Makes) (number : ℕ) (told : List Entry) (plan : Plan) (id : List ℕ) (events : List Ev) → (w : WasTold makes start told plan (due.Events id (place.Foreign number) events))
-    → NoOpening w.rest → (front : List Ev) × (back : List Ev) × (given number [] told ≡ front ++ taken (fates_of w.entry) events ++ back)
+    → NoOpening w.rest → (front : List Ev) × (back : List Ev) × (given makes number told ≡ front ++ taken (fates_of w.entry) events ++ back)

@@ -50,11 +50,12 @@ pub record MayBeFound (s : State) (found : List Row) : Type 0 where
   pub settled : (w : Written) → IsIn w s.rows → w.number ≤ s.front → IsFound found w ⊎ IsIn w.number s.acknowledged
   pub before : (w : Written) (r : Row) → IsIn w s.rows → IsIn r found → w.number < r.number → IsFound found w ⊎ IsIn w.number s.acknowledged
 
--- the same of what a folder holds, with the number that comes next there
+-- the same of what a folder holds, with the number that comes next there, and with what its head page's checkpoint speaks of: of all that is settled
 pub record Fits (s : State) (found : Found) : Type 0 where
   pub rows : MayBeFound s found.rows
   pub behind : top_of s found.rows < found.next
   pub within : found.next ≤ s.high
+  pub recorded : s.front < found.recorded
 
 -- ---- deliveries
 

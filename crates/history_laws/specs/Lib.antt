@@ -4,5 +4,10 @@ pub mod States
 pub mod Inputs
 pub mod Legal
 pub mod Contents
+pub mod Steps
 pub mod Laws
+pub mod Links
+pub mod Yards
+pub mod Queues
 pub mod Sound
+pub mod Holdings

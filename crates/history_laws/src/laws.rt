@@ -1,6 +1,12 @@
 //! What holds of histories. Each function here does nothing: its clauses are theorems.
-ghost use Rattle.history_laws.specs.Laws.{PrefixesAreLegal, AcknowledgedWereDelivered, AssuredStand, OpeningsFit, FoundAreUnread, DeliveriesWereTold, FilesHoldDeliveries, LettersWereAppended, RejectionsWereAppended, RunsGiveToStdout, RunsGiveToBoxes};
-ghost use Rattle.history_laws.specs.Sound.{AcknowledgedEventsStand};
+ghost use Rattle.history_laws.specs.Contents.{Bytes};
+ghost use Rattle.history_laws.specs.Holdings.{LeftIsSound, FollowingStands, OpeningStands};
+ghost use Rattle.history_laws.specs.Laws.{PrefixesAreLegal, AcknowledgedWereDelivered, SettledStand, AssuredStand, OpeningsFit, FoundAreUnread, DeliveriesWereTold, FilesHoldDeliveries, LettersWereAppended, RejectionsWereAppended, RunsGiveToStdout, RunsGiveToBoxes};
+ghost use Rattle.history_laws.specs.Links.{AssuredArrived, ArrivalsWereDue};
+ghost use Rattle.event_flow.specs.Meaning.{Makes};
+ghost use Rattle.history_laws.specs.Queues.{KeptFits, AcceptedIsWritten, MarkedIsSettled, RolledIsOf, AcknowledgedIsOf, PurgedIsOf, OpenedIsOf, OthersLeaveIt, AcceptedComesLast, FirstAreRead, FoundComeNext, OthersLeaveUnread};
+ghost use Rattle.history_laws.specs.Sound.{Places, AcknowledgedEventsStand};
+ghost use Rattle.history_laws.specs.Yards.{DeliveriesReach, EverythingStands};
 
 /// A history that is legal was legal at each of its steps.
 pub fn what_was_told_is_legal()
@@ -12,9 +18,11 @@ pub fn acknowledged_rows_were_delivered()
     ensures { AcknowledgedWereDelivered }
 {}
 
-/// An event that was acknowledged to its input is still in the queue, or all was told that is due of it.
+/// An event that was acknowledged to its input is still in the queue, or all was told that is due of it; and so
+/// is each row that is settled.
 pub fn assured_events_stand()
-    ensures { AssuredStand }
+    ensures assured { AssuredStand }
+    ensures settled { SettledStand }
 {}
 
 /// What is found in a folder that fits a history may be told by an opening, behind which the folder fits still,
@@ -52,4 +60,64 @@ pub fn runs_give_what_was_told()
 /// a stop leaves that agrees with the history.
 pub fn acknowledged_events_stand()
     ensures { AcknowledgedEventsStand }
+{}
+
+/// Events of which the pipeline that sent them heard that they stand with the listener arrived there: each of
+/// them is still in its queue, or all was told there that is due of it. And nothing else arrives from a parcel
+/// than what was due to its address.
+pub fn assured_parcels_arrived()
+    ensures arrived { AssuredArrived }
+    ensures due { ArrivalsWereDue }
+{}
+
+/// The same of all pipelines of a run, whose links are sound between any two steps: what was told of a delivery to
+/// an address arrived at a pipeline, whatever any of them told since.
+pub fn deliveries_reach()
+    ensures { DeliveriesReach }
+{}
+
+/// Whatever a stop leaves of a queue fits what its pipeline told.
+pub fn what_is_kept_fits()
+    ensures { KeptFits }
+{}
+
+/// What a step makes of a queue is the queue of what its pipeline told of the step, which was legal: a row
+/// that is written, a mark, a new head page, rows that are acknowledged, a page that goes, and an opening.
+/// No other entry changes what the queue has to be.
+pub fn steps_keep_the_queue()
+    ensures written { (makes : Makes) → AcceptedIsWritten makes }
+    ensures marked { (makes : Makes) → MarkedIsSettled makes }
+    ensures rolled { RolledIsOf }
+    ensures acknowledged { (makes : Makes) → AcknowledgedIsOf makes }
+    ensures purged { (makes : Makes) → PurgedIsOf makes }
+    ensures opened { (makes : Makes) → OpenedIsOf makes }
+    ensures others { (makes : Makes) → OthersLeaveIt makes }
+{}
+
+/// The rows that a queue gives next are those that are unread in what its pipeline told: an accepted one comes
+/// last, the first of them may be read for a batch, those that an opening finds are all, and no other entry
+/// changes them.
+pub fn unread_rows_come_next()
+    ensures accepted { (makes : Makes) → AcceptedComesLast makes }
+    ensures read { (makes : Makes) → FirstAreRead makes }
+    ensures found { (makes : Makes) → FoundComeNext makes }
+    ensures others { (makes : Makes) → OthersLeaveUnread makes }
+{}
+
+/// What a pipeline's places hold agrees with what it told: whatever a stop leaves of them is sound, also on the
+/// way of a delivery; with entries that come next they hold what these say; and what a stop left, once it is
+/// opened, agrees with the history and its opening.
+pub fn places_hold_what_is_told()
+    ensures left { (makes : Makes) (bytes : Bytes) (places : Places) → LeftIsSound makes bytes places }
+    ensures follows { (makes : Makes) (bytes : Bytes) (places : Places)
+        → FollowingStands makes bytes places }
+    ensures opened { (makes : Makes) (bytes : Bytes) (places : Places)
+        → OpeningStands makes bytes places }
+{}
+
+/// The same of all pipelines of a run: a row that is settled stands unacknowledged in the queue of its pipeline,
+/// or all stands that its configuration derives from it, in files, in the dead letters and in other pipelines.
+/// So it is with an event that was acknowledged to its input.
+pub fn settled_rows_stand_everywhere()
+    ensures { EverythingStands }
 {}
