@@ -1,0 +1,19 @@
+ghost use Rattle.std.specs.Prelude.{[], ◌∷◌};
+ghost use Rattle.io_traits.specs.Telling.{Grows};
+ghost use Rattle.history_book.specs.Entries.{entry_of};
+
+use crate::entry::Entry;
+
+/// What pipelines tell their steps to.
+pub trait Book {
+    ghost use Rattle.std.specs.Prelude.{ℕ, List, Option};
+    ghost use Rattle.history_laws.specs.Entries.{Entry as Told};
+
+    /// All that it was told, each with the number of the pipeline that told it, where it keeps all of it.
+    ghost told: { Self → Option (List (ℕ × Told)) };
+
+    /// A pipeline, by its number, tells of a step. A book that has no memory for it keeps nothing of it, and from
+    /// then on it doesn't keep all that it was told.
+    fn tell(&mut self, line: u32, entry: Entry<'_>)
+        ensures { Grows (told self.old) (told self.new) ((line, entry_of entry.entry) ∷ []) };
+}
