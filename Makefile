@@ -35,13 +35,12 @@ bench: all
 	bash bench/growth.sh
 	bash bench/store.sh
 	bash bench/page.sh
-	bash bench/queue.sh
 	bash bench/outputs.sh
 	bash bench/letters.sh
 	bash bench/folder.sh
 	bash bench/threads.sh
 	bash bench/runs.sh
-	bash bench/graphs.sh
+	status=0; for it in queue graphs; do bash bench/$$it.sh || status=1; done; exit $$status
 
 clean:
 	rm -rf bin crates/*/out
