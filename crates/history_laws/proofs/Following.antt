@@ -11,7 +11,7 @@ use Rattle.history_laws.specs.Entries.{Accept, Mark, Assure, Read, Back, Shed, D
 use Rattle.history_laws.specs.Legal.{IsRowOf, IsFound, Fits}
 use Rattle.history_laws.specs.Lists.{IsIn}
 use Rattle.history_laws.specs.Queues.{numbers_at, acknowledged_in, next_in, IsQueueAt, AcceptedIsWritten, MarkedIsSettled, RolledIsOf, AcknowledgedIsOf, PurgedIsOf, OpenedIsOf, OthersLeaveIt}
-use Rattle.history_laws.specs.States.{Plan, Written, Limits, State, start, newest, reads, left_of, out_of, tells_letters, numbers_found, numbers_out, opens, written, next, after}
+use Rattle.history_laws.specs.States.{Plan, Written, Limits, State, start, newest, reads, left_of, out_of, tells_letters, numbers_found, numbers_out, opens, written, after}
 use Rattle.history_laws.proofs.Holding.{IsSinceRow, since_row, since_has, numbered_in, page_open, page_covers}
 use Rattle.history_laws.proofs.Lists.{in_front, in_behind, in_either}
 use Rattle.history_laws.proofs.Numbers.{start_sane, all_sane}

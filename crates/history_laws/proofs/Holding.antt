@@ -152,9 +152,6 @@ last_below end (r ∷ x ∷ rows) some below = last_below end (x ∷ rows) some 
 -- ---- a queue that a stop leaves
 
 module _ (q : Queue) where
-  top_rows : (rows : List Row) (next : ℕ) → TopKept q rows next → List PageRow
-  top_rows rows next kept = take kept.count q.top.rows
-
   top_between : IsSound q.top → (rows : List Row) (next : ℕ) → TopKept q rows next → Between q.top.least next rows
   top_between sound rows next kept =
       subst (λ n. Between q.top.least n rows) (ap (λ n. q.top.least + n) (length-take-le kept.count q.top.rows kept.within) ∙ sym kept.next_is)

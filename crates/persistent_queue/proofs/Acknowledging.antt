@@ -1,5 +1,5 @@
 -- A store that holds the queue of a folder holds it with rows acknowledged.
-use Rattle.std.proofs.Common.{◌≡◌, ◌⊎◌, inl, inr, ⊎_elim, ℕ, suc, ◌≤◌, ◌+◌, Bool, true, false, List, [], ◌∷◌, length, map, ap, ◌∙◌, arith}
+use Rattle.std.proofs.Common.{◌≡◌, inl, inr, ⊎_elim, ℕ, suc, ◌≤◌, ◌+◌, Bool, true, false, List, [], ◌∷◌, length, map, ap, ◌∙◌, arith}
 use Rattle.io_traits.specs.Folders.{Content}
 use Rattle.store_trait.specs.Images.{Image}
 use Rattle.store_trait.specs.declared.stores.Store.{Ghosts as StoreWords}

@@ -1,25 +1,16 @@
 -- What is held in memory of a queue that has a row more, or a new head page.
-use Rattle.std.proofs.Common.{◌≡◌, ℕ, suc, ◌+◌, ◌-◌, ◌<◌, ◌==◌, false, List, [], ◌∷◌, ◌++◌, length, map, if◌then◌else◌, refl, sym, ap, subst, arith}
+use Rattle.std.proofs.Common.{◌≡◌, ℕ, suc, ◌+◌, ◌-◌, ◌<◌, false, List, [], ◌∷◌, ◌++◌, length, map, refl, sym, ap, subst, arith}
 use Rattle.std.specs.List.{insert}
 use Rattle.std.proofs.Math.Path.{ap₂}
-use Rattle.std.proofs.lemmas.Bool.{cond-true, eq-eqb}
-use Rattle.crc_frame.specs.Slots.{next_turn}
 use Rattle.queue_laws.specs.Folders.{page, checkpoint, names_in}
 use Rattle.queue_page.specs.Pages.{with_element}
 use Rattle.queue_core.specs.declared.marking.Mark.{Mark}
 use Rattle.queue_core.specs.declared.rolling.NextPage.{NextPage}
-use Rattle.persistent_queue.specs.Calls.{IsHeldQueue, behind_mark, first_open, marks_of, tail_bytes, with_marked, with_recorded}
+use Rattle.persistent_queue.specs.Calls.{IsHeldQueue, behind_mark, marks_of, tail_bytes, with_marked, with_recorded}
 use Rattle.persistent_queue.specs.Views.{OpenPage, QueueView}
 use Rattle.persistent_queue.specs.Writing.{behind_append, behind_roll, sealed}
 use Rattle.persistent_queue.proofs.HeldQueues.{long_named, marked_held, marks_held}
 use Rattle.persistent_queue.proofs.MarkRuns.{Named, first_file, other_files}
-
--- a page of which all is recorded stays so
-pub sealed_stays : (o : OpenPage) → with_marked (sealed (with_recorded o)) ≡ sealed (with_recorded o)
-sealed_stays o =
-    let p = sealed (with_recorded o) in
-    let turn : (if first_open o == first_open o then 0 else next_turn 0) ≡ 0 = cond-true (first_open o == first_open o) 0 (next_turn 0) (eq-eqb (first_open o) (first_open o) refl) in
-    λ i. record p { turn = turn i }
 
 tails_bytes_more : (tails : List OpenPage) (o : OpenPage) → tail_bytes (tails ++ o ∷ []) ≡ tail_bytes tails + o.page.state.length
 tails_bytes_more [] o = omega arith
@@ -35,9 +26,6 @@ named_more folder [] o [] m named is = absurd (omega (arith, ap length named))
 named_more folder [] o (x ∷ marks) m named is = ap₂ (λ (x : List ℕ) (l : List (List ℕ)). x ∷ l) is named
 named_more folder (t ∷ tails) o [] m named is = absurd (omega (arith, ap length named))
 named_more folder (t ∷ tails) o (x ∷ marks) m named is = ap₂ (λ (x : List ℕ) (l : List (List ℕ)). x ∷ l) (first_file named) (named_more folder tails o marks m (other_files named) is)
-
-pub appended_held : (v : QueueView) (marks : List Mark) (bytes size : ℕ) → IsHeldQueue v marks bytes → IsHeldQueue (behind_append size v) marks (bytes + size)
-appended_held v marks bytes size held = record { tails = held.tails; top = held.top; marks_are = held.marks_are; bytes_are = omega (arith, held.bytes_are) }
 
 long_map : (f : OpenPage → OpenPage) (tails : List OpenPage) → length (map f tails) ≡ length tails
 long_map f [] = refl

@@ -11,7 +11,7 @@ use Rattle.queue_page.specs.declared.row.PageRow.{PageRow}
 use Rattle.queue_laws.specs.Found.{Row, since}
 use Rattle.persistent_queue.specs.Batching.{is_over, rows_read}
 use Rattle.persistent_queue.specs.Calls.{end_of, is_spent}
-use Rattle.persistent_queue.specs.NextBatch.{StandsAt, RowsStand, AllStand, Rise, left_in, unread_in}
+use Rattle.persistent_queue.specs.NextBatch.{StandsAt, RowsStand, AllStand, Rise, left_in, unread_rows_in}
 use Rattle.persistent_queue.specs.Taking.{Stand, stand, at_first, entered, is_passed, rows_of, page_read, pages_read}
 use Rattle.persistent_queue.specs.Unread.{told, taken, taken_on}
 use Rattle.persistent_queue.specs.Views.{OpenPage}
@@ -62,9 +62,6 @@ closed_not r not_over = or_left r.closed (not (nat_lt (length r.rows) r.most_row
 module _ (content : Content) (o : OpenPage) (rows : List PageRow) where
   abbrev file : List ℕ
   file = bytes_of (content o.file)
-
-  abbrev left_of_page : Stand → List Row
-  left_of_page s = since o.from (left_in s o rows)
 
   -- what is read of a page, and what is left of it
   pub record PageReads (s : Stand) : Type 0 where
@@ -192,11 +189,11 @@ module _ (content : Content) where
       page_then content o pages s s (page_passed content o s (ap (λ b. (nat_lt o.number s.page || is_spent o) || b) over ∙ or_true (nat_lt o.number s.page || is_spent o))) ∙ all_over pages s over
 
   -- of pages above two others, the rows are all left, wherever the next row stands in those
-  later_left : (from : ℕ) (pages : List OpenPage) (rows : List (List PageRow)) (s next : Stand) → Rise from pages → s.page < from → next.page < from → unread_in next pages rows ≡ unread_in s pages rows
+  later_left : (from : ℕ) (pages : List OpenPage) (rows : List (List PageRow)) (s next : Stand) → Rise from pages → s.page < from → next.page < from → unread_rows_in next pages rows ≡ unread_rows_in s pages rows
   later_left from [] rows s next rise less less_then = refl
   later_left from (o ∷ pages) [] s next rise less less_then = refl
   later_left from (o ∷ pages) (rows ∷ others) s next rise less less_then =
-      ap (λ (l : List PageRow). since o.from l ++ unread_in next pages others) (all_left next less_then ∙ sym (all_left s less))
+      ap (λ (l : List PageRow). since o.from l ++ unread_rows_in next pages others) (all_left next less_then ∙ sym (all_left s less))
       ∙ ap (λ (l : List Row). since o.from (left_in s o rows) ++ l) (later_left (suc o.number) pages others s next rise.1 (omega (arith, less, rise.0)) (omega (arith, less_then, rise.0)))
     where
       all_left : (x : Stand) → x.page < from → left_in x o rows ≡ rows
@@ -219,15 +216,15 @@ module _ (content : Content) where
     pub is : pages_read content pages s ≡ Ok next
     pub reach : (next ≡ s) ⊎ (from ≤ next.page)
     pub stands : AllStand content next pages rows
-    pub given : map told next.reading.rows ++ unread_in next pages rows ≡ map told s.reading.rows ++ unread_in s pages rows
-    pub goes_on : (more : List Row) → map told s.reading.rows ++ taken_on s.reading (unread_in s pages rows ++ more) ≡ map told next.reading.rows ++ taken_on next.reading more
+    pub given : map told next.reading.rows ++ unread_rows_in next pages rows ≡ map told s.reading.rows ++ unread_rows_in s pages rows
+    pub goes_on : (more : List Row) → map told s.reading.rows ++ taken_on s.reading (unread_rows_in s pages rows ++ more) ≡ map told next.reading.rows ++ taken_on next.reading more
 
   -- the first page and then the others
   module _ (from : ℕ) (o : OpenPage) (pages : List OpenPage) (rows : List PageRow) (others : List (List PageRow)) (s : Stand) (rise : Rise from (o ∷ pages)) (stands : AllStand content s (o ∷ pages) (rows ∷ others))
       (step : PageReads content o rows s) where
-    later : unread_in step.next pages others ≡ unread_in s pages others
+    later : unread_rows_in step.next pages others ≡ unread_rows_in s pages others
     later = ⊎_elim
-        (λ same. ap (λ (x : Stand). unread_in x pages others) same)
+        (λ same. ap (λ (x : Stand). unread_rows_in x pages others) same)
         (λ here. later_left (suc o.number) pages others s step.next rise.1 (omega (arith, here.1)) (omega (arith, here.0)))
         step.page
 
@@ -240,15 +237,15 @@ module _ (content : Content) where
     reached : (step.next ≡ s) ⊎ (from ≤ step.next.page)
     reached = ⊎_elim (λ same. inl same) (λ here. inr (omega (arith, here.0, rise.0))) step.page
 
-    first_goes_on : (more : List Row) → map told s.reading.rows ++ taken_on s.reading (unread_in s (o ∷ pages) (rows ∷ others) ++ more)
-        ≡ map told step.next.reading.rows ++ taken_on step.next.reading (unread_in step.next pages others ++ more)
+    first_goes_on : (more : List Row) → map told s.reading.rows ++ taken_on s.reading (unread_rows_in s (o ∷ pages) (rows ∷ others) ++ more)
+        ≡ map told step.next.reading.rows ++ taken_on step.next.reading (unread_rows_in step.next pages others ++ more)
     first_goes_on more =
-        ap (λ (l : List Row). map told s.reading.rows ++ taken_on s.reading l) (append_assoc (since o.from (left_in s o rows)) (unread_in s pages others) more)
-        ∙ step.goes_on (unread_in s pages others ++ more) ∙ ap (λ (l : List Row). map told step.next.reading.rows ++ taken_on step.next.reading (l ++ more)) (sym later)
+        ap (λ (l : List Row). map told s.reading.rows ++ taken_on s.reading l) (append_assoc (since o.from (left_in s o rows)) (unread_rows_in s pages others) more)
+        ∙ step.goes_on (unread_rows_in s pages others ++ more) ∙ ap (λ (l : List Row). map told step.next.reading.rows ++ taken_on step.next.reading (l ++ more)) (sym later)
 
-    first_given : map told step.next.reading.rows ++ (since o.from (left_in step.next o rows) ++ unread_in step.next pages others) ≡ map told s.reading.rows ++ unread_in s (o ∷ pages) (rows ∷ others)
+    first_given : map told step.next.reading.rows ++ (since o.from (left_in step.next o rows) ++ unread_rows_in step.next pages others) ≡ map told s.reading.rows ++ unread_rows_in s (o ∷ pages) (rows ∷ others)
     first_given = ap (λ (l : List Row). map told step.next.reading.rows ++ (since o.from (left_in step.next o rows) ++ l)) later
-        ∙ with_rest (map told step.next.reading.rows) (map told s.reading.rows) (since o.from (left_in step.next o rows)) (since o.from (left_in s o rows)) (unread_in s pages others) step.given
+        ∙ with_rest (map told step.next.reading.rows) (map told s.reading.rows) (since o.from (left_in step.next o rows)) (since o.from (left_in s o rows)) (unread_rows_in s pages others) step.given
 
     pub batch_ends : is_over step.next.reading ≡ true → BatchReads from (o ∷ pages) (rows ∷ others) s
     batch_ends over = record {
@@ -258,7 +255,7 @@ module _ (content : Content) where
       stands = (step.stands, stand_later);
       given = first_given;
       goes_on = λ more. first_goes_on more
-          ∙ ap (λ (l : List Row). map told step.next.reading.rows ++ l) (over_none step.next.reading over (unread_in step.next pages others ++ more) ∙ sym (over_none step.next.reading over more));
+          ∙ ap (λ (l : List Row). map told step.next.reading.rows ++ l) (over_none step.next.reading over (unread_rows_in step.next pages others ++ more) ∙ sym (over_none step.next.reading over more));
     }
 
     module _ (not_over : is_over step.next.reading ≡ false) (rest : BatchReads (suc o.number) pages others step.next) where
@@ -286,8 +283,8 @@ module _ (content : Content) where
         is = page_then content o pages s step.next step.is ∙ rest.is;
         reach = reached_then;
         stands = (first_stands, rest.stands);
-        given = ap (λ (l : List Row). map told rest.next.reading.rows ++ (l ++ unread_in rest.next pages others)) none_left ∙ rest.given
-            ∙ ap (λ (l : List Row). map told step.next.reading.rows ++ (l ++ unread_in step.next pages others)) (sym (step.all not_over)) ∙ first_given;
+        given = ap (λ (l : List Row). map told rest.next.reading.rows ++ (l ++ unread_rows_in rest.next pages others)) none_left ∙ rest.given
+            ∙ ap (λ (l : List Row). map told step.next.reading.rows ++ (l ++ unread_rows_in step.next pages others)) (sym (step.all not_over)) ∙ first_given;
         goes_on = λ more. first_goes_on more ∙ rest.goes_on more;
       }
 
@@ -305,8 +302,8 @@ module _ (content : Content) where
 
   -- those that the batch has then
   pub batch_got : (pages : List OpenPage) (rows : List (List PageRow)) (s next : Stand) → s.reading.closed ≡ false
-      → ((more : List Row) → map told s.reading.rows ++ taken_on s.reading (unread_in s pages rows ++ more) ≡ map told next.reading.rows ++ taken_on next.reading more)
-      → map told next.reading.rows ≡ map told s.reading.rows ++ taken s.reading.most_bytes (s.reading.most_rows - length s.reading.rows) s.reading.bytes (unread_in s pages rows)
+      → ((more : List Row) → map told s.reading.rows ++ taken_on s.reading (unread_rows_in s pages rows ++ more) ≡ map told next.reading.rows ++ taken_on next.reading more)
+      → map told next.reading.rows ≡ map told s.reading.rows ++ taken s.reading.most_bytes (s.reading.most_rows - length s.reading.rows) s.reading.bytes (unread_rows_in s pages rows)
   batch_got pages rows s next still goes_on =
       sym (append-nil (map told next.reading.rows)) ∙ ap (λ l. map told next.reading.rows ++ l) (sym (nothing_on next.reading)) ∙ sym (goes_on [])
-      ∙ ap (λ (l : List Row). map told s.reading.rows ++ taken_on s.reading l) (append-nil (unread_in s pages rows)) ∙ ap (λ (l : List Row). map told s.reading.rows ++ l) (still_on s.reading still (unread_in s pages rows))
+      ∙ ap (λ (l : List Row). map told s.reading.rows ++ taken_on s.reading l) (append-nil (unread_rows_in s pages rows)) ∙ ap (λ (l : List Row). map told s.reading.rows ++ l) (still_on s.reading still (unread_rows_in s pages rows))

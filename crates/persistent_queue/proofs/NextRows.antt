@@ -145,9 +145,6 @@ module _ (name : List ℕ) (p : PageView) (from : ℕ) (file : List ℕ) (long :
         }
 
     module _ (late : from ≤ r.number) where
-      abbrev bytes_then : Option ℕ
-      bytes_then = with_more r.most_bytes r.bytes (body_size (row_of row))
-
       stepped : (bytes : Option ℕ) → bytes ≡ with_more r.most_bytes r.bytes (body_size (row_of row)) → rows_read name p from file (suc (length rows)) r ≡ rows_read name p from file (length rows) (joined row bytes r)
       stepped bytes is =
           let t : nat_lt r.number from ≡ false = grind (arith, nat_tests, late) in

@@ -1,8 +1,7 @@
 -- A queue that was opened, its files, and the queue that it stands for.
-use Rattle.std.proofs.Common.{◌≡◌, ◌≤◌, ⊎_elim, ℕ, zero, suc, ◌+◌, ◌<◌, ◌^◌, nat_lt, ◌&&◌, ◌==◌, ◌/◌, ◌%◌, not, Bool, true, false, IsTrue, List, [], ◌∷◌, ◌++◌, length, map, replicate, get_or, drop, Option, Some, None, Result, Ok, Err, refl, sym, ◌∙◌, ap, subst, arith, append_assoc, append-nil}
+use Rattle.std.proofs.Common.{◌≡◌, ◌≤◌, ⊎_elim, ℕ, zero, suc, ◌+◌, ◌<◌, ◌^◌, nat_lt, ◌&&◌, ◌==◌, ◌/◌, ◌%◌, not, Bool, true, false, IsTrue, List, [], ◌∷◌, length, map, replicate, get_or, drop, Option, Some, None, Result, Ok, Err, refl, sym, ◌∙◌, ap, subst, arith}
 use Rattle.std.proofs.Math.Path.{ap₂}
 use Rattle.std.proofs.lemmas.Bool.Decides.{nat_tests}
-use Rattle.std.proofs.lemmas.List.{drop_all}
 use Rattle.std.proofs.lemmas.Nat.Bits.{bit_at-zero}
 use Rattle.std.proofs.lemmas.Result.{err_from_is_err_and}
 use Rattle.std.specs.Int.{bit_at}
@@ -89,18 +88,6 @@ module _ (folder : List ℕ) where
   slots_filed [] views same = refl
   slots_filed (t ∷ tails) [] same = absurd (omega (arith, ap length same))
   slots_filed (t ∷ tails) (v ∷ views) same = ap (λ l. names_in folder (checkpoint t.number) ∷ l) (slots_filed tails views (other_states same))
-
-  -- one page more
-  pub opened_more : (tails : List Tail) (views : List PageView) (done items : List OpenPage) (i : ℕ) (t : Tail) (v : PageView) (o : OpenPage) → drop i tails ≡ t ∷ drop (i + 1) tails → drop i views ≡ v ∷ drop (i + 1) views
-      → items ≡ done ++ o ∷ [] → o ≡ page_opened folder t.number t.turn t.state.first_open v → tails_opened folder tails views ≡ done ++ tails_opened folder (drop i tails) (drop i views)
-      → tails_opened folder tails views ≡ items ++ tails_opened folder (drop (i + 1) tails) (drop (i + 1) views)
-  opened_more tails views done items i t v o split parts more is so_far =
-      let rest = tails_opened folder (drop (i + 1) tails) (drop (i + 1) views) in
-      so_far ∙ ap₂ (λ ts vs. done ++ tails_opened folder ts vs) split parts ∙ ap (λ (x : OpenPage). done ++ x ∷ rest) (sym is) ∙ sym (append_assoc done (o ∷ []) rest) ∙ ap (λ l. l ++ rest) (sym more)
-
-  pub opened_end : (tails : List Tail) (views : List PageView) (done : List OpenPage) (i : ℕ) → length tails ≤ i → tails_opened folder tails views ≡ done ++ tails_opened folder (drop i tails) (drop i views)
-      → tails_opened folder tails views ≡ done
-  opened_end tails views done i all so_far = so_far ∙ ap (λ ts. done ++ tails_opened folder ts (drop i views)) (drop_all i tails all) ∙ append-nil done
 
   climbs : (f : Folder) (from end : ℕ) (tails : List Tail) (views : List PageView) → SameStates tails views → from ≤ end → AreStanding from end f (map (λ t. t.number) tails) → Climb from end (tails_opened folder tails views)
   climbs f from end [] views same within stand = within

@@ -1,5 +1,5 @@
 -- Pages of a queue, read one behind the other for a batch.
-use Rattle.std.proofs.Common.{◌≡◌, ◌⊎◌, ⊎_elim, inl, inr, ℕ, zero, suc, ◌+◌, ◌<◌, true, false, List, [], ◌∷◌, ◌++◌, length, drop, get_or, Result, Ok, Err, refl, sym, ap, ◌∙◌, subst, arith}
+use Rattle.std.proofs.Common.{◌≡◌, ◌⊎◌, ⊎_elim, inl, inr, ℕ, zero, suc, ◌+◌, ◌<◌, true, false, List, [], ◌∷◌, ◌++◌, length, drop, get_or, Result, Ok, Err, sym, ap, ◌∙◌, subst, arith}
 use Rattle.std.proofs.lemmas.Bool.{cond-true, cond-false}
 use Rattle.std.proofs.lemmas.List.{drop_more}
 use Rattle.io_traits.specs.Folders.{Content}
@@ -77,9 +77,6 @@ module _ (names : ℕ → List ℕ) (content : Content) (page : ℕ) (block : Bl
   pub top_there : (pages : List OpenPage) (top : OpenPage) → AreThere names content page block (pages ++ top ∷ []) → IsThere names content page block top
   top_there [] top there = there.0
   top_there (p ∷ pages) top there = top_there pages top there.1
-
-  pub nothing_read : WasRead names content page block page block
-  nothing_read = record { either = inl (refl, refl) }
 
   -- the part of a page that was read last, where the next row stands in it
   pub part_now : (o : OpenPage) (now : ℕ) (held : BlockView) → IsThere names content page block o → WasRead names content page block now held → now ≡ o.number → IsPart (bytes_of (content o.file)) held

@@ -15,7 +15,7 @@ use Rattle.queue_laws.specs.Kept.{Page, Queue, Rising}
 use Rattle.queue_laws.specs.Resting.{TailHeld, TailsHeld, TopHeld}
 use Rattle.queue_laws.proofs.Torn.{more_elements}
 use Rattle.queue_core.specs.Marks.{read_in}
-use Rattle.persistent_queue.specs.NextBatch.{StandsAt, RowsStand, AllStand, Rise, unread_in}
+use Rattle.persistent_queue.specs.NextBatch.{StandsAt, RowsStand, AllStand, Rise, unread_rows_in}
 use Rattle.persistent_queue.specs.Opens.{AreLong, ArePagesOf, IsPageOf}
 use Rattle.persistent_queue.specs.QueueBatches.{AreNamed, AreUnread, CursorStands, IsRead, page_rows}
 use Rattle.persistent_queue.specs.Taking.{Stand, all_pages, batch_bytes, batch_from, batch_of, begun, behind_take, rows_taken}
@@ -144,7 +144,7 @@ module _ (most : ℕ) (content : Content) (v : QueueView) (q : Queue) (rows : Li
     pub all : map told s.reading.rows ++ rest ≡ rows
     pub left : (block : BlockView) → AreUnread content (behind_take block s v) q rest
 
-  left_unread : (s : Stand) (rest : List Row) → AllStand content s (all_pages v) (page_rows q) → unread_in s (all_pages v) (page_rows q) ≡ rest → map told s.reading.rows ++ rest ≡ rows → (block : BlockView)
+  left_unread : (s : Stand) (rest : List Row) → AllStand content s (all_pages v) (page_rows q) → unread_rows_in s (all_pages v) (page_rows q) ≡ rest → map told s.reading.rows ++ rest ≡ rows → (block : BlockView)
       → AreUnread content (behind_take block s v) q rest
   left_unread s rest stands is all block = record {
     stands = cursor_stands v.folder content s (behind_take block s v).cursor (all_pages v) (page_rows q) refl refl refl stands;
@@ -173,13 +173,13 @@ module _ (most : ℕ) (content : Content) (v : QueueView) (q : Queue) (rows : Li
         }
     | inr some ↦
         let room : most - 0 ≡ most = omega arith in
-        let got : map told reads.next.reading.rows ++ unread_in reads.next (all_pages v) (page_rows q) ≡ rows = reads.given ∙ unread.rows_are in
+        let got : map told reads.next.reading.rows ++ unread_rows_in reads.next (all_pages v) (page_rows q) ≡ rows = reads.given ∙ unread.rows_are in
         record {
           s = reads.next;
-          rest = unread_in reads.next (all_pages v) (page_rows q);
+          rest = unread_rows_in reads.next (all_pages v) (page_rows q);
           is = cond-false _ _ _ some ∙ reads.is;
-          first = batch_got content (all_pages v) (page_rows q) (begun most v.cursor) reads.next refl reads.goes_on ∙ ap (λ n. taken batch_bytes n None (unread_in (begun most v.cursor) (all_pages v) (page_rows q))) room ∙ ap (taken batch_bytes most None) unread.rows_are;
+          first = batch_got content (all_pages v) (page_rows q) (begun most v.cursor) reads.next refl reads.goes_on ∙ ap (λ n. taken batch_bytes n None (unread_rows_in (begun most v.cursor) (all_pages v) (page_rows q))) room ∙ ap (taken batch_bytes most None) unread.rows_are;
           all = got;
-          left = left_unread reads.next (unread_in reads.next (all_pages v) (page_rows q)) reads.stands refl got;
+          left = left_unread reads.next (unread_rows_in reads.next (all_pages v) (page_rows q)) reads.stands refl got;
         }
   ]

@@ -17,7 +17,7 @@ use Rattle.queue_laws.specs.Steps.{marked, marked_pages, page_with, recorded_pag
 use Rattle.queue_laws.specs.Steps.{sealed as sealed_page}
 use Rattle.queue_laws.proofs.Whole.{rising_top}
 use Rattle.persistent_queue.specs.Calls.{behind_mark, behind_purge, end_of, first_open, is_spent, with_marked, with_recorded, without_spent}
-use Rattle.persistent_queue.specs.NextBatch.{StandsAt, left_in, unread_in}
+use Rattle.persistent_queue.specs.NextBatch.{StandsAt, left_in, unread_rows_in}
 use Rattle.persistent_queue.specs.Opens.{ArePagesOf, IsPageOf, Opens, purged, unspent}
 use Rattle.persistent_queue.specs.QueueBatches.{AreNamed, CursorStands, page_rows}
 use Rattle.persistent_queue.specs.Taking.{Stand, all_pages, begun}
@@ -36,12 +36,12 @@ as_many (o ∷ tails) [] are = elim are [ ]
 as_many (o ∷ tails) (p ∷ pages) are = ap suc (as_many tails pages are.1)
 
 unread_more : (s : Stand) (pages : List OpenPage) (rows : List (List PageRow)) (o : OpenPage) (last : List PageRow) → length pages ≡ length rows
-    → unread_in s (pages ++ o ∷ []) (rows ++ last ∷ []) ≡ unread_in s pages rows ++ since o.from (left_in s o last)
+    → unread_rows_in s (pages ++ o ∷ []) (rows ++ last ∷ []) ≡ unread_rows_in s pages rows ++ since o.from (left_in s o last)
 unread_more s [] [] o last same = append-nil (since o.from (left_in s o last))
 unread_more s [] (r ∷ rows) o last same = absurd (omega (arith, same))
 unread_more s (p ∷ pages) [] o last same = absurd (omega (arith, same))
 unread_more s (p ∷ pages) (r ∷ rows) o last same =
-    ap (λ (l : List Row). since p.from (left_in s p r) ++ l) (unread_more s pages rows o last (omega (arith, same))) ∙ sym (append_assoc (since p.from (left_in s p r)) (unread_in s pages rows) (since o.from (left_in s o last)))
+    ap (λ (l : List Row). since p.from (left_in s p r) ++ l) (unread_more s pages rows o last (omega (arith, same))) ∙ sym (append_assoc (since p.from (left_in s p r)) (unread_rows_in s pages rows) (since o.from (left_in s o last)))
 
 named_more : (folder : List ℕ) (pages : List OpenPage) (o : OpenPage) → AreNamed folder pages → o.file ≡ names_in folder (page o.number) → AreNamed folder (pages ++ o ∷ [])
 named_more folder [] o named is = (is, tt)
@@ -157,14 +157,14 @@ left_few s o rows =
 -- ---- no more rows are unread than there are numbers
 
 few_unread : (s : Stand) (number end : ℕ) (tails : List OpenPage) (top : OpenPage) (pages : List Page) (last : Page) → ArePagesOf tails pages → Rising number end pages last
-    → end + length (unread_in s (tails ++ top ∷ []) (rows_with pages last)) ≤ last.least + length last.rows
+    → end + length (unread_rows_in s (tails ++ top ∷ []) (rows_with pages last)) ≤ last.least + length last.rows
 few_unread s number end [] top [] last are rising =
     omega (arith, rising.1, ap length (append-nil (since top.from (left_in s top last.rows))), since_few top.from (left_in s top last.rows), left_few s top last.rows)
 few_unread s number end [] top (p ∷ pages) last are rising = elim are [ ]
 few_unread s number end (o ∷ tails) top [] last are rising = elim are [ ]
 few_unread s number end (o ∷ tails) top (p ∷ pages) last are rising =
     let rest = few_unread s (suc p.number) (p.least + length p.rows) tails top pages last are.1 rising.4 in
-    omega (arith, rest, rising.2, length-append (since o.from (left_in s o p.rows)) (unread_in s (tails ++ top ∷ []) (rows_with pages last)), since_few o.from (left_in s o p.rows), left_few s o p.rows)
+    omega (arith, rest, rising.2, length-append (since o.from (left_in s o p.rows)) (unread_rows_in s (tails ++ top ∷ []) (rows_with pages last)), since_few o.from (left_in s o p.rows), left_few s o p.rows)
 
 -- ---- a page of which what is acknowledged is recorded
 
@@ -211,7 +211,7 @@ given_front c [] o given = (tt, given.0)
 given_front c (p ∷ pages) o given = let rest = given_front c pages o given.1 in ((given.0, rest.0), rest.1)
 
 marked_unread : (c : CursorView) (number end : ℕ) (tails : List OpenPage) (pages : List Page) (last : Page) → ArePagesOf tails pages → Rising number end pages last → AreGiven c tails
-    → unread_in (begun 0 c) (map with_marked tails) (map (λ (p : Page). p.rows) pages) ≡ unread_in (begun 0 c) tails (map (λ (p : Page). p.rows) pages)
+    → unread_rows_in (begun 0 c) (map with_marked tails) (map (λ (p : Page). p.rows) pages) ≡ unread_rows_in (begun 0 c) tails (map (λ (p : Page). p.rows) pages)
 marked_unread c number end [] [] last are rising given = refl
 marked_unread c number end [] (p ∷ pages) last are rising given = elim are [ ]
 marked_unread c number end (o ∷ tails) [] last are rising given = elim are [ ]
@@ -256,18 +256,18 @@ purged_named folder (o ∷ pages) named = by (is_spent o) (purged_named folder p
     by false rest = (named.0, rest)
 
 purged_unread : (s : Stand) (number end : ℕ) (tails : List OpenPage) (pages : List Page) (last : Page) → ArePagesOf tails pages → Rising number end pages last
-    → unread_in s (without_spent tails) (map (λ (p : Page). p.rows) (unspent pages)) ≡ unread_in s tails (map (λ (p : Page). p.rows) pages)
+    → unread_rows_in s (without_spent tails) (map (λ (p : Page). p.rows) (unspent pages)) ≡ unread_rows_in s tails (map (λ (p : Page). p.rows) pages)
 purged_unread s number end [] [] last are rising = refl
 purged_unread s number end [] (p ∷ pages) last are rising = elim are [ ]
 purged_unread s number end (o ∷ tails) [] last are rising = elim are [ ]
 purged_unread s number end (o ∷ tails) (p ∷ pages) last are rising =
-    ap (λ (b : Bool). unread_in s (without_spent (o ∷ tails)) (map (λ (p : Page). p.rows) (if b then pages else p ∷ unspent pages))) (spent_same o p are.0)
+    ap (λ (b : Bool). unread_rows_in s (without_spent (o ∷ tails)) (map (λ (p : Page). p.rows) (if b then pages else p ∷ unspent pages))) (spent_same o p are.0)
     ∙ by (is_spent o) (spent_none s o p are.0 rising.3) (purged_unread s (suc p.number) (p.least + length p.rows) tails pages last are.1 rising.4)
   where
-    by : (b : Bool) → (b ≡ true → since o.from (left_in s o p.rows) ≡ []) → unread_in s (without_spent tails) (map (λ (p : Page). p.rows) (unspent pages)) ≡ unread_in s tails (map (λ (p : Page). p.rows) pages)
-        → unread_in s (if b then tails else o ∷ without_spent tails) (map (λ (p : Page). p.rows) (if b then pages else p ∷ unspent pages))
-        ≡ since o.from (left_in s o p.rows) ++ unread_in s tails (map (λ (p : Page). p.rows) pages)
-    by true none rest = ap (λ (l : List Row). l ++ unread_in s tails (map (λ (p : Page). p.rows) pages)) (sym (none refl))
+    by : (b : Bool) → (b ≡ true → since o.from (left_in s o p.rows) ≡ []) → unread_rows_in s (without_spent tails) (map (λ (p : Page). p.rows) (unspent pages)) ≡ unread_rows_in s tails (map (λ (p : Page). p.rows) pages)
+        → unread_rows_in s (if b then tails else o ∷ without_spent tails) (map (λ (p : Page). p.rows) (if b then pages else p ∷ unspent pages))
+        ≡ since o.from (left_in s o p.rows) ++ unread_rows_in s tails (map (λ (p : Page). p.rows) pages)
+    by true none rest = ap (λ (l : List Row). l ++ unread_rows_in s tails (map (λ (p : Page). p.rows) pages)) (sym (none refl))
     by false none rest = ap (λ (l : List Row). since o.from (left_in s o p.rows) ++ l) rest
 
 purged_stands : (content new : Content) (c : CursorView) (tails : List OpenPage) (pages : List Page) → ArePagesOf tails pages → AllFirst content tails (map (λ (p : Page). p.rows) pages)
@@ -306,7 +306,7 @@ module _ {S : Type 0} (store : StoreWords S) (v : QueueView) (q : Queue) (rows :
   stands : CursorStands (store.seen old) v.cursor v.tails tail_rows × StandsHere (store.seen old) v.cursor v.top q.top.rows
   stands = stands_front (store.seen old) v.cursor v.tails tail_rows v.top q.top.rows same_long has.unread.stands
 
-  parts : unread_in (begun 0 v.cursor) v.tails tail_rows ++ since v.top.from (left_in (begun 0 v.cursor) v.top q.top.rows) ≡ rows
+  parts : unread_rows_in (begun 0 v.cursor) v.tails tail_rows ++ since v.top.from (left_in (begun 0 v.cursor) v.top q.top.rows) ≡ rows
   parts = sym (unread_more (begun 0 v.cursor) v.tails tail_rows v.top q.top.rows same_long) ∙ has.unread.rows_are
 
   within : v.cursor.page ≤ v.top.number
@@ -343,12 +343,12 @@ module _ {S : Type 0} (store : StoreWords S) (v : QueueView) (q : Queue) (rows :
           | inr other ↦ cond-false _ _ _ other ∙ ap (λ (l : List PageRow). l ++ row ∷ []) (sym (cond-false _ _ _ t ∙ cond-false _ _ _ other))
         ]
 
-    here_rows : unread_in (begun 0 v.cursor) (v.tails ++ top ∷ []) (tail_rows ++ (q.top.rows ++ row ∷ []) ∷ []) ≡ rows ++ row_of row ∷ []
+    here_rows : unread_rows_in (begun 0 v.cursor) (v.tails ++ top ∷ []) (tail_rows ++ (q.top.rows ++ row ∷ []) ∷ []) ≡ rows ++ row_of row ∷ []
     here_rows =
         let s = begun 0 v.cursor in
         unread_more s v.tails tail_rows top (q.top.rows ++ row ∷ []) same_long
-        ∙ ap (λ (l : List Row). unread_in s v.tails tail_rows ++ l) (ap (since v.top.from) here_left ∙ since_more v.top.from (left_in s v.top q.top.rows) row late)
-        ∙ sym (append_assoc (unread_in s v.tails tail_rows) (since v.top.from (left_in s v.top q.top.rows)) (row_of row ∷ [])) ∙ ap (λ (l : List Row). l ++ row_of row ∷ []) parts
+        ∙ ap (λ (l : List Row). unread_rows_in s v.tails tail_rows ++ l) (ap (since v.top.from) here_left ∙ since_more v.top.from (left_in s v.top q.top.rows) row late)
+        ∙ sym (append_assoc (unread_rows_in s v.tails tail_rows) (since v.top.from (left_in s v.top q.top.rows)) (row_of row ∷ [])) ∙ ap (λ (l : List Row). l ++ row_of row ∷ []) parts
 
     here_stands : CursorStands (store.seen new) v.cursor (v.tails ++ top ∷ []) (tail_rows ++ (q.top.rows ++ row ∷ []) ∷ [])
     here_stands =
@@ -375,7 +375,7 @@ module _ {S : Type 0} (store : StoreWords S) (v : QueueView) (q : Queue) (rows :
     pub recorded_named : AreNamed v.folder (marked_tails ++ recorded ∷ [])
     recorded_named = named_more v.folder marked_tails recorded (marked_named v.folder v.tails names.0) names.1
 
-    pub recorded_rows : unread_in (begun 0 v.cursor) (marked_tails ++ recorded ∷ []) (tail_rows ++ q.top.rows ∷ []) ≡ rows
+    pub recorded_rows : unread_rows_in (begun 0 v.cursor) (marked_tails ++ recorded ∷ []) (tail_rows ++ q.top.rows ∷ []) ≡ rows
     recorded_rows =
         let each = given_front v.cursor v.tails v.top given in
         unread_more (begun 0 v.cursor) marked_tails tail_rows recorded q.top.rows marked_long
@@ -402,7 +402,7 @@ module _ {S : Type 0} (store : StoreWords S) (v : QueueView) (q : Queue) (rows :
         named = named;
         unread = record {
           stands = subst (λ (l : List (List PageRow)). CursorStands (store.seen new) v.cursor pages l) (sym same) (recorded_stands turn given all);
-          rows_are = ap (unread_in (begun 0 v.cursor) pages) same ∙ recorded_rows turn given;
+          rows_are = ap (unread_rows_in (begun 0 v.cursor) pages) same ∙ recorded_rows turn given;
           count = has.unread.count;
         };
       }
@@ -434,7 +434,7 @@ module _ {S : Type 0} (store : StoreWords S) (v : QueueView) (q : Queue) (rows :
         (subst (λ (l : List (List PageRow)). AllFirst (store.seen new) (front ++ next ∷ []) l) next_same
         (stand_first store (behind_append size (behind_roll (behind_mark v))) (with_row row (rolled (marked q))) new tells opens next_named))
 
-    next_rows : unread_in (begun 0 v.cursor) (front ++ next ∷ []) (front_rows ++ (row ∷ []) ∷ []) ≡ rows ++ row_of row ∷ []
+    next_rows : unread_rows_in (begun 0 v.cursor) (front ++ next ∷ []) (front_rows ++ (row ∷ []) ∷ []) ≡ rows ++ row_of row ∷ []
     next_rows =
         let s = begun 0 v.cursor in
         unread_more s front front_rows next (row ∷ []) front_long
@@ -448,7 +448,7 @@ module _ {S : Type 0} (store : StoreWords S) (v : QueueView) (q : Queue) (rows :
       unread = record {
         stands = subst (λ (l : List (List PageRow)). CursorStands (store.seen new) v.cursor (front ++ next ∷ []) l) (sym next_same)
             (stands_more (store.seen new) v.cursor front front_rows next (row ∷ []) front_long (recorded_stands 0 given next_firsts.0) (λ here. absurd (omega (arith, here, within))));
-        rows_are = ap (unread_in (begun 0 v.cursor) (front ++ next ∷ [])) next_same ∙ next_rows;
+        rows_are = ap (unread_rows_in (begun 0 v.cursor) (front ++ next ∷ [])) next_same ∙ next_rows;
         count = one_counted (row_of row);
       };
     }

@@ -19,9 +19,8 @@ use Rattle.queue_core.specs.declared.opening.Opened.{Opened}
 use Rattle.queue_core.specs.declared.tails.Tail.{Tail}
 use Rattle.persistent_queue.specs.Acknowledging.{acknowledged_page}
 use Rattle.persistent_queue.specs.Calls.{behind_acknowledge, with_acknowledged}
-use Rattle.persistent_queue.specs.NextBatch.{StandsAt, Rise, left_in, unread_in}
-use Rattle.persistent_queue.specs.Opening.{below_number, cursor_at, first_of, page_opened, queue_opened, tails_opened, unread_of, OpensAs}
-use Rattle.persistent_queue.specs.Opening.{unread_in as count_unread}
+use Rattle.persistent_queue.specs.NextBatch.{StandsAt, Rise, left_in, unread_rows_in}
+use Rattle.persistent_queue.specs.Opening.{below_number, cursor_at, first_of, page_opened, queue_opened, tails_opened, unread_in, unread_of, OpensAs}
 use Rattle.persistent_queue.specs.Opens.{AreLong, ArePagesOf, IsPageOf, Opens}
 use Rattle.persistent_queue.specs.QueueBatches.{AreNamed, CursorStands, IsRead, page_rows}
 use Rattle.persistent_queue.specs.Taking.{Stand, all_pages, begun}
@@ -101,7 +100,7 @@ whole_left s o rows within first =
     ]
 
 later_rows : (s : Stand) (from : ℕ) (tails : List OpenPage) (top : OpenPage) (pages : List Page) (last : Page) → ArePagesOf tails pages → IsPageOf top last → Rise from (tails ++ top ∷ []) → s.page < from
-    → unread_in s (tails ++ top ∷ []) (rows_with pages last) ≡ all_rows pages last
+    → unread_rows_in s (tails ++ top ∷ []) (rows_with pages last) ≡ all_rows pages last
 later_rows s from [] top [] last are top_is rise less =
     append-nil (since top.from (left_in s top last.rows))
     ∙ ap₂ (λ (n : ℕ) (l : List PageRow). since n l) (sym top_is.from) (whole_left s top last.rows (omega (arith, less, rise.0)) (λ is. absurd (omega (arith, is, less, rise.0))))
@@ -112,7 +111,7 @@ later_rows s from (o ∷ tails) top (p ∷ pages) last are top_is rise less = ap
     (later_rows s (suc o.number) tails top pages last are.1 top_is rise.1 (omega (arith, less, rise.0)))
 
 first_rows : (tails : List OpenPage) (top : OpenPage) (pages : List Page) (last : Page) → ArePagesOf tails pages → IsPageOf top last → Rise 0 (tails ++ top ∷ [])
-    → unread_in (begun 0 (cursor_at (first_of tails top))) (tails ++ top ∷ []) (rows_with pages last) ≡ all_rows pages last
+    → unread_rows_in (begun 0 (cursor_at (first_of tails top))) (tails ++ top ∷ []) (rows_with pages last) ≡ all_rows pages last
 first_rows [] top [] last are top_is rise =
     append-nil (since top.from (left_in (begun 0 (cursor_at top)) top last.rows))
     ∙ ap₂ (λ (n : ℕ) (l : List PageRow). since n l) (sym top_is.from) (whole_left (begun 0 (cursor_at top)) top last.rows (omega arith) (λ is. refl))
@@ -141,7 +140,7 @@ module _ (folder : List ℕ) where
       sym (unread_rows p.from p.least p.rows numbered ∙ (λ i. is.count i - leading (below_number (is.from i) (is.least i) (is.count i))))
 
   opened_count : (tails : List Tail) (views : List PageView) (pages : List Page) (last : Page) (number end count : ℕ) → ArePagesOf (tails_opened folder tails views) pages → Rising number end pages last
-      → count ≡ length (since last.from last.rows) → count_unread (tails_opened folder tails views) + count ≡ length (all_rows pages last)
+      → count ≡ length (since last.from last.rows) → unread_in (tails_opened folder tails views) + count ≡ length (all_rows pages last)
   opened_count [] views [] last number end count are rising is = omega (arith, is)
   opened_count [] views (p ∷ pages) last number end count are rising is = elim are [ ]
   opened_count (t ∷ tails) [] [] last number end count are rising is = omega (arith, is)
@@ -188,7 +187,7 @@ module _ (numbers : Numbers) where
   same_rows [] last = refl
   same_rows (p ∷ pages) last = ap (λ (l : List (List PageRow)). p.rows ∷ l) (same_rows pages last)
 
-  same_unread : (s : Stand) (tails : List OpenPage) (top : OpenPage) (rows : List (List PageRow)) → unread_in s (map (with_acknowledged numbers) tails ++ with_acknowledged numbers top ∷ []) rows ≡ unread_in s (tails ++ top ∷ []) rows
+  same_unread : (s : Stand) (tails : List OpenPage) (top : OpenPage) (rows : List (List PageRow)) → unread_rows_in s (map (with_acknowledged numbers) tails ++ with_acknowledged numbers top ∷ []) rows ≡ unread_rows_in s (tails ++ top ∷ []) rows
   same_unread s [] top [] = refl
   same_unread s [] top (rows ∷ others) = refl
   same_unread s (o ∷ tails) top [] = refl
@@ -214,7 +213,7 @@ acknowledged_leaves_unread store v q rows numbers s has =
       unread = record {
         stands = subst (λ (l : List (List PageRow)). CursorStands (store.seen s) v.cursor (all_pages (behind_acknowledge numbers v)) l) (sym same)
             (same_stands numbers (store.seen s) v.cursor v.tails v.top (page_rows q) has.unread.stands);
-        rows_are = ap (unread_in (begun 0 v.cursor) (all_pages (behind_acknowledge numbers v))) same ∙ same_unread numbers (begun 0 v.cursor) v.tails v.top (page_rows q) ∙ has.unread.rows_are;
+        rows_are = ap (unread_rows_in (begun 0 v.cursor) (all_pages (behind_acknowledge numbers v))) same ∙ same_unread numbers (begun 0 v.cursor) v.tails v.top (page_rows q) ∙ has.unread.rows_are;
         count = has.unread.count;
       };
     }

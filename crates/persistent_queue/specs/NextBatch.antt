@@ -41,10 +41,10 @@ abbrev pub left_in : Stand → OpenPage → List PageRow → List PageRow
 left_in s o rows = if nat_lt o.number s.page then [] else (if o.number == s.page then drop (s.reading.number - o.page.state.least) rows else rows)
 
 -- of these pages those that aren't recorded as acknowledged
-abbrev pub unread_in : Stand → List OpenPage → List (List PageRow) → List Row
-unread_in s [] rows = []
-unread_in s (o ∷ pages) [] = []
-unread_in s (o ∷ pages) (rows ∷ others) = since o.from (left_in s o rows) ++ unread_in s pages others
+abbrev pub unread_rows_in : Stand → List OpenPage → List (List PageRow) → List Row
+unread_rows_in s [] rows = []
+unread_rows_in s (o ∷ pages) [] = []
+unread_rows_in s (o ∷ pages) (rows ∷ others) = since o.from (left_in s o rows) ++ unread_rows_in s pages others
 
 -- Where the rows of pages stand in their files, those that are read for a batch are the first of the unread rows, as many as the batch may have; and the others
 -- are unread then.
@@ -52,5 +52,5 @@ abbrev pub NextBatchIsRead : Type 0
 NextBatchIsRead =
     (content : Content) (pages : List OpenPage) (rows : List (List PageRow)) (s : Stand) → s.reading.closed ≡ false → Rise 0 pages → AllStand content s pages rows
     → (next : Stand) × (pages_read content pages s ≡ Ok next)
-    × (map told next.reading.rows ≡ map told s.reading.rows ++ taken s.reading.most_bytes (s.reading.most_rows - length s.reading.rows) s.reading.bytes (unread_in s pages rows))
-    × AllStand content next pages rows × (map told next.reading.rows ++ unread_in next pages rows ≡ map told s.reading.rows ++ unread_in s pages rows)
+    × (map told next.reading.rows ≡ map told s.reading.rows ++ taken s.reading.most_bytes (s.reading.most_rows - length s.reading.rows) s.reading.bytes (unread_rows_in s pages rows))
+    × AllStand content next pages rows × (map told next.reading.rows ++ unread_rows_in next pages rows ≡ map told s.reading.rows ++ unread_rows_in s pages rows)

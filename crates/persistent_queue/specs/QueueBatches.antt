@@ -9,7 +9,7 @@ use Rattle.queue_laws.specs.Found.{Row}
 use Rattle.queue_laws.specs.Kept.{Page, Queue, IsQueue}
 use Rattle.queue_laws.specs.Resting.{Held}
 use Rattle.queue_core.specs.Marks.{read_in}
-use Rattle.persistent_queue.specs.NextBatch.{StandsAt, unread_in}
+use Rattle.persistent_queue.specs.NextBatch.{StandsAt, unread_rows_in}
 use Rattle.persistent_queue.specs.Opens.{ArePagesOf, IsOfFiles, IsPageOf}
 use Rattle.persistent_queue.specs.Taking.{Stand, all_pages, batch_bytes, batch_of, begun, behind_take, rows_taken}
 use Rattle.persistent_queue.specs.Unread.{told, taken}
@@ -42,7 +42,7 @@ CursorStands content c (o ∷ pages) (rows ∷ others) = (c.page ≡ o.number �
 -- these rows of the queue are unread, and the first of them stands where the cursor says
 pub record AreUnread (content : Content) (v : QueueView) (q : Queue) (rows : List Row) : Type 0 where
   pub stands : CursorStands content v.cursor (all_pages v) (page_rows q)
-  pub rows_are : unread_in (begun 0 v.cursor) (all_pages v) (page_rows q) ≡ rows
+  pub rows_are : unread_rows_in (begun 0 v.cursor) (all_pages v) (page_rows q) ≡ rows
   pub count : v.unread ≡ length rows
 
 -- Of a queue with these unread rows a batch takes the first ones, as many as it may have, and the others are unread then. One that may have a row is there

@@ -3,13 +3,25 @@ use Rattle.std.specs.List.{insert}
 use Rattle.std.proofs.Math.Path.{ap₂}
 use Rattle.queue_core.specs.declared.marking.Mark.{Mark}
 use Rattle.queue_core.specs.declared.rolling.NextPage.{NextPage}
-use Rattle.persistent_queue.specs.Calls.{behind_mark, bytes_in, end_of, marks_of, with_marked, with_recorded, IsHeldQueue}
+use Rattle.persistent_queue.specs.Calls.{behind_mark, bytes_in, checkpoints, end_of, marks_of, with_marked, with_recorded, IsHeldQueue}
 use Rattle.persistent_queue.specs.Opens.{IsReady}
 use Rattle.persistent_queue.specs.Views.{OpenPage, QueueView}
 use Rattle.persistent_queue.specs.Writing.{behind_append, behind_roll, next_page, row_behind, sealed, Begun, HasFrame, IsPlan, KeepsRow}
 use Rattle.persistent_queue.proofs.GrownQueues.{begun_top, reserved_held, rolled_held, some_marks, still_held}
 use Rattle.persistent_queue.proofs.WriteRuns.{untouched_either}
 use Rattle.persistent_queue.proofs.queue.Queue.roll.Goals as goal
+
+-- what a new page is begun with, as the view says that the caller sees
+planned : (v seen : QueueView) (given marks : List Mark) (next : NextPage) → v ≡ seen → map (λ (m : Mark). m.file) given ≡ checkpoints v → marks ≡ marks_of v.tails v.top given → next ≡ next_page v.folder (with_recorded v.top)
+    → suc seen.top.number < 2 ^ 32 - 1 → end_of seen.top < 2 ^ 63 - 1 → IsPlan v marks next
+planned v seen given marks next is named marks_are next_is number fits = record {
+  given = given;
+  named = named;
+  marks_are = marks_are;
+  next_is = next_is;
+  number = subst (λ (x : QueueView). suc x.top.number < 2 ^ 32 - 1) (sym is) number;
+  fits = subst (λ (x : QueueView). end_of x.top < 2 ^ 63 - 1) (sym is) fits;
+}
 
 pub returns-in_err-acknowledged-clause-keeps : goal.returns-in_err-acknowledged-clause-keeps
 returns-in_err-acknowledged-clause-keeps g c origin event framed = untouched_either g.S.Store g.met.S.Store.images_tell (row_behind c.args.self.now origin event) c.args.self.now c.args.store.now
@@ -62,14 +74,7 @@ begin-begun-requires-clause-plan g c =
     let are : c.reserve-2.new.self.items ≡ marks_of q.tails.items q.top q.marks.items =
     c.reserve-2.ensures.items ∙ c.set_marks.ensures ∙ ap (λ (l : List OpenPage). marks_of l q.top q.marks.items) (c.as_slice.ensures.value ∙ c.reserve.ensures.items) in
     let next_is : c.in_ok-next.next ≡ next_page q.folder (with_recorded q.top) = c.in_ok-next.ensures ∙ ap (λ (f : List ℕ). next_page f (with_recorded q.top)) c.as_str.ensures in
-    let plan : IsPlan v c.as_slice-2.result.now c.in_ok-next.next = record {
-      given = q.marks.items;
-      named = c.self.invariant.marks_are;
-      marks_are = c.as_slice-2.ensures.value ∙ are;
-      next_is = next_is;
-      number = subst (λ (x : QueueView). suc x.top.number < 2 ^ 32 - 1) (sym c.self.view_is) c.requires.page;
-      fits = subst (λ (x : QueueView). end_of x.top < 2 ^ 63 - 1) (sym c.self.view_is) c.requires.fits;
-    } in
+    let plan = planned v c.args.self.now q.marks.items c.as_slice-2.result.now c.in_ok-next.next c.self.view_is c.self.invariant.marks_are (c.as_slice-2.ensures.value ∙ are) next_is c.requires.page c.requires.fits in
     let ready = subst (λ (x : QueueView). IsReady g.S.Store x c.args.store.now) (sym c.self.view_is) c.requires.ready in
     (v, record { plan = plan; ready = ready; framed = subst (λ (x : QueueView). HasFrame (end_of x.top) c.args.frame.now) (sym c.self.view_is) c.requires.frame })
 
@@ -80,14 +85,7 @@ returns-in_err-page-clause-keeps g c =
     let are : c.reserve-2.new.self.items ≡ marks_of q.tails.items q.top q.marks.items =
     c.reserve-2.ensures.items ∙ c.set_marks.ensures ∙ ap (λ (l : List OpenPage). marks_of l q.top q.marks.items) (c.as_slice.ensures.value ∙ c.reserve.ensures.items) in
     let next_is : c.in_ok-next.next ≡ next_page q.folder (with_recorded q.top) = c.in_ok-next.ensures ∙ ap (λ (f : List ℕ). next_page f (with_recorded q.top)) c.as_str.ensures in
-    let plan : IsPlan v c.as_slice-2.result.now c.in_ok-next.next = record {
-      given = q.marks.items;
-      named = c.self.invariant.marks_are;
-      marks_are = c.as_slice-2.ensures.value ∙ are;
-      next_is = next_is;
-      number = subst (λ (x : QueueView). suc x.top.number < 2 ^ 32 - 1) (sym c.self.view_is) c.requires.page;
-      fits = subst (λ (x : QueueView). end_of x.top < 2 ^ 63 - 1) (sym c.self.view_is) c.requires.fits;
-    } in
+    let plan = planned v c.args.self.now q.marks.items c.as_slice-2.result.now c.in_ok-next.next c.self.view_is c.self.invariant.marks_are (c.as_slice-2.ensures.value ∙ are) next_is c.requires.page c.requires.fits in
     let ready = subst (λ (x : QueueView). IsReady g.S.Store x c.args.store.now) (sym c.self.view_is) c.requires.ready in
     subst (λ (x : QueueView). KeepsRow g.S.Store row_behind x c.args.frame.now c.args.store.now c.begin-begun.new.store) c.self.view_is (c.begin-begun.ensures.keeps v plan ready)
 
@@ -98,14 +96,7 @@ returns-clause-keeps g c =
     let are : c.reserve-2.new.self.items ≡ marks_of q.tails.items q.top q.marks.items =
     c.reserve-2.ensures.items ∙ c.set_marks.ensures ∙ ap (λ (l : List OpenPage). marks_of l q.top q.marks.items) (c.as_slice.ensures.value ∙ c.reserve.ensures.items) in
     let next_is : c.in_ok-next.next ≡ next_page q.folder (with_recorded q.top) = c.in_ok-next.ensures ∙ ap (λ (f : List ℕ). next_page f (with_recorded q.top)) c.as_str.ensures in
-    let plan : IsPlan v c.as_slice-2.result.now c.in_ok-next.next = record {
-      given = q.marks.items;
-      named = c.self.invariant.marks_are;
-      marks_are = c.as_slice-2.ensures.value ∙ are;
-      next_is = next_is;
-      number = subst (λ (x : QueueView). suc x.top.number < 2 ^ 32 - 1) (sym c.self.view_is) c.requires.page;
-      fits = subst (λ (x : QueueView). end_of x.top < 2 ^ 63 - 1) (sym c.self.view_is) c.requires.fits;
-    } in
+    let plan = planned v c.args.self.now q.marks.items c.as_slice-2.result.now c.in_ok-next.next c.self.view_is c.self.invariant.marks_are (c.as_slice-2.ensures.value ∙ are) next_is c.requires.page c.requires.fits in
     let ready = subst (λ (x : QueueView). IsReady g.S.Store x c.args.store.now) (sym c.self.view_is) c.requires.ready in
     subst (λ (x : QueueView). KeepsRow g.S.Store row_behind x c.args.frame.now c.args.store.now c.begin-begun.new.store) c.self.view_is (c.begin-begun.ensures.keeps v plan ready)
 
@@ -116,14 +107,7 @@ returns-clause-adds g c =
     let are : c.reserve-2.new.self.items ≡ marks_of q.tails.items q.top q.marks.items =
     c.reserve-2.ensures.items ∙ c.set_marks.ensures ∙ ap (λ (l : List OpenPage). marks_of l q.top q.marks.items) (c.as_slice.ensures.value ∙ c.reserve.ensures.items) in
     let next_is : c.in_ok-next.next ≡ next_page q.folder (with_recorded q.top) = c.in_ok-next.ensures ∙ ap (λ (f : List ℕ). next_page f (with_recorded q.top)) c.as_str.ensures in
-    let plan : IsPlan v c.as_slice-2.result.now c.in_ok-next.next = record {
-      given = q.marks.items;
-      named = c.self.invariant.marks_are;
-      marks_are = c.as_slice-2.ensures.value ∙ are;
-      next_is = next_is;
-      number = subst (λ (x : QueueView). suc x.top.number < 2 ^ 32 - 1) (sym c.self.view_is) c.requires.page;
-      fits = subst (λ (x : QueueView). end_of x.top < 2 ^ 63 - 1) (sym c.self.view_is) c.requires.fits;
-    } in
+    let plan = planned v c.args.self.now q.marks.items c.as_slice-2.result.now c.in_ok-next.next c.self.view_is c.self.invariant.marks_are (c.as_slice-2.ensures.value ∙ are) next_is c.requires.page c.requires.fits in
     let ready = subst (λ (x : QueueView). IsReady g.S.Store x c.args.store.now) (sym c.self.view_is) c.requires.ready in
     subst (λ (x : QueueView). Begun g.S.Store x c.args.frame.now c.args.store.now c.begin-begun.new.store) c.self.view_is (c.in_ok-page.ensures.adds v plan ready)
 
