@@ -27,7 +27,7 @@ page_sound : (number end : ℕ) (before : List Page) (p : Page) (behind : List P
 page_sound number end [] p behind top rising = rising.3
 page_sound number end (b ∷ before) p behind top rising = page_sound (suc b.number) (b.least + length b.rows) before p behind top rising.4
 
-leading_most : (acknowledged : List Bool) → leading acknowledged ≤ length acknowledged
+pub leading_most : (acknowledged : List Bool) → leading acknowledged ≤ length acknowledged
 leading_most [] = omega arith
 leading_most (true ∷ rest) = let most = leading_most rest in omega (arith, most)
 leading_most (false ∷ rest) = omega arith
@@ -42,7 +42,7 @@ numbers_same k [] = refl
 numbers_same k (true ∷ rest) = ap (λ l. k ∷ l) (numbers_same (suc k) rest)
 numbers_same k (false ∷ rest) = numbers_same (suc k) rest
 
-numbers_below : (k : ℕ) (acknowledged : List Bool) (n : ℕ) → IsIn n (numbers_at k acknowledged) → n < k + length acknowledged
+pub numbers_below : (k : ℕ) (acknowledged : List Bool) (n : ℕ) → IsIn n (numbers_at k acknowledged) → n < k + length acknowledged
 numbers_below k [] n i = absurd i
 numbers_below k (true ∷ rest) n (inl e) = omega (arith, e)
 numbers_below k (true ∷ rest) n (inr i) = let less = numbers_below (suc k) rest n i in omega (arith, less)
@@ -51,7 +51,7 @@ numbers_below k (false ∷ rest) n i = let less = numbers_below (suc k) rest n i
 -- ---- a row more
 
 module _ (row : PageRow) where
-  row_known : (tails : List Page) (top : Page) (r : Row) → IsIn r (all_rows tails (page_with row top)) → IsIn r (all_rows tails top) ⊎ (r ≡ row_of row)
+  pub row_known : (tails : List Page) (top : Page) (r : Row) → IsIn r (all_rows tails (page_with row top)) → IsIn r (all_rows tails top) ⊎ (r ≡ row_of row)
   row_known [] top r i = by_row (since_row top.from (top.rows ++ row ∷ []) r i)
     where
       by_row : IsSinceRow top.from (top.rows ++ row ∷ []) r → IsIn r (since top.from top.rows) ⊎ (r ≡ row_of row)
@@ -78,7 +78,7 @@ module _ (row : PageRow) where
   row_there [] top less = since_has top.from (top.rows ++ row ∷ []) row (in_behind row top.rows (row ∷ []) (inl refl)) less
   row_there (p ∷ tails) top less = in_behind (row_of row) (since p.from p.rows) (all_rows tails (page_with row top)) (row_there tails top less)
 
-  acknowledged_same : (tails : List Page) (top : Page) → acknowledged_in tails (page_with row top) ≡ acknowledged_in tails top
+  pub acknowledged_same : (tails : List Page) (top : Page) → acknowledged_in tails (page_with row top) ≡ acknowledged_in tails top
   acknowledged_same [] top = numbers_same top.least top.acknowledged
   acknowledged_same (p ∷ tails) top = ap (λ l. numbers_at p.least p.acknowledged ++ l) (acknowledged_same tails top)
 
@@ -141,7 +141,7 @@ accepted_is_written makes told q row input parcel event legal running is queue n
 
 -- ---- a mark
 
-marked_open : (number end : ℕ) (tails : List Page) (top : Page) → Rising number end tails top → (r : Row) → IsIn r (all_rows (marked_pages tails) (recorded_page top)) → IsIn r (all_rows tails top)
+pub marked_open : (number end : ℕ) (tails : List Page) (top : Page) → Rising number end tails top → (r : Row) → IsIn r (all_rows (marked_pages tails) (recorded_page top)) → IsIn r (all_rows tails top)
 marked_open number end [] top rising r i = page_open top rising.2 top.rows (λ x j. j) (since (first_open_of top) top.rows) (inr refl) r i
 marked_open number end (p ∷ tails) top rising r i =
     ⊎_elim (λ (j : IsIn r (since (first_open_of p) p.rows)). in_front r (since p.from p.rows) (all_rows tails top) (page_open p rising.3 p.rows (λ x k. k) (since (first_open_of p) p.rows) (inr refl) r j))
@@ -169,7 +169,7 @@ marked_still number end (p ∷ tails) top rising r i =
     (marked_still (suc p.number) (p.least + length p.rows) tails top rising.4 r j))
     (in_either r (since p.from p.rows) (all_rows tails top) i)
 
-marked_numbers : (tails : List Page) (top : Page) → acknowledged_in (marked_pages tails) (recorded_page top) ≡ acknowledged_in tails top
+pub marked_numbers : (tails : List Page) (top : Page) → acknowledged_in (marked_pages tails) (recorded_page top) ≡ acknowledged_in tails top
 marked_numbers [] top = refl
 marked_numbers (p ∷ tails) top = ap (λ l. numbers_at p.least p.acknowledged ++ l) (marked_numbers tails top)
 
@@ -202,11 +202,11 @@ marked_is_settled makes told q front legal running is queue last =
 
 -- ---- a new head page
 
-rolled_rows : (tails : List Page) (top : Page) → all_rows (tails ++ sealed top ∷ []) (next_top top) ≡ all_rows tails top
+pub rolled_rows : (tails : List Page) (top : Page) → all_rows (tails ++ sealed top ∷ []) (next_top top) ≡ all_rows tails top
 rolled_rows [] top = append-nil (since top.from top.rows)
 rolled_rows (p ∷ tails) top = ap (λ l. since p.from p.rows ++ l) (rolled_rows tails top)
 
-rolled_numbers : (tails : List Page) (top : Page) → acknowledged_in (tails ++ sealed top ∷ []) (next_top top) ≡ acknowledged_in tails top
+pub rolled_numbers : (tails : List Page) (top : Page) → acknowledged_in (tails ++ sealed top ∷ []) (next_top top) ≡ acknowledged_in tails top
 rolled_numbers [] top = append-nil (numbers_at top.least top.acknowledged)
 rolled_numbers (p ∷ tails) top = ap (λ l. numbers_at p.least p.acknowledged ++ l) (rolled_numbers tails top)
 
@@ -255,7 +255,7 @@ spent_none p sound spent r i =
     omega (arith, less, above, spent)
 
 module _ (p : Page) (behind : List Page) (top : Page) where
-  less_open : (before : List Page) (r : Row) → IsIn r (all_rows (before ++ behind) top) → IsIn r (all_rows (before ++ p ∷ behind) top)
+  pub less_open : (before : List Page) (r : Row) → IsIn r (all_rows (before ++ behind) top) → IsIn r (all_rows (before ++ p ∷ behind) top)
   less_open [] r i = in_behind r (since p.from p.rows) (all_rows behind top) i
   less_open (b ∷ before) r i =
       ⊎_elim (λ (j : IsIn r (since b.from b.rows)). in_front r (since b.from b.rows) (all_rows (before ++ p ∷ behind) top) j)

@@ -27,11 +27,11 @@ record InTurn (s : State) : Type 0 where
   read : (n : ℕ) → IsIn n s.read → n < s.low
   outs : (o : Out) (w : Written) → IsIn o s.out → IsIn w o.rows → IsIn w.number s.read
 
-rise_end : (from n : ℕ) (ns : List ℕ) → Rise from ns → from ≤ n → ((m : ℕ) → IsIn m ns → m < n) → Rise from (ns ++ n ∷ [])
+pub rise_end : (from n : ℕ) (ns : List ℕ) → Rise from ns → from ≤ n → ((m : ℕ) → IsIn m ns → m < n) → Rise from (ns ++ n ∷ [])
 rise_end from n [] rise least below = (least, tt)
 rise_end from n (m ∷ ns) rise least below = (rise.0, rise_end (suc m) n ns rise.1 (below m (inl refl)) (λ k i. below k (inr i)))
 
-numbers_more : (rows : List Written) (w : Written) → numbers_of (rows ++ w ∷ []) ≡ numbers_of rows ++ w.number ∷ []
+pub numbers_more : (rows : List Written) (w : Written) → numbers_of (rows ++ w ∷ []) ≡ numbers_of rows ++ w.number ∷ []
 numbers_more [] w = refl
 numbers_more (v ∷ rows) w = ap (λ l. v.number ∷ l) (numbers_more rows w)
 
@@ -188,7 +188,7 @@ parted (r ∷ front) rest (w ∷ ws) are =
     let more = parted front rest ws are.1 in
     record { first = w ∷ more.first; others = more.others; parts = ap (λ l. w ∷ l) more.parts; of_first = (are.0, more.of_first); of_others = more.of_others }
 
-numbers_same : (rows : List Row) (ws : List Written) → AreRowsOf rows ws → numbers_found rows ≡ numbers_of ws
+pub numbers_same : (rows : List Row) (ws : List Written) → AreRowsOf rows ws → numbers_found rows ≡ numbers_of ws
 numbers_same [] [] are = refl
 numbers_same [] (w ∷ ws) are = absurd are
 numbers_same (r ∷ rows) [] are = absurd are

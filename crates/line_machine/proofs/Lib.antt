@@ -1,0 +1,16 @@
+pub mod Inputs
+pub mod Batches
+pub mod Shed
+pub mod Accounted
+pub mod Arrives
+pub mod Telling
+pub mod Deliveries
+pub mod Steps
+pub mod Openings
+pub mod Kits
+pub mod Rows
+pub mod Takers
+pub mod Answering
+pub mod Recording
+pub mod Settling
+pub mod Sending

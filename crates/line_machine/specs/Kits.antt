@@ -1,0 +1,52 @@
+-- Where a line's kits are: at home, out with one batch, or closed.
+use Rattle.std.specs.Prelude.{◌≡◌, ℕ, ◌+◌, Bool, List, [], ◌∷◌, ◌++◌, Option, Some, None, if◌then◌else◌}
+use Rattle.event_flow.specs.Meaning.{Makes}
+use Rattle.history_laws.specs.Contents.{Bytes}
+use Rattle.history_laws.specs.Links.{Listening}
+use Rattle.history_laws.specs.Lists.{IsIn}
+use Rattle.history_laws.specs.Sound.{Places}
+use Rattle.line_machine.specs.Steps.{Step, Adopts, effect}
+use Rattle.line_machine.specs.Views.{Kit, Batch, LineView}
+
+abbrev pub one_if : Bool → ℕ
+one_if b = if b then 1 else 0
+
+-- how many of these kits are such
+abbrev pub count : (Kit → Bool) → List Kit → ℕ
+count p [] = 0
+count p (k ∷ ks) = one_if (p k) + count p ks
+
+abbrev pub kit_out : Option Kit → List Kit
+kit_out None = []
+kit_out (Some kit) = kit ∷ []
+
+-- those that are out with batches
+abbrev pub kits_out : List Batch → List Kit
+kits_out [] = []
+kits_out (b ∷ bs) = kit_out b.kit ++ kits_out bs
+
+module _ {places : Places} where
+  -- those of a line: at home, or out
+  abbrev pub kits_of : LineView places → List Kit
+  kits_of i = i.kits ++ kits_out i.batches
+
+  -- each kit at home is of the newest generation, and each that is out of that of its batch
+  pub record AreOfTheirs (i : LineView places) : Type 0 where
+    pub home : (k : Kit) → IsIn k i.kits → k.generation ≡ i.plan.generation
+    pub out : (b : Batch) → IsIn b i.batches → (k : Kit) → b.kit ≡ Some k → k.generation ≡ b.plan.generation
+
+module _ (makes : Makes) (listening : Listening) (bytes : Bytes) (places : Places) where
+  -- the kits that come with a configuration
+  abbrev pub new_kits : (i : LineView places) → Step makes listening bytes i → List Kit
+  new_kits i (Adopts c) = c.kits
+  new_kits i x = []
+
+  -- No step loses a kit or doubles one: those that the line had, and those that came, it has, or they were closed.
+  abbrev pub KitsStay : Type 0
+  KitsStay =
+      (i : LineView places) (x : Step makes listening bytes i) (p : Kit → Bool)
+      → count p (kits_of (effect makes listening bytes i x).line) + count p (effect makes listening bytes i x).closed ≡ count p (kits_of i) + count p (new_kits i x)
+
+  -- A batch is run by a kit of the generation under which it was read: a step keeps it so.
+  abbrev pub KitsAreTheirs : Type 0
+  KitsAreTheirs = (i : LineView places) (x : Step makes listening bytes i) → AreOfTheirs i → AreOfTheirs (effect makes listening bytes i x).line

@@ -1,0 +1,38 @@
+-- What holds of whatever the machine allows.
+use Rattle.std.specs.Prelude.{◌⊎◌, List, ◌++◌}
+use Rattle.store_trait.specs.Images.{Image}
+use Rattle.event_flow.specs.Meaning.{Makes}
+use Rattle.history_laws.specs.Contents.{Bytes}
+use Rattle.history_laws.specs.Entries.{Entry}
+use Rattle.history_laws.specs.Holdings.{HoldsTold}
+use Rattle.history_laws.specs.Legal.{Legal}
+use Rattle.history_laws.specs.Links.{Listening}
+use Rattle.history_laws.specs.Sound.{Places, LineSound}
+use Rattle.history_laws.specs.States.{start}
+use Rattle.line_machine.specs.declared.calls.Call.{Call}
+use Rattle.line_machine.specs.Answers.{Did}
+use Rattle.line_machine.specs.Effects.{Effect, MayLeave}
+use Rattle.line_machine.specs.Stands.{Stands}
+use Rattle.line_machine.specs.Steps.{Step, effect, GoesOn}
+use Rattle.line_machine.specs.Views.{LineView}
+
+module _ (makes : Makes) (bytes : Bytes) (places : Places) where
+  -- What a call makes of a line that stood where these entries put it: the history with what it tells is legal, and its places hold what that says; whatever a
+  -- stop leaves at any moment of it is sound with the history of before or of behind the call; and where it went well, the line stands there.
+  pub record FollowsAs (told : List Entry) (i : LineView places) (e : Effect places) (well : Type 0) : Type 0 where
+    pub legal : Legal makes start (told ++ e.told)
+    pub holds : HoldsTold makes bytes places (told ++ e.told) e.behind
+    pub images : (image : Image) → MayLeave makes bytes places told i e image → LineSound makes bytes places told image ⊎ LineSound makes bytes places (told ++ e.told) image
+    pub stands : well → Stands makes bytes places (told ++ e.told) e.line
+
+  -- so it is with each step of the machine
+  abbrev pub StepsFollow : Listening → Type 0
+  StepsFollow listening =
+      (told : List Entry) (i : LineView places) (s : Step makes listening bytes i) → Stands makes bytes places told i
+      → FollowsAs told i (effect makes listening bytes i s) (GoesOn makes listening bytes i s)
+
+  -- and so with each call, by its answer
+  abbrev pub CallsFollow : Listening → Type 0
+  CallsFollow listening =
+      (told : List Entry) (i : LineView places) (x : Call) (e : Effect places) → Stands makes bytes places told i → (did : Did makes listening bytes x i e)
+      → FollowsAs told i e (GoesOn makes listening bytes i did.step)

@@ -1,0 +1,14 @@
+pub mod Ends
+pub mod Views
+pub mod Finds
+pub mod Effects
+pub mod Steps
+pub mod Stands
+pub mod Recorded
+pub mod Answers
+pub mod Laws
+pub mod Openings
+pub mod Kits
+pub mod Answering
+pub mod Resting
+pub mod Sending

@@ -1,0 +1,48 @@
+-- A line that was opened over what a stop left, and lines behind several steps.
+use Rattle.std.specs.Prelude.{◌≡◌, List, [], ◌∷◌, ◌++◌, map, None, false}
+use Rattle.store_trait.specs.Images.{Image}
+use Rattle.event_flow.specs.Meaning.{Makes}
+use Rattle.history_laws.specs.Contents.{Bytes}
+use Rattle.history_laws.specs.Entries.{Entry, Adopt, Opened}
+use Rattle.history_laws.specs.Holdings.{IsOpened}
+use Rattle.history_laws.specs.Inputs.{Input, Renumbered, named_from}
+use Rattle.history_laws.specs.Links.{Listening}
+use Rattle.history_laws.specs.Lists.{IsIn}
+use Rattle.history_laws.specs.Sound.{Places, LineSound}
+use Rattle.line_machine.specs.Effects.{begun}
+use Rattle.line_machine.specs.Recorded.{IsRecorded}
+use Rattle.line_machine.specs.Stands.{Stands}
+use Rattle.line_machine.specs.Steps.{Step, effect, GoesOn}
+use Rattle.line_machine.specs.Views.{Kit, LineView}
+
+module _ (makes : Makes) (listening : Listening) (bytes : Bytes) (places : Places) where
+  -- What a stop left is opened: the queue gives all rows that are found, no batch is out, the kits are those of the configuration, and its inputs begin.
+  pub record IsOpenedLine (told : List Entry) (image : Image) (sound : LineSound makes bytes places told image) (i : LineView places) : Type 0 where
+    pub opened : IsOpened makes bytes places told image sound i.holds
+    pub unread : i.unread ≡ sound.rows.rows
+    pub kept : i.kept ≡ []
+    pub batches : i.batches ≡ []
+    pub kits : (k : Kit) → IsIn k i.kits → k.generation ≡ i.plan.generation
+    pub inputs : List Input
+    pub numbered : Renumbered 0 [] (named_from 1 i.plan.config.inputs) inputs
+    pub begun_all : i.inputs ≡ map begun inputs
+    pub unmarked : i.mark ≡ None
+    pub covered : i.uncovered ≡ false → IsRecorded i.holds.queue
+
+  -- what the opening tells
+  abbrev pub opening : (told : List Entry) (image : Image) → LineSound makes bytes places told image → LineView places → List Entry
+  opening told image sound i = Opened sound.rows.rows i.limits.limit i.limits.policy ∷ Adopt i.plan.generation i.plan.config i.plan.draws ∷ []
+
+  abbrev pub OpenedLineStands : Type 0
+  OpenedLineStands =
+      (told : List Entry) (image : Image) (sound : LineSound makes bytes places told image) (i : LineView places) → IsOpenedLine told image sound i
+      → Stands makes bytes places (told ++ opening told image sound i) i
+
+  -- Steps one behind the other, each of which the line goes on from, and what they tell.
+  pub data Runs : LineView places → List Entry → LineView places → Type 0 where
+    Stays : (i : LineView places) → Runs i [] i
+    Goes : (i j : LineView places) (told : List Entry) (x : Step makes listening bytes i) → GoesOn makes listening bytes i x → Runs (effect makes listening bytes i x).line told j
+        → Runs i ((effect makes listening bytes i x).told ++ told) j
+
+  abbrev pub RunsStand : Type 0
+  RunsStand = (told more : List Entry) (i j : LineView places) → Stands makes bytes places told i → Runs i more j → Stands makes bytes places (told ++ more) j
