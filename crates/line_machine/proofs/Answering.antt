@@ -17,8 +17,9 @@ use Rattle.history_laws.specs.Sound.{Places}
 use Rattle.history_laws.specs.States.{Written, State, start, written, after}
 use Rattle.history_laws.proofs.Histories.{after_both}
 use Rattle.history_laws.proofs.Lists.{in_either}
-use Rattle.line_machine.specs.Answering.{own_link, rows_at, TakerStands, LinksStand, AnswersStand}
+use Rattle.line_machine.specs.Answering.{own_link, rows_at, TakerStands, LinksStand, AnswersStand, OpenedLinksStand}
 use Rattle.line_machine.specs.Ends.{Waiting, TakerView, AreApart, Taken, Takes, taker_at, change_taker, without_taker, took, row_made, assured, refused}
+use Rattle.line_machine.specs.Openings.{opening}
 use Rattle.line_machine.specs.Stands.{Stands}
 use Rattle.line_machine.specs.Steps as m
 use Rattle.line_machine.specs.Effects.{shed_told, letters_told}
@@ -26,7 +27,7 @@ use Rattle.line_machine.specs.Finds.{SameTakers, AreNew, IsRowFor, Arrives}
 use Rattle.line_machine.specs.Steps.{Step, effect, GoesOn}
 use Rattle.line_machine.specs.Views.{LineView, input_of}
 use Rattle.line_machine.proofs.Inputs.{is_input}
-use Rattle.line_machine.proofs.Rows.{NoRows, NoMark, rows_same, mark_same, accept_row, front_same}
+use Rattle.line_machine.proofs.Rows.{NoRows, NoMark, rows_same, mark_same, accept_row, front_same, opened_rows}
 use Rattle.line_machine.proofs.Takers.{IsChangedTaker, taker_changed, place_before, apart_changed, taker_in, told_more, took_stands, assured_stands, refused_stands, row_made_stands}
 
 -- ---- entries that name no parcel, and mark nothing
@@ -302,3 +303,15 @@ module _ (makes : Makes) (listening : Listening) (bytes : Bytes) (places : Place
 
 pub answers_all_stand : (makes : Makes) (listening : Listening) (bytes : Bytes) (places : Places) → AnswersStand makes listening bytes places
 answers_all_stand makes listening bytes places told i x stands is on = answers_stand makes listening bytes places told i stands is x on
+
+pub opened_links : (makes : Makes) (listening : Listening) (bytes : Bytes) (places : Places) → OpenedLinksStand makes listening bytes places
+opened_links makes listening bytes places told image sound i is = record {
+  each = λ t has. new_stands makes listening bytes places (told ++ opening makes listening bytes places told image sound i) t (is.takers.unused t has)
+      (λ number. no_rows (record { place = t.place; number = number }));
+  apart = is.takers.apart;
+  below = λ t has. (is.takers.places t has).1;
+  no_others = λ at least. no_rows at;
+}
+  where
+    no_rows : (at : ParcelAt) → rows_of makes at (told ++ opening makes listening bytes places told image sound i) ≡ []
+    no_rows at = opened_rows makes at told sound.rows.rows i.limits.limit i.limits.policy i.plan.generation i.plan.config i.plan.draws

@@ -9,7 +9,7 @@ use Rattle.history_laws.specs.Lists.{IsIn}
 use Rattle.history_laws.specs.Sound.{Places}
 use Rattle.history_laws.specs.States.{Plan}
 use Rattle.history_laws.proofs.Lists.{in_front, in_behind, in_either}
-use Rattle.line_machine.specs.Kits.{one_if, count, kit_out, kits_out, kits_of, AreOfTheirs, KitsStay, KitsAreTheirs}
+use Rattle.line_machine.specs.Kits.{one_if, count, kit_out, kits_out, kits_of, AreOfTheirs, KitsStay, KitsAreTheirs, OpenedKitsAreTheirs}
 use Rattle.line_machine.specs.Steps as m
 use Rattle.line_machine.specs.Effects.{home_with, closed_of, one_less, in_parcel, without_kit, back_with, new_batch}
 use Rattle.line_machine.specs.Views.{Kit, Batch, LineView, batch_of, change_batch, without_batch}
@@ -288,3 +288,6 @@ module _ (makes : Makes) (listening : Listening) (bytes : Bytes) (places : Place
   kits_are_theirs i (m.Goes_on_with place) are = record { home = are.home; out = are.out }
   kits_are_theirs i (m.Is_skipped act cannot) are = record { home = are.home; out = are.out }
   kits_are_theirs i (m.Adopts c) are = record { home = c.made_of; out = are.out }
+
+  pub opened_kits : OpenedKitsAreTheirs makes listening bytes places
+  opened_kits told image sound i is = record { home = is.kits; out = λ b has. absurd (subst (IsIn b) is.batches has) }

@@ -5,6 +5,10 @@ use Rattle.std.proofs.lemmas.Grind.{flat_map-append}
 use Rattle.std.proofs.lemmas.List.Concat.{flat_map-cons}
 use Rattle.event_tree.specs.Events.{Ev}
 use Rattle.event_tree.specs.declared.lists.DeadPart.{DeadPart}
+use Rattle.config_tree.specs.declared.tree.Config.{Config}
+use Rattle.settings_lines.specs.declared.settings.Policy.{Policy}
+use Rattle.event_flow.specs.Places.{Draws}
+use Rattle.queue_laws.specs.Found.{Row}
 use Rattle.event_flow.specs.Meaning.{Makes, Due}
 use Rattle.event_flow.specs.Meaning as due
 use Rattle.history_laws.specs.Entries.{Entry, ParcelAt, Accept, Mark, Assure, Read, Back, Shed, Deliver, Letters, Ack, Purge, Adopt, Opened}
@@ -63,6 +67,13 @@ module _ (makes : Makes) (at : ParcelAt) where
   rows_same told (e ∷ more) none =
       let one = one_same told e more none in
       ap (rows_of makes at) (sym (append_assoc told (e ∷ []) more)) ∙ rows_same (told ++ e ∷ []) more one.1 ∙ one.0
+
+  -- an opening leaves none
+  pub opened_rows : (told : List Entry) (rows : List Row) (limit : ℕ) (policy : Policy) (generation : ℕ) (config : Config) (draws : Draws)
+      → rows_of makes at (told ++ (Opened rows limit policy ∷ Adopt generation config draws ∷ [])) ≡ []
+  opened_rows told rows limit policy generation config draws =
+      let step : Step = record { before = next makes (after makes start told) (Opened rows limit policy); entry = Adopt generation config draws } in
+      ap (flat_map row_in) (steps_both makes start told (Opened rows limit policy ∷ Adopt generation config draws ∷ []) []) ∙ flat_map-cons row_in step []
 
   pub mark_same : (told : List Entry) (front : ℕ) → rows_of makes at (told ++ Mark front ∷ []) ≡ rows_of makes at told
   mark_same told front = none_more told (Mark front) refl refl

@@ -26,7 +26,8 @@ use Rattle.history_laws.proofs.Outs.{out_in}
 use Rattle.line_machine.specs.Effects.{shed_told, letters_told}
 use Rattle.line_machine.specs.Ends.{SenderView, MaySend, sender_at, change_sender, with_sent, with_heard}
 use Rattle.line_machine.specs.Finds.{IsHome}
-use Rattle.line_machine.specs.Sending.{SenderStands, SendersStand, ParcelsWereDue}
+use Rattle.line_machine.specs.Sending.{SenderStands, SendersStand, ParcelsWereDue, OpenedParcelsWereDue}
+use Rattle.line_machine.specs.Openings.{opening}
 use Rattle.line_machine.specs.Stands.{Stands}
 use Rattle.line_machine.specs.Steps as m
 use Rattle.line_machine.specs.Steps.{Step, effect, GoesOn}
@@ -225,3 +226,7 @@ module _ (makes : Makes) (listening : Listening) (bytes : Bytes) (places : Place
 
 pub parcels_were_due : (makes : Makes) (listening : Listening) (bytes : Bytes) (places : Places) → ParcelsWereDue makes listening bytes places
 parcels_were_due makes listening bytes places told i x stands are on = parcels_due makes listening bytes places told i stands are x on
+
+pub opened_parcels_were_due : (makes : Makes) (listening : Listening) (bytes : Bytes) (places : Places) → OpenedParcelsWereDue makes listening bytes places
+opened_parcels_were_due makes listening bytes places told image sound i is =
+    with_none makes (told ++ opening makes listening bytes places told image sound i) [] i.senders (λ s has. absurd has) is.unsent

@@ -4,14 +4,16 @@ use Rattle.pipeline_bus.specs.Ends.{no_sending, no_taking}
 use Rattle.pipeline_bus.specs.Parcels.{is_last}
 use Rattle.pipeline_bus.specs.declared.parcel.Answer.{Answer}
 use Rattle.pipeline_bus.specs.declared.parcel.Parcel.{Parcel}
+use Rattle.store_trait.specs.Images.{Image}
 use Rattle.event_flow.specs.Meaning.{Makes}
 use Rattle.history_laws.specs.Contents.{Bytes}
 use Rattle.history_laws.specs.Entries.{Entry, ParcelAt}
 use Rattle.history_laws.specs.Links.{Listening, Link, TakerSound, rows_of}
 use Rattle.history_laws.specs.Lists.{IsIn, Rise}
-use Rattle.history_laws.specs.Sound.{Places}
+use Rattle.history_laws.specs.Sound.{Places, LineSound}
 use Rattle.history_laws.specs.States.{Written, numbers_of}
 use Rattle.line_machine.specs.Ends.{Waiting, TakerView, AreApart}
+use Rattle.line_machine.specs.Openings.{IsOpenedLine, opening}
 use Rattle.line_machine.specs.Stands.{Stands}
 use Rattle.line_machine.specs.Steps.{Step, effect, GoesOn}
 use Rattle.line_machine.specs.Views.{LineView}
@@ -54,6 +56,12 @@ module _ (makes : Makes) (listening : Listening) where
     pub no_others : (at : ParcelAt) → next_place ≤ at.place → rows_of makes at told ≡ []
 
 module _ (makes : Makes) (listening : Listening) (bytes : Bytes) (places : Places) where
+  -- So it is once a line was opened, and behind each step.
+  abbrev pub OpenedLinksStand : Type 0
+  OpenedLinksStand =
+      (told : List Entry) (image : Image) (sound : LineSound makes bytes places told image) (i : LineView places) → IsOpenedLine makes listening bytes places told image sound i
+      → LinksStand makes listening (told ++ opening makes listening bytes places told image sound i) i.takers i.next_place
+
   -- Whatever step a line makes, what it took and answered agrees with what it told: an answer that a parcel is assured is given only where all its events stand in rows that
   -- are settled, and one that nobody listens only for a parcel of which no event was accepted.
   abbrev pub AnswersStand : Type 0

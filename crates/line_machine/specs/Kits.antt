@@ -1,10 +1,13 @@
 -- Where a line's kits are: at home, out with one batch, or closed.
 use Rattle.std.specs.Prelude.{◌≡◌, ℕ, ◌+◌, Bool, List, [], ◌∷◌, ◌++◌, Option, Some, None, if◌then◌else◌}
+use Rattle.store_trait.specs.Images.{Image}
 use Rattle.event_flow.specs.Meaning.{Makes}
 use Rattle.history_laws.specs.Contents.{Bytes}
+use Rattle.history_laws.specs.Entries.{Entry}
 use Rattle.history_laws.specs.Links.{Listening}
 use Rattle.history_laws.specs.Lists.{IsIn}
-use Rattle.history_laws.specs.Sound.{Places}
+use Rattle.history_laws.specs.Sound.{Places, LineSound}
+use Rattle.line_machine.specs.Openings.{IsOpenedLine}
 use Rattle.line_machine.specs.Steps.{Step, Adopts, effect}
 use Rattle.line_machine.specs.Views.{Kit, Batch, LineView}
 
@@ -46,6 +49,11 @@ module _ (makes : Makes) (listening : Listening) (bytes : Bytes) (places : Place
   KitsStay =
       (i : LineView places) (x : Step makes listening bytes i) (p : Kit → Bool)
       → count p (kits_of (effect makes listening bytes i x).line) + count p (effect makes listening bytes i x).closed ≡ count p (kits_of i) + count p (new_kits i x)
+
+  -- At first all kits are at home.
+  abbrev pub OpenedKitsAreTheirs : Type 0
+  OpenedKitsAreTheirs =
+      (told : List Entry) (image : Image) (sound : LineSound makes bytes places told image) (i : LineView places) → IsOpenedLine makes listening bytes places told image sound i → AreOfTheirs i
 
   -- A batch is run by a kit of the generation under which it was read: a step keeps it so.
   abbrev pub KitsAreTheirs : Type 0

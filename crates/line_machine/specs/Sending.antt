@@ -2,13 +2,15 @@
 use Rattle.std.specs.Prelude.{◌≡◌, true, false, List, ◌++◌}
 use Rattle.pipeline_bus.specs.Parcels.{is_last, numbered}
 use Rattle.pipeline_bus.specs.declared.parcel.Parcel.{Parcel}
+use Rattle.store_trait.specs.Images.{Image}
 use Rattle.event_flow.specs.Meaning.{Makes}
 use Rattle.history_laws.specs.Contents.{Bytes}
 use Rattle.history_laws.specs.Entries.{Entry}
 use Rattle.history_laws.specs.Links.{Listening, WasNext}
 use Rattle.history_laws.specs.Lists.{IsIn}
-use Rattle.history_laws.specs.Sound.{Places}
+use Rattle.history_laws.specs.Sound.{Places, LineSound}
 use Rattle.line_machine.specs.Ends.{SenderView}
+use Rattle.line_machine.specs.Openings.{IsOpenedLine, opening}
 use Rattle.line_machine.specs.Stands.{Stands}
 use Rattle.line_machine.specs.Steps.{Step, effect, GoesOn}
 use Rattle.line_machine.specs.Views.{LineView}
@@ -23,7 +25,12 @@ module _ (makes : Makes) where
   SendersStand told ss = (s : SenderView) → IsIn s ss → SenderStands told s
 
 module _ (makes : Makes) (listening : Listening) (bytes : Bytes) (places : Places) where
-  -- So it is behind each step; new ends have sent nothing.
+  -- So it is once a line was opened, and behind each step; new ends have sent nothing.
+  abbrev pub OpenedParcelsWereDue : Type 0
+  OpenedParcelsWereDue =
+      (told : List Entry) (image : Image) (sound : LineSound makes bytes places told image) (i : LineView places) → IsOpenedLine makes listening bytes places told image sound i
+      → SendersStand makes (told ++ opening makes listening bytes places told image sound i) i.senders
+
   abbrev pub ParcelsWereDue : Type 0
   ParcelsWereDue =
       (told : List Entry) (i : LineView places) (x : Step makes listening bytes i) → Stands makes bytes places told i → SendersStand makes told i.senders → GoesOn makes listening bytes i x

@@ -3,11 +3,11 @@ ghost use Rattle.event_flow.specs.Meaning.{Makes};
 ghost use Rattle.history_laws.specs.Contents.{Bytes};
 ghost use Rattle.history_laws.specs.Links.{Listening};
 ghost use Rattle.history_laws.specs.Sound.{Places};
-ghost use Rattle.line_machine.specs.Answering.{AnswersStand};
-ghost use Rattle.line_machine.specs.Kits.{KitsStay, KitsAreTheirs};
+ghost use Rattle.line_machine.specs.Answering.{AnswersStand, OpenedLinksStand};
+ghost use Rattle.line_machine.specs.Kits.{KitsStay, KitsAreTheirs, OpenedKitsAreTheirs};
 ghost use Rattle.line_machine.specs.Laws.{CallsFollow, StepsFollow};
 ghost use Rattle.line_machine.specs.Openings.{OpenedLineStands, RunsStand};
-ghost use Rattle.line_machine.specs.Sending.{ParcelsWereDue};
+ghost use Rattle.line_machine.specs.Sending.{OpenedParcelsWereDue, ParcelsWereDue};
 ghost use Rattle.line_machine.specs.Resting.{OpenedLineSettles, RestIsDone, StepsSettle, StopIsStopped};
 
 /// Whatever step a line makes, and whatever a call of it answers, its history stays legal, whatever a stop within it leaves is sound with the history
@@ -31,17 +31,21 @@ pub fn lines_stand()
 /// No step loses a kit, doubles one or closes one that is out; and a batch is run by a kit of the generation under
 /// which it was read.
 pub fn kits_stay()
+    ensures opened { (makes : Makes) (listening : Listening) (bytes : Bytes) (places : Places)
+        → OpenedKitsAreTheirs makes listening bytes places }
     ensures counted { (makes : Makes) (listening : Listening) (bytes : Bytes) (places : Places)
         → KitsStay makes listening bytes places }
     ensures theirs { (makes : Makes) (listening : Listening) (bytes : Bytes) (places : Places)
         → KitsAreTheirs makes listening bytes places }
 {}
 
-/// What a line took from links and answered agrees with what it told, behind each step: it answers that a parcel is
+/// What a line took from links and answered agrees with what it told, from its opening on, behind each step: it answers that a parcel is
 /// assured only where all its events stand in rows that are settled, and that nobody listens only to one of which
 /// no event was accepted; and rows that name a parcel are what is made of its events, in order.
 pub fn answers_are_true()
-    ensures { (makes : Makes) (listening : Listening) (bytes : Bytes) (places : Places)
+    ensures opened { (makes : Makes) (listening : Listening) (bytes : Bytes) (places : Places)
+        → OpenedLinksStand makes listening bytes places }
+    ensures kept { (makes : Makes) (listening : Listening) (bytes : Bytes) (places : Places)
         → AnswersStand makes listening bytes places }
 {}
 
@@ -61,8 +65,10 @@ pub fn rest_is_done()
 {}
 
 /// Each parcel with events that a line sent was, when it was sent, the next delivery that was due of one of its
-/// batches to the address, and parcels are numbered; so it is behind each step.
+/// batches to the address, and parcels are numbered; so it is from the opening on, behind each step.
 pub fn parcels_were_due()
-    ensures { (makes : Makes) (listening : Listening) (bytes : Bytes) (places : Places)
+    ensures opened { (makes : Makes) (listening : Listening) (bytes : Bytes) (places : Places)
+        → OpenedParcelsWereDue makes listening bytes places }
+    ensures kept { (makes : Makes) (listening : Listening) (bytes : Bytes) (places : Places)
         → ParcelsWereDue makes listening bytes places }
 {}
