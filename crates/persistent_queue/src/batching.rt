@@ -25,6 +25,10 @@ pub(crate) struct Cursor {
     pub(crate) place: u64,
     /// The part of that file that was read last.
     pub(crate) block: Block,
+    /// Room for the rows of the next batch. It is taken while those of the last are still held: where it was
+    /// asked for behind their release, the allocator would join all the memory that they gave back, and cut
+    /// it up again for the next rows.
+    pub(crate) room: Items<QueueRow>,
 }
 
 impl Model for Cursor {

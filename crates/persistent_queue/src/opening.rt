@@ -20,7 +20,7 @@ use crate::limits::{Limits, Numbers};
 use crate::pages::HeldPage;
 use crate::queue::Queue;
 use crate::writing::count_bytes;
-use plain_data::Text;
+use plain_data::{Items, Text};
 use queue_core::{Mark, Opened, Tail, checkpoint_name, head_name, open_folder, page_name};
 use queue_page::{BLOCK_LEN, Block, Page};
 use std::alloc::{AllocError, Global};
@@ -211,13 +211,13 @@ fn first_row(alloc: Global, tails: &[HeldPage], top: &HeldPage) -> Result<Cursor
 {
     let block = Block::new(alloc, BLOCK_LEN)?;
     match tails.first() {
-        Some(first) => Ok(row_of(first, block)),
-        None => Ok(row_of(top, block)),
+        Some(first) => Ok(row_of(alloc, first, block)),
+        None => Ok(row_of(alloc, top, block)),
     }
 }
 
 /// The place of the first row of a page, of which nothing was read yet.
-fn row_of(page: &HeldPage, block: Block) -> Cursor
+fn row_of(alloc: Global, page: &HeldPage, block: Block) -> Cursor
     requires { block ≡ record { place = 0; bytes = [] } }
     ensures { result ≡ cursor_at page.now }
 {
@@ -226,6 +226,7 @@ fn row_of(page: &HeldPage, block: Block) -> Cursor
         number: page.state().least,
         place: 1,
         block,
+        room: Items::new(alloc),
     }
 }
 

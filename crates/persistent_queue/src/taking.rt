@@ -12,9 +12,10 @@ ghost use Rattle.persistent_queue.specs.Taking.{stand, entered, is_passed, page_
 
 use crate::batching::{Batch, Cursor};
 use crate::limits::Numbers;
-use crate::page_rows::Reading;
+use crate::page_rows::{QueueRow, Reading};
 use crate::pages::HeldPage;
 use crate::queue::Queue;
+use plain_data::Items;
 use queue_page::{BLOCK_LEN, Block};
 use std::alloc::{AllocError, Global};
 use std::mem;
@@ -22,6 +23,9 @@ use store_disk::{QueueFault, Store};
 
 /// How many bytes the bodies of the rows of a batch may have together, unless it has a single row: 64 MiB.
 const BATCH_BYTES: u64 = 67_108_864;
+
+/// For how many rows of the next batch room is kept at most.
+const MOST_ROOM: usize = 1024;
 
 /// The place of the first row in the file of a page.
 const FIRST_PLACE: u64 = 1;
@@ -122,6 +126,30 @@ fn read_all<S: Store>(
     read_one(alloc, store, top, page, block, reading)
 }
 
+/// No rows yet for a batch of at most so many, where the next row stands where the cursor says. They come into
+/// its room.
+fn begun(alloc: Global, most: u32, cursor: &mut Cursor) -> Reading
+    ensures reading { result ≡ (begun most cursor.old).reading }
+    ensures cursor { cursor.new ≡ cursor.old }
+{
+    let mut rows = mem::replace(&mut cursor.room, Items::new(alloc));
+    rows.clear();
+    Reading {
+        most_rows: most as usize,
+        most_bytes: BATCH_BYTES,
+        number: cursor.number,
+        place: cursor.place,
+        bytes: None,
+        rows,
+        closed: false,
+    }
+}
+
+/// Room for so many rows, but not for more than a common batch has; none where there is no memory.
+fn room_for(alloc: Global, rows: usize) -> Items<QueueRow> {
+    Items::with_capacity(alloc, rows.min(MOST_ROOM)).unwrap_or(Items::new(alloc))
+}
+
 /// Reads the next rows for a batch, at most so many, and goes behind them. Where that fails, the next row is
 /// the one before it.
 fn read_from<S: Store>(
@@ -151,14 +179,8 @@ fn read_from<S: Store>(
     ensures same { ChangesNothing S.tells S.seen S.moment S.may_leave store.old store.new }
     ensures cause { HasCause (S.faults store.old) (S.faults store.new) (result ≡ Err f.Fault) }
 {
+    let mut reading = begun(alloc, most, cursor);
     let mut page = cursor.page;
-    let mut reading = Reading::new(
-        alloc,
-        most as usize,
-        BATCH_BYTES,
-        cursor.number,
-        cursor.place,
-    );
     let mut block = mem::replace(&mut cursor.block, Block::new(alloc, 0)?);
     read_all(
         alloc,
@@ -173,6 +195,7 @@ fn read_from<S: Store>(
     cursor.number = reading.number;
     cursor.place = reading.place;
     cursor.block = block;
+    cursor.room = room_for(alloc, reading.rows.len());
     Ok(reading)
 }
 
