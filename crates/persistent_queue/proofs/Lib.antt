@@ -22,3 +22,7 @@ pub mod PlacedRows
 pub mod UnreadRows
 pub mod UnreadCalls
 pub mod GivenRows
+pub mod RisingRows
+pub mod OpenRows
+pub mod GivenOnce
+pub mod StopsLeft

@@ -16,7 +16,7 @@ abbrev pub AreWithin : ℕ → List OpenPage → Type 0
 AreWithin top [] = ⊤
 AreWithin top (o ∷ pages) = (o.number ≤ top) × AreWithin top pages
 
-ok_same : {x y : Stand} → ◌≡◌ {A = Result Stand Damage} (Ok x) (Ok y) → x ≡ y
+pub ok_same : {x y : Stand} → ◌≡◌ {A = Result Stand Damage} (Ok x) (Ok y) → x ≡ y
 ok_same is = cc
 
 module _ (content : Content) (top : ℕ) where

@@ -103,7 +103,7 @@ module _ (content new : Content) (c : CursorView) where
 
 -- ---- rows with consecutive numbers
 
-numbered_left : (number k : ℕ) (rows : List PageRow) → AreNumbered number rows → AreNumbered (number + k) (drop k rows)
+pub numbered_left : (number k : ℕ) (rows : List PageRow) → AreNumbered number rows → AreNumbered (number + k) (drop k rows)
 numbered_left number zero rows are = let same : number ≡ number + 0 = omega arith in subst (λ n. AreNumbered n rows) same are
 numbered_left number (suc k) [] are = tt
 numbered_left number (suc k) (r ∷ rows) are = let same : suc number + k ≡ number + suc k = omega arith in subst (λ n. AreNumbered n (drop k rows)) same (numbered_left (suc number) k rows are.1)
@@ -140,7 +140,7 @@ since_more from (r ∷ rows) row late = by (nat_lt r.number from) (since_more fr
 -- ---- what is left of a page
 
 -- none of its rows, those from the next one on, or all of them
-left_by : (P : List PageRow → Type 0) (s : Stand) (o : OpenPage) (rows : List PageRow) → (o.number < s.page → P []) → (o.number ≡ s.page → P (drop (s.reading.number - o.page.state.least) rows)) → (s.page < o.number → P rows)
+pub left_by : (P : List PageRow → Type 0) (s : Stand) (o : OpenPage) (rows : List PageRow) → (o.number < s.page → P []) → (o.number ≡ s.page → P (drop (s.reading.number - o.page.state.least) rows)) → (s.page < o.number → P rows)
     → P (left_in s o rows)
 left_by P s o rows none some all = elim (cases_Bool (nat_lt o.number s.page)) [
   | inl below ↦ subst P (sym (cond-true _ _ _ below)) (none (grind (arith, nat_tests, below)))

@@ -11,3 +11,5 @@ pub mod Opening
 pub mod QueueBatches
 pub mod Writing
 pub mod UnreadRows
+pub mod GivenOnce
+pub mod Stops

@@ -3,10 +3,11 @@ use Rattle.std.specs.Prelude.{◌≡◌, ◌≤◌, ◌⊎◌, ℕ, ◌-◌, ◌
 use Rattle.io_traits.specs.Folders.{Content}
 use Rattle.io_traits.specs.Reads.{bytes_of, file_length}
 use Rattle.store_disk.specs.declared.faults.Damage.{Damage}
+use Rattle.store_disk.specs.declared.faults.QueueFault.{QueueFault}
 use Rattle.queue_page.specs.Blocks.{IsPart}
 use Rattle.queue_page.specs.Elements.{and_then}
 use Rattle.queue_page.specs.Views.{BlockView}
-use Rattle.persistent_queue.specs.Batching.{is_over, rows_read}
+use Rattle.persistent_queue.specs.Batching.{is_over, rows_read, Finds}
 use Rattle.persistent_queue.specs.Calls.{end_of, is_spent}
 use Rattle.persistent_queue.specs.Views.{OpenPage, CursorView, QueueView}
 use Rattle.persistent_queue.specs.declared.batching.Batch.{Batch}
@@ -99,6 +100,18 @@ behind_take block s v =
 
 abbrev pub taken_of : BlockView → QueueView → Stand → Result (Option Batch × QueueView) Damage
 taken_of block v s = Ok (batch_of s.reading, behind_take block s v)
+
+-- the next rows, as many as a batch may have, and the queue behind them; or the first damage of an element that is read for them
+abbrev pub GivesNextRows : ℕ → Content → QueueView → Result (Option Batch) QueueFault → QueueView → Type 0
+GivesNextRows most content v result next = Finds (λ batch. (batch, next)) result (and_then (rows_taken most content v) (taken_of next.cursor.block v))
+
+-- the same queue, but for what is given next
+abbrev pub IsSameButNext : QueueView → QueueView → Type 0
+IsSameButNext v next = next ≡ record v { unread = next.unread; cursor = next.cursor }
+
+-- the same queue, which gives the same row next: another part of its page may be held
+abbrev pub HasSameNext : QueueView → QueueView → Type 0
+HasSameNext v next = next ≡ with_block next.cursor.block v
 
 -- ---- what is held of the files
 

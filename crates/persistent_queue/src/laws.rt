@@ -1,7 +1,9 @@
 //! What holds of open queues and of batches as rows. Each function here does nothing: its clause is a theorem.
 ghost use Rattle.persistent_queue.specs.Acknowledging.{AcknowledgedIsOpen, AcknowledgedIsReady};
+ghost use Rattle.persistent_queue.specs.GivenOnce.{RowsAreGivenOnce};
 ghost use Rattle.persistent_queue.specs.NextBatch.{NextBatchIsRead};
 ghost use Rattle.persistent_queue.specs.QueueBatches.{FirstRowsAreTaken};
+ghost use Rattle.persistent_queue.specs.Stops.{StopLeavesAsWritten};
 ghost use Rattle.persistent_queue.specs.Unread.{NextRowsAreRead};
 ghost use Rattle.persistent_queue.specs.UnreadRows.{AcknowledgedLeavesUnread, AllAreGiven, MarkLeavesUnread};
 ghost use Rattle.persistent_queue.specs.UnreadRows.{OpenedRowsAreUnread};
@@ -65,4 +67,17 @@ pub fn a_mark_leaves_unread<S: Store>()
 /// Of a queue that was opened, and behind a mark, each acknowledged row was given or is recorded.
 pub fn all_acknowledged_rows_are_given<S: Store>()
     ensures { AllAreGiven S.Store }
+{}
+
+/// From an opening on each row is given once, in the order of the numbers, whatever calls come one behind the
+/// other: those that were found, and then those that were written. Where batches are acknowledged that were given,
+/// no mark passes over a row; and there is no batch exactly where all rows were given.
+pub fn each_row_is_given_once<S: Store>()
+    ensures { RowsAreGivenOnce S.Store }
+{}
+
+/// Whatever a stop between two calls leaves of the folder of a queue is a folder as a queue leaves it, so that the
+/// next opening stands for its queue.
+pub fn a_stop_leaves_it_as_written<S: Store>()
+    ensures { StopLeavesAsWritten S.Store }
 {}

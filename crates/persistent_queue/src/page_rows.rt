@@ -83,8 +83,15 @@ fn end_of(page: &Page) -> u64
 }
 
 impl Reading {
-    /// No rows yet, where the next one has this number and stands at this place of its page.
-    pub fn new(alloc: Global, most_rows: usize, most_bytes: u64, number: u64, place: u64) -> Reading
+    /// No rows yet, where the next one has this number and stands at this place of its page. They come into this
+    /// room, whose rows go.
+    pub fn new(
+        mut room: Items<QueueRow>,
+        most_rows: usize,
+        most_bytes: u64,
+        number: u64,
+        place: u64,
+    ) -> Reading
         ensures { result ≡ record {
           most_rows = most_rows;
           most_bytes = most_bytes;
@@ -95,13 +102,14 @@ impl Reading {
           closed = false;
         } }
     {
+        room.clear();
         Reading {
             most_rows,
             most_bytes,
             number,
             place,
             bytes: None,
-            rows: Items::new(alloc),
+            rows: room,
             closed: false,
         }
     }

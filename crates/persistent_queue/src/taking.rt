@@ -5,10 +5,9 @@ ghost use Rattle.io_traits.specs.Reads.{bytes_of, file_length};
 ghost use Rattle.store_trait.specs.Calls.{ChangesNothing};
 ghost use Rattle.store_disk.specs.declared.faults.QueueFault.TheVariants as f;
 ghost use Rattle.queue_page.specs.Blocks.{IsPart};
-ghost use Rattle.queue_page.specs.Elements.{and_then};
 ghost use Rattle.persistent_queue.specs.Batching.{Finds};
 ghost use Rattle.persistent_queue.specs.Opens.{Becomes, IsOfFiles, IsReady, KeepsQueue};
-ghost use Rattle.persistent_queue.specs.Taking.{stand, entered, is_passed, page_read, pages_read, begun, rows_taken, batch_of, rows_in, with_block, taken_of, AreThere, WasRead};
+ghost use Rattle.persistent_queue.specs.Taking.{stand, entered, is_passed, page_read, pages_read, begun, batch_of, rows_in, AreThere, GivesNextRows, HasSameNext, IsSameButNext, WasRead};
 
 use crate::batching::{Batch, Cursor};
 use crate::limits::Numbers;
@@ -132,17 +131,14 @@ fn begun(alloc: Global, most: u32, cursor: &mut Cursor) -> Reading
     ensures reading { result ≡ (begun most cursor.old).reading }
     ensures cursor { cursor.new ≡ cursor.old }
 {
-    let mut rows = mem::replace(&mut cursor.room, Items::new(alloc));
-    rows.clear();
-    Reading {
-        most_rows: most as usize,
-        most_bytes: BATCH_BYTES,
-        number: cursor.number,
-        place: cursor.place,
-        bytes: None,
-        rows,
-        closed: false,
-    }
+    let room = mem::replace(&mut cursor.room, Items::new(alloc));
+    Reading::new(
+        room,
+        most as usize,
+        BATCH_BYTES,
+        cursor.number,
+        cursor.place,
+    )
 }
 
 /// Room for so many rows, but not for more than a common batch has; none where there is no memory.
@@ -233,17 +229,12 @@ impl Queue {
 
         // The next rows, and the queue behind them; or the first damage of an element that is read for them.
         ensures batch { IsTrue S.tells → IsOfFiles self.old (S.seen store.old)
-            → Finds (λ batch. (batch, self.new)) result
-            (and_then (rows_taken most (S.seen store.old) self.old)
-            (taken_of self.new.cursor.block self.old)) }
+            → GivesNextRows most (S.seen store.old) self.old result self.new }
         ensures none { self.old.unread ≡ 0 → result ≡ Ok None }
         ensures unread { IfOk result (λ batch.
             self.new.unread ≡ self.old.unread - rows_in batch) }
-        ensures rest { self.new ≡ record self.old {
-          unread = self.new.unread;
-          cursor = self.new.cursor;
-        } }
-        ensures err { OnErr result (self.new ≡ with_block self.new.cursor.block self.old) }
+        ensures rest { IsSameButNext self.old self.new }
+        ensures err { OnErr result (HasSameNext self.old self.new) }
 
         // Of the queue of a folder: it stays, and so does what a stop leaves.
         ensures ready { IsReady S.Store self.old store.old → IsReady S.Store self.new store.new }
