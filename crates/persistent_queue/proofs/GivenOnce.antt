@@ -6,20 +6,22 @@ use Rattle.store_disk.specs.declared.faults.Damage.{Damage}
 use Rattle.event_tree.specs.Events.{Ev}
 use Rattle.io_traits.specs.Folders.{Content}
 use Rattle.queue_page.specs.Elements.{and_then}
+use Rattle.queue_page.specs.Views.{BlockView}
+use Rattle.queue_page.specs.declared.row.PageRow.{PageRow}
 use Rattle.queue_laws.specs.Found.{Row}
 use Rattle.queue_laws.specs.Kept.{Queue, all_rows}
 use Rattle.queue_laws.specs.Steps.{marked}
 use Rattle.queue_core.specs.declared.opening.Opened.{Opened}
 use Rattle.persistent_queue.specs.Acknowledging.{acknowledged}
 use Rattle.persistent_queue.specs.Calls.{behind_acknowledge, behind_mark, behind_purge, end_of, with_marked, with_recorded, without_spent}
-use Rattle.persistent_queue.specs.GivenOnce.{AreBehind, AreOpen, AreRising, Calls, GivesNext, IsBatch, IsGiven, RowsAreGivenOnce, StillGives, is_acknowledged, rows_of, with_batch, acknowledge, mark, no_call, purge, take_batch, write}
+use Rattle.persistent_queue.specs.GivenOnce.{AreBehind, AreOpen, AreRising, Calls, GivesNext, IsBatch, IsGiven, RowsAreGivenOnce, StillGives, is_acknowledged, rows_of, with_batch, acknowledge, mark, no_batch, no_call, purge, take_batch, write}
 use Rattle.persistent_queue.specs.Opening.{cursor_at, first_of, queue_opened, OpensAs}
 use Rattle.persistent_queue.specs.Opens.{Becomes, IsAmong, purged}
-use Rattle.persistent_queue.specs.QueueBatches.{AreNamed, AreUnread}
-use Rattle.persistent_queue.specs.Taking.{Stand, all_pages, batch_from, batch_of, begun, behind_take, pages_read, rows_taken, taken_of}
+use Rattle.persistent_queue.specs.QueueBatches.{AreNamed, AreUnread, CursorStands, page_rows}
+use Rattle.persistent_queue.specs.Taking.{Stand, all_pages, batch_from, batch_of, begun, behind_take, pages_read, rows_taken, taken_of, HasSameNext, with_block}
 use Rattle.persistent_queue.specs.Unread.{told}
 use Rattle.persistent_queue.specs.UnreadRows.{AreGiven, next_row}
-use Rattle.persistent_queue.specs.Views.{OpenPage, QueueView}
+use Rattle.persistent_queue.specs.Views.{CursorView, OpenPage, QueueView}
 use Rattle.persistent_queue.specs.Writing.{behind_append, behind_write, frame_size, made_ready, needs_page, next_top, sealed, with_open_row, with_written}
 use Rattle.persistent_queue.specs.declared.batching.Batch.{Batch}
 use Rattle.persistent_queue.specs.declared.limits.Limits.{Limits}
@@ -88,6 +90,12 @@ first_among (o ∷ tails) top = inl refl
 
 ok_pair : {x y : Option Batch × QueueView} → ◌≡◌ {A = Result (Option Batch × QueueView) Damage} (Ok x) (Ok y) → x ≡ y
 ok_pair is = cc
+
+-- the next row stands where it stood, whatever was read last
+block_stands : (content : Content) (c : CursorView) (block : BlockView) (pages : List OpenPage) (rows : List (List PageRow)) → CursorStands content c pages rows → CursorStands content (record c { block = block }) pages rows
+block_stands content c block [] rows stands = tt
+block_stands content c block (o ∷ pages) [] stands = tt
+block_stands content c block (o ∷ pages) (rows ∷ others) stands = (stands.0, block_stands content c block pages others stands.1)
 
 module _ (most : ℕ) (content : Content) (v : QueueView) where
   -- a reading ends where the next row was, or in a page of the queue
@@ -227,6 +235,21 @@ module _ {S : Type 0} (store : StoreWords S) where
         λ none. sym batch_is ∙ no_row got.s.reading got.s.reading.rows got.rest (got.all ∙ none),
       )
 
+    lost_gives : (next : QueueView) (new : S) → HasSameNext v next → ChangesNothing store.tells store.seen store.moment store.may_leave old new → Becomes store (λ q. q) v next old new → GivesNext store next q rows new
+    lost_gives next new is same becomes =
+        let block = next.cursor.block in
+        let unread = g.unread.unread in
+        let left : AreUnread (store.seen old) (with_block block v) q rows = record { stands = block_stands (store.seen old) v.cursor block (all_pages v) (page_rows q) unread.stands; rows_are = unread.rows_are; count = unread.count } in
+        record {
+          unread = record {
+            opens = becomes q g.unread.opens;
+            named = subst (λ (x : QueueView). AreNamed x.folder (all_pages x)) (sym is) g.unread.named;
+            unread = subst (λ (x : QueueView). AreUnread (store.seen new) x q rows) (sym is) (subst (λ (c : Content). AreUnread c (with_block block v) q rows) (sym (same.reads tells)) left);
+          };
+          still = subst (λ (x : QueueView). AreOpen (all_pages x) rows) (sym is) g.still;
+          rise = subst (λ (x : QueueView). AreRising x.cursor.number rows (end_of x.top)) (sym is) g.rise;
+        }
+
   -- ---- whole runs
 
   module _ (v : QueueView) (q : Queue) (rows : List Row) (s : S) (tells : IsTrue store.tells) (g : GivesNext store v q rows s) where
@@ -269,6 +292,16 @@ module _ {S : Type 0} (store : StoreWords S) where
               ∙ ap (λ (l : List Row). rows_of given ++ l) (taken_all before i.queue i.rows old tells i.next most batch w is) ∙ i.are_all;
           in_order = subst (λ n. AreRising 0 (rows ++ written) n) (sym (same_end before i.queue i.rows old tells i.next most batch w is)) i.in_order;
           behind = behind_taken before i.queue i.rows old tells i.next most batch w is given i.behind;
+        }
+    calls_give given written w new (no_batch {w = before} {old = old} calls is same becomes) =
+        let i = calls_give given written before old calls in
+        record {
+          queue = i.queue;
+          rows = i.rows;
+          next = lost_gives before i.queue i.rows old tells i.next w new is same becomes;
+          are_all = i.are_all;
+          in_order = subst (λ (x : QueueView). AreRising 0 (rows ++ written) (end_of x.top)) (sym is) i.in_order;
+          behind = subst (λ (x : QueueView). AreBehind given i.rows (end_of x.top)) (sym is) i.behind;
         }
     calls_give given written w new (acknowledge {w = before} batch calls is) =
         let i = calls_give given written before new calls in

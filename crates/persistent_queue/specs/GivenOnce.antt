@@ -11,7 +11,7 @@ use Rattle.queue_core.specs.declared.opening.Opened.{Opened}
 use Rattle.persistent_queue.specs.Calls.{behind_acknowledge, behind_mark, behind_purge, end_of}
 use Rattle.persistent_queue.specs.Opening.{queue_opened, OpensAs}
 use Rattle.persistent_queue.specs.Opens.{Becomes, purged}
-use Rattle.persistent_queue.specs.Taking.{all_pages, GivesNextRows}
+use Rattle.persistent_queue.specs.Taking.{all_pages, GivesNextRows, HasSameNext}
 use Rattle.persistent_queue.specs.Unread.{told}
 use Rattle.persistent_queue.specs.UnreadRows.{HasUnread, next_row}
 use Rattle.persistent_queue.specs.Views.{OpenPage, QueueView}
@@ -75,8 +75,8 @@ module _ {S : Type 0} (store : StoreWords S) where
 
   -- ---- whole runs
 
-  -- Calls of a queue that is open, one behind the other, each of which succeeds: the batches that they gave, the rows that they wrote, and the queue and the store behind them. A batch
-  -- that was given may be acknowledged at any time.
+  -- Calls of a queue that is open, one behind the other, each of which succeeds, but that a call for a batch may fail: the batches that they gave, the rows that they wrote, and the queue and the
+  -- store behind them. A batch that was given may be acknowledged at any time.
   pub data Calls (v : QueueView) (s : S) : List Batch → List Row → QueueView → S → Type 0 where
     no_call : Calls v s [] [] v s
     write : {given : List Batch} {written : List Row} {w : QueueView} {old new : S} (origin : List ℕ) (event : Ev) → Calls v s given written w old
@@ -84,6 +84,8 @@ module _ {S : Type 0} (store : StoreWords S) where
         → Calls v s given (written ++ next_row w origin event ∷ []) (behind_write (frame_size origin event) w) new
     take_batch : {given : List Batch} {written : List Row} {w next : QueueView} {old new : S} (most : ℕ) (batch : Option Batch) → Calls v s given written w old → IsBatch most (store.seen old) w batch next
         → ChangesNothing store.tells store.seen store.moment store.may_leave old new → Becomes store (λ q. q) w next old new → Calls v s (with_batch given batch) written next new
+    no_batch : {given : List Batch} {written : List Row} {w next : QueueView} {old new : S} → Calls v s given written w old → HasSameNext w next
+        → ChangesNothing store.tells store.seen store.moment store.may_leave old new → Becomes store (λ q. q) w next old new → Calls v s given written next new
     acknowledge : {given : List Batch} {written : List Row} {w : QueueView} {now : S} (batch : Batch) → Calls v s given written w now → IsGiven batch given
         → Calls v s given written (behind_acknowledge batch.numbers w) now
     mark : {given : List Batch} {written : List Row} {w : QueueView} {old new : S} → Calls v s given written w old → Becomes store marked w (behind_mark w) old new
