@@ -43,7 +43,7 @@ split_of-SplitsInto limit bytes (line ∷ lines) rest some split =
     ap (split_of limit) (split.whole ∙ append_assoc (line_bytes line) (flat_map line_bytes lines) rest) ∙ split_of-line limit line more some split.each.0
     ∙ ap (with_first line) (split_of-SplitsInto limit more lines rest some later)
 
-all_append : {X : Type 0} (P : X → Type 0) (xs ys : List X) → AllByRecursion P xs → AllByRecursion P ys → AllByRecursion P (xs ++ ys)
+pub all_append : {X : Type 0} (P : X → Type 0) (xs ys : List X) → AllByRecursion P xs → AllByRecursion P ys → AllByRecursion P (xs ++ ys)
 all_append P [] ys one other = other
 all_append P (x ∷ xs) ys one other = (one.0, all_append P xs ys one.1 other)
 

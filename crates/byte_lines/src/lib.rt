@@ -16,6 +16,7 @@ mod reader;
 mod text;
 
 pub use by_byte::lines_of_bytes;
+pub use find::{FoundLine, find_line};
 pub use laws::{
     cutting_changes_nothing, lines_are_those_of_the_bytes, lines_come_one_by_one,
     text_is_that_of_the_bytes,

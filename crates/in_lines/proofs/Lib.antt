@@ -1,6 +1,8 @@
 pub mod Made
 pub mod Receiving
+pub mod Reading
 pub mod Cutting
+pub mod Beside
 pub mod Polled
 pub mod Sound
 pub mod Short

@@ -18,6 +18,9 @@ text_short _ _ (character c more text ok rest) =
     let h = text_short more text rest in omega (arith, h, length-append (encode_utf8 c) more, length-append (encode_utf8 c) text)
 text_short _ _ (replaced b more text none rest) = let h = text_short more text rest in omega (arith, h, length-append replacement_bytes text)
 
+pub text_of_short : (bytes : List ℕ) → length (text_of bytes) ≤ 3 * length bytes
+text_of_short bytes = text_short bytes (text_of bytes) (DecodesTo-text_of bytes)
+
 stripped_short : (bytes : List ℕ) → length (strip_carriage_return bytes) ≤ length bytes
 stripped_short bytes = by (slice_index bytes (length bytes - 1) == 13)
   where
@@ -25,7 +28,7 @@ stripped_short bytes = by (slice_index bytes (length bytes - 1) == 13)
     by true = search rules
     by false = omega arith
 
-content_short : (limit : ℕ) (line : RawLine) → IsRawLine limit line → length (line_content line) ≤ limit
+pub content_short : (limit : ℕ) (line : RawLine) → IsRawLine limit line → length (line_content line) ≤ limit
 content_short limit (Ended bytes) is = let h = stripped_short bytes in omega (arith, h, is.1)
 content_short limit (Full bytes) is = omega (arith, is.1)
 
@@ -40,7 +43,7 @@ first_short u text more some is =
     by (split_of u.limit u.bytes).lines (split_of u.limit u.bytes).rest s.each s.short is
   where
     of_bytes : (bytes : List ℕ) → length bytes ≤ u.limit → text_of bytes ≡ text → length text ≤ 3 * u.limit
-    of_bytes bytes short same = let h = text_short bytes (text_of bytes) (DecodesTo-text_of bytes) in omega (arith, h, short, ap length same)
+    of_bytes bytes short same = let h = text_of_short bytes in omega (arith, h, short, ap length same)
 
     last : (e : Bool) (rest : List ℕ) → length rest < u.limit → (if e then last_line rest else []) ≡ text ∷ more → length text ≤ 3 * u.limit
     last false rest short said = absurd (omega (arith, ap length said))

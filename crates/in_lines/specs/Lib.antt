@@ -1,4 +1,6 @@
 pub mod Polls
+pub mod Sources
+pub mod Readings
 pub mod Events
 pub mod Decoding
 pub mod Rows

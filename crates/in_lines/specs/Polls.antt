@@ -43,13 +43,15 @@ pub record Received : Type 0 where
 abbrev pub received_at : ℤ → List (List ℕ) → List Received
 received_at moment lines = map (λ line. record { line = line; moment = moment }) lines
 
--- the lines that some polls made whole, where others were before them: each poll made those whole that stand among the lines of
--- all bytes after it and stood not among them before it
+-- the lines that a poll made whole, where others were before it: those that stand among the lines of all bytes after it and stood not
+-- among them before it
+abbrev pub made_whole : ℕ → List Poll → Poll → List Received
+made_whole limit before poll = received_at poll.moment (drop (length (lines_through limit before)) (lines_through limit (before ++ poll ∷ [])))
+
+-- the lines that some polls made whole, where others were before them
 abbrev pub received_after : ℕ → List Poll → List Poll → List Received
 received_after limit before [] = []
-received_after limit before (poll ∷ polls) =
-    received_at poll.moment (drop (length (lines_through limit before)) (lines_through limit (before ++ poll ∷ [])))
-    ++ received_after limit (before ++ poll ∷ []) polls
+received_after limit before (poll ∷ polls) = made_whole limit before poll ++ received_after limit (before ++ poll ∷ []) polls
 
 unfoldable pub received : ℕ → List Poll → List Received
 received limit polls = received_after limit [] polls

@@ -1,12 +1,14 @@
 //! The event of a line, by the codec of its input.
 
 ghost use Rattle.std.specs.Prelude.{◌≡◌, ◌≤◌, ◌∷◌, [], codes, length, IfOk, OnOk};
+ghost use Rattle.byte_lines.specs.Text.{text_of};
 ghost use Rattle.decoded_fields.specs.Decoded.{named};
 ghost use Rattle.event_text.specs.Options.{each_done, set_at, tagged};
 ghost use Rattle.event_tree.specs.declared.value.Value.TheVariants as v;
 ghost use Rattle.in_lines.specs.Decoding as spec;
 
 use crate::event::event_of_line;
+use byte_lines::text_of_bytes;
 use decoded_fields::{failure_tags, field_path, json_value, place};
 use event_text::{add_tag, try_put};
 use event_tree::{Event, Fields, Names, Path, Text, Value};
@@ -39,6 +41,27 @@ pub fn event_by_codec(
         Codec::Json | Codec::JsonLines => {
             let value = json_value(alloc, line)?;
             event_of_json(alloc, value, line, moment)
+        }
+    }
+}
+
+/// The event of the bytes of a line, of which each byte that begins no character becomes U+FFFD. They are at most 1,048,576.
+/// Bytes that are text are copied straight into the event. The only error is want of memory.
+pub fn event_of_bytes(
+    alloc: Global,
+    codec: Codec,
+    bytes: &[u8],
+    moment: Instant,
+) -> Result<Event, AllocError>
+    requires { length bytes.now ≤ 1048576 }
+    ensures { IfOk result (λ event. event
+        ≡ spec.event_by codec (record { line = text_of bytes.now; moment = moment })) }
+{
+    match str::from_utf8(bytes) {
+        Ok(line) => event_by_codec(alloc, codec, line, moment),
+        Err(_) => {
+            let line = text_of_bytes(alloc, bytes)?;
+            event_by_codec(alloc, codec, line.as_str(), moment)
         }
     }
 }

@@ -11,6 +11,7 @@ mod by_poll;
 mod decoding;
 mod event;
 mod generator;
+mod got;
 mod input;
 mod laws;
 mod poll;
@@ -19,14 +20,17 @@ mod sample;
 mod settings;
 
 pub use by_poll::events_of_polls;
-pub use decoding::event_by_codec;
+pub use decoding::{event_by_codec, event_of_bytes};
 pub use event::{LINE_LIMIT, event_of_line, line_event};
 pub use event_text::Options;
 pub use generator::{GeneratedLines, Generator, Progress};
+pub use got::{Got, PollFault};
 pub use input::LineInput;
 pub use laws::{
-    cutting_a_piece_changes_no_line, each_poll_adds_the_lines_that_it_makes_whole,
-    received_lines_are_those_of_all_bytes,
+    cutting_a_piece_changes_no_line, cutting_a_piece_of_a_source_changes_no_line,
+    each_look_adds_the_lines_that_it_makes_whole, each_poll_adds_the_lines_that_it_makes_whole,
+    each_source_has_the_lines_of_its_polls, looks_go_on_from_what_is_left,
+    one_place_is_behind_the_lines, received_lines_are_those_of_all_bytes,
 };
 pub use poll::{Piece, Poll};
 pub use row::write_row;

@@ -1,13 +1,12 @@
 -- Calls that look at a store, and a change of one file behind them.
-use Rattle.std.proofs.Common.{◌≡◌, inl, inr, ⊎_elim, ℕ, IsTrue, List, length, Option, Some, None, option_map, unwrap_or, refl, sym, ap, ◌∙◌}
+use Rattle.std.proofs.Common.{◌≡◌, inl, inr, ⊎_elim, ℕ, IsTrue, List, length, Option, Some, None, option_map, unwrap_or, refl, ap, ◌∙◌}
 use Rattle.io_traits.specs.Reads.{bytes_of, file_length}
-use Rattle.store_trait.specs.Images.{Image, FileImage, IsAtRest, at_rest}
-use Rattle.store_trait.specs.Moments.{MayLeaveNow, NowOrSynced, EachMoment, ImagesTell}
+use Rattle.store_trait.specs.Images.{Image, FileImage, at_rest}
+use Rattle.store_trait.specs.Moments.{MayLeaveNow, EachMoment, ImagesTell}
 use Rattle.store_trait.specs.declared.stores.Store.{Ghosts as StoreWords}
-use Rattle.store_trait.proofs.Moments.{by_call, goes_on, one_then_other}
-use Rattle.store_trait.proofs.TailRuns.{Settles}
+use Rattle.store_trait.proofs.Moments.{by_call, one_then_other}
 use Rattle.store_disk.proofs.Looking.{Nothing}
-use Rattle.store_changes.specs.Changes.{AllRest, Alters}
+use Rattle.store_changes.specs.Changes.{Alters}
 use Rattle.position_file.specs.Positions.{recorded_in}
 use Rattle.position_file.specs.Writes.{OldOrNewPosition}
 
@@ -40,21 +39,3 @@ module _ {S : Type 0} (store : StoreWords S) (tell : ImagesTell store) (old mid 
           ⊎_elim (λ left. inl (looked.images a.0 left)) (λ synced. inr (told, λ n. synced.1 n ∙ ap (λ c. at_rest (c n)) (looked.reads told))) a.1,
           record { here = follows told (a.0 name) (i name) a.2.here; there = a.2.there },
         ))
-
-  -- a sync
-  module _ (settles : Settles store old mid) where
-    was_synced : (i : Image) → MayLeaveNow store mid i → NowOrSynced store old i
-    was_synced i left = ⊎_elim (λ still. inl still) (λ rests. inr (tell mid (store.moment mid) i left, rests)) (settles.images i left)
-
-    pub synced_only : EachMoment store old mid (NowOrSynced store old)
-    synced_only = by_call store old mid (NowOrSynced store old) settles.time (λ i left. inl left) was_synced
-
-    -- and a look behind it
-    module _ (new : S) (looked : Nothing store mid new) where
-      pub synced_looked : EachMoment store old new (NowOrSynced store old)
-      synced_looked = goes_on store old mid new (NowOrSynced store old) synced_only looked.time (λ i left. was_synced i (looked.images i left))
-
-      pub rests_looked : ((i : Image) → MayLeaveNow store mid i → IsAtRest (store.seen old) i) → AllRest store new
-      rests_looked durable i left n =
-          let told = tell new (store.moment new) i left in
-          durable i (looked.images i left) n ∙ sym (ap (λ c. at_rest (c n)) (looked.reads told ∙ settles.reads told))

@@ -2,7 +2,7 @@
 ghost use Rattle.std.specs.Prelude.{◌≡◌, ◌≢◌, ◌≤◌, ◌⊎◌, ℕ, IsTrue, IsErr, Ok, Err, length, take, nat_lt, IfOk, OnOk, option_map};
 ghost use Rattle.io_traits.specs.Counts.{HasCause};
 ghost use Rattle.io_traits.specs.Reads.{bytes_of, file_length};
-ghost use Rattle.store_trait.specs.Moments.{EachMoment, NowOrSynced, ReadsBeside};
+ghost use Rattle.store_trait.specs.Moments.{EachMoment, ReadsBeside};
 ghost use Rattle.store_disk.specs.declared.faults.QueueFault.TheVariants as f;
 ghost use Rattle.store_disk.specs.declared.faults.Damage.{Damage as DamageValue};
 ghost use Rattle.store_changes.specs.Changes.{AllRest, Settled, KeepsFirst, Alters};
@@ -14,22 +14,9 @@ ghost use Rattle.out_files.specs.Outputs.{IsReady, LeavesHeld};
 
 use crate::output::OutFile;
 use plain_data::Text;
-use position_file::{Recorded, read_position, record_position};
+use position_file::{Recorded, record_position, settle_and_read};
 use store_changes::cut_settled;
 use store_disk::{Damage, Failed, QueueFault, Store};
-
-// Settles all files, and reads what the position file records.
-fn settle_and_read<S: Store>(store: &mut S, slot: &str) -> Result<Recorded, Failed>
-    ensures recorded { IfOk result (λ recorded. IsTrue S.tells
-        → recorded ≡ recorded_in (bytes_of (S.seen store.old slot.now))) }
-    ensures reads { IsTrue S.tells → S.seen store.new ≡ S.seen store.old }
-    ensures settled { OnOk result (AllRest S.Store store.new) }
-    ensures any_moment { EachMoment S.Store store.old store.new (NowOrSynced S.Store store.old) }
-    ensures cause { HasCause (S.faults store.old) (S.faults store.new) (IsErr result) }
-{
-    store.sync()?;
-    read_position(store, slot)
-}
 
 // Records the length of a file as its first position, and gives it.
 fn begin<S: Store>(store: &mut S, path: &str, slot: &str) -> Result<u64, Failed>

@@ -12,5 +12,5 @@ mod recorded;
 mod slot;
 
 pub use name::{PositionOf, position_name};
-pub use positions::{read_position, record_position};
+pub use positions::{read_position, record_position, settle_and_read};
 pub use recorded::Recorded;

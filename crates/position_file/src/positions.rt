@@ -3,7 +3,7 @@ ghost use Rattle.io_traits.specs.Counts.{HasCause};
 ghost use Rattle.io_traits.specs.Reads.{bytes_of, file_length};
 ghost use Rattle.crc_frame.specs.Slots.{place_of};
 ghost use Rattle.store_trait.specs.Calls.{ChangesNothing};
-ghost use Rattle.store_trait.specs.Moments.{EachMoment, ReadsBeside};
+ghost use Rattle.store_trait.specs.Moments.{EachMoment, NowOrSynced, ReadsBeside};
 ghost use Rattle.store_changes.specs.Changes.{AllRest, Alters};
 ghost use Rattle.position_file.specs.Positions.{recorded_in};
 ghost use Rattle.position_file.specs.Writes.{IsNextTurn, OldOrNewPosition};
@@ -25,6 +25,19 @@ pub fn read_position<S: Store>(store: &mut S, name: &str) -> Result<Recorded, Fa
     let mut bytes = [0; 2 * SLOT_LEN];
     let count = store.read(name, 0, &mut bytes)?;
     Ok(recorded_in(&bytes[..count]))
+}
+
+/// Settles all files of the store, and then reads what the position file of this name records.
+pub fn settle_and_read<S: Store>(store: &mut S, name: &str) -> Result<Recorded, Failed>
+    ensures recorded { IfOk result (λ recorded. IsTrue S.tells
+        → recorded ≡ recorded_in (bytes_of (S.seen store.old name.now))) }
+    ensures reads { IsTrue S.tells → S.seen store.new ≡ S.seen store.old }
+    ensures settled { OnOk result (AllRest S.Store store.new) }
+    ensures any_moment { EachMoment S.Store store.old store.new (NowOrSynced S.Store store.old) }
+    ensures cause { HasCause (S.faults store.old) (S.faults store.new) (IsErr result) }
+{
+    store.sync()?;
+    read_position(store, name)
 }
 
 /// Records a position in the slot of a turn, and settles all files.

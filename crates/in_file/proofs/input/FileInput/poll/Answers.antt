@@ -1,0 +1,11 @@
+use Rattle.std.proofs.Common.{sym, subst}
+use Rattle.in_file.specs.Looks.{Keeps, WasPolled}
+use Rattle.in_file.proofs.Polling.{keeps_so}
+use Rattle.in_file.proofs.input.FileInput.poll.Goals as goal
+
+pub returns-clause-polled : goal.returns-clause-polled
+returns-clause-polled g c = subst (λ v. WasPolled g.F.Files c.args.moment c.args.files.now c.ask.new.files c.args.self.now v) (sym c.got.ensures.same) c.in_ok-ask.ensures.polled
+
+pub returns-clause-keeps : goal.returns-clause-keeps
+returns-clause-keeps g c =
+    subst (Keeps c.args.self.now) (sym c.got.ensures.same) (keeps_so g.F.Files c.args.moment c.args.files.now c.ask.new.files c.args.self.now c.ask.new.self c.in_ok-ask.ensures.polled)

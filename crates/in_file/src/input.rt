@@ -1,0 +1,318 @@
+ghost use Rattle.std.specs.Prelude.{◌≡◌, ◌≢◌, ◌≤◌, ◌↔◌, ℕ, ◌+◌, [], true, IsTrue, IsErr, Err, None, Some, length, IfOk, OnOk, OnErr};
+ghost use Rattle.io_traits.specs.Counts.{HasCause};
+ghost use Rattle.io_traits.specs.Folders.{IsOneCall};
+ghost use Rattle.io_traits.specs.Reads.{bytes_of, file_length};
+ghost use Rattle.byte_lines.specs.Unread.{lines_left};
+ghost use Rattle.crc_frame.specs.Slots.{place_of, next_turn};
+ghost use Rattle.store_trait.specs.Moments.{EachMoment, NowOrSynced, ReadsBeside};
+ghost use Rattle.store_disk.specs.declared.faults.Damage.{Damage as DamageValue};
+ghost use Rattle.position_file.specs.Positions.{recorded_in};
+ghost use Rattle.position_file.specs.declared.recorded.Recorded.{Recorded as RecordedValue};
+ghost use Rattle.in_file.specs.Looks.{Gave, Keeps, WasPolled, got_of, looks, taken_in};
+ghost use Rattle.in_file.specs.Openings.{IsOpened, IsDamaged, IsWhole, line_limit, opened};
+ghost use Rattle.in_file.specs.Positions.{AssureLeaves, IsAssured, IsOwn, IsReady};
+ghost use Rattle.in_file.specs.Views.{taken};
+ghost use Rattle.in_file.specs.declared.faults.OpenFault.TheVariants as o;
+ghost use Rattle.in_lines.specs.declared.got.PollFault.TheVariants as p;
+
+use crate::faults::OpenFault;
+use crate::held::Held;
+use crate::opening::{begins_at, opened, position_by, turn_by};
+use crate::plan::FilePlan;
+use event_tree::Event;
+use in_lines::{Got, PollFault, event_of_bytes};
+use io_traits::{Failed, Files};
+use line_codecs::Codec;
+use plain_data::Text;
+use position_file::{Recorded, record_position};
+use std::alloc::{AllocError, Global};
+use std::marker::Model;
+use store_disk::Store;
+use time_instant::Instant;
+
+/// How many bytes one look asks for at most: 64 KiB.
+const READ_LEN: u64 = 65_536;
+
+/// An input that watches a file: its lines, from a place on, as events, with the position that is recorded of it.
+pub struct FileInput {
+    alloc: Global,
+    /// The name of the file.
+    path: Text,
+    /// The name of its position file in the store.
+    slot: Text,
+    /// Whether the end of the file is the end of the input.
+    ends: bool,
+    codec: Codec,
+    /// The place in the file where this reading began.
+    began: u64,
+    /// The place in the file behind the last line that was given.
+    behind: u64,
+    /// The bytes of the file from there on that were read.
+    held: Held,
+    /// The moment of the poll that made the lines whole that are held.
+    moment: Instant,
+    /// The recorded position.
+    position: u64,
+    /// The turn of the slot that is written next.
+    turn: u64,
+}
+
+// Written out, so that it is one call wherever an error is handed on while one is held.
+impl Drop for FileInput {
+    fn drop(self) {
+        let FileInput {
+            alloc: _,
+            path: _path,
+            slot: _slot,
+            ends: _,
+            codec: _,
+            began: _,
+            behind: _,
+            held: _held,
+            moment: _,
+            position: _,
+            turn: _,
+        } = self;
+    }
+}
+
+impl Model for FileInput {
+    ghost use Rattle.std.specs.Prelude.{◌+◌, ◌<◌, ◌≡◌, ◌^◌, length};
+    ghost use Rattle.in_file.specs.Views.{Watched};
+
+    ghost Value = { Watched };
+
+    ghost view = { λ w. record {
+      path = w.path;
+      slot = w.slot;
+      ends = w.ends;
+      codec = w.codec;
+      began = w.began;
+      behind = w.behind;
+      unread = w.held;
+      moment = w.moment;
+      position = w.position;
+      turn = w.turn;
+    } };
+
+    ghost invariant = { λ w. (w.behind + length w.held.bytes < 2 ^ 64) × (w.held.limit ≡ 1048576) };
+}
+
+impl FileInput {
+    /// Opens the input of a file, with the position file of the name `slot` in the store: settles the store, and finds
+    /// where to read on.
+    ///
+    /// That is the recorded position, or the beginning of a file that ends before it. Where nothing is recorded it is as the
+    /// plan says, the beginning or the present end of the file. A missing file counts as empty. Nothing is written.
+    ///
+    /// `Damaged` is a position file without an intact slot that is longer than a slot. `Memory` comes before the first call of
+    /// the store. Behind an error it can be opened again.
+    pub fn open_on<S: Store, F: Files>(
+        alloc: Global,
+        store: &mut S,
+        files: &mut F,
+        path: &str,
+        slot: &str,
+        plan: FilePlan,
+    ) -> Result<FileInput, OpenFault>
+        ensures opened { IfOk result
+            (IsOpened S.Store F.Files path.now slot.now plan store.old files.old) }
+        ensures ready { IfOk result (λ w. IsReady S.Store w store.new) }
+
+        // Which damage there is, and that there is none, is told by what the store reads.
+        ensures damaged { (damage : DamageValue) → result ≡ Err (o.Damaged damage) → IsTrue S.tells
+            → IsDamaged slot.now (recorded_in (bytes_of (S.seen store.old slot.now))) damage }
+        ensures not_damaged { result ≡ Err o.Files → IsTrue S.tells
+            → IsWhole (recorded_in (bytes_of (S.seen store.old slot.now))) }
+
+        ensures reads { IsTrue S.tells → S.seen store.new ≡ S.seen store.old }
+        ensures any_moment { EachMoment S.Store store.old store.new (NowOrSynced S.Store store.old) }
+        ensures call { OnOk result (IsOneCall F.tells F.shows F.calls files.old files.new) }
+        ensures memory { result ≡ Err o.Memory
+            → (store.new ≡ store.old) × (files.new ≡ files.old) }
+        ensures store_cause { HasCause (S.faults store.old) (S.faults store.new)
+            (result ≡ Err o.Store) }
+        ensures files_cause { HasCause (F.faults files.old) (F.faults files.new)
+            (result ≡ Err o.Files) }
+    {
+        let Ok(path) = Text::of(alloc, path) else {
+            return Err(OpenFault::Memory);
+        };
+        let Ok(slot) = Text::of(alloc, slot) else {
+            return Err(OpenFault::Memory);
+        };
+        opened(alloc, store, files, path, slot, plan)
+    }
+
+    /// An input that begins to read a file of so many bytes, of which this is recorded.
+    pub(crate) fn of(
+        alloc: Global,
+        path: Text,
+        slot: Text,
+        plan: FilePlan,
+        length: u64,
+        recorded: Recorded,
+    ) -> FileInput
+        ensures { result ≡ opened path slot plan length recorded }
+    {
+        let began = begins_at(plan, length, recorded);
+        FileInput {
+            alloc,
+            path,
+            slot,
+            ends: plan.ends,
+            codec: plan.codec,
+            began,
+            behind: began,
+            held: Held::new(alloc),
+            moment: Instant::epoch(),
+            position: position_by(began, recorded),
+            turn: turn_by(recorded),
+        }
+    }
+
+    /// Looks whether lines came, at a moment of the clock. Where it holds a whole line, or met its end, it does not look at the
+    /// file; else it reads of it, once, up to 65,536 bytes.
+    ///
+    /// - `Lines`: it holds a whole line.
+    /// - `End`: it holds none, and the file was read to its end, which is that of the input.
+    /// - `NotYet`: it holds none so far. Bytes came, or the file has none past those that were read.
+    ///
+    /// A `Fault` is one of the files. An error leaves the input as it was.
+    pub fn poll<F: Files>(&mut self, files: &mut F, moment: Instant) -> Result<Got, PollFault>
+        ensures polled { OnOk result
+            (WasPolled F.Files moment files.old files.new self.old self.new) }
+        ensures got { IfOk result (λ got. got ≡ got_of self.new) }
+        ensures keeps { OnOk result (Keeps self.old self.new) }
+        ensures err { OnErr result (self.new ≡ self.old) }
+        ensures memory { result ≡ Err p.Memory → files.new ≡ files.old }
+        ensures cause { HasCause (F.faults files.old) (F.faults files.new) (result ≡ Err p.Fault) }
+    {
+        self.ask(files, moment)?;
+        Ok(self.got())
+    }
+
+    // Looks at the file, unless it need not.
+    fn ask<F: Files>(&mut self, files: &mut F, moment: Instant) -> Result<(), PollFault>
+        ensures polled { OnOk result
+            (WasPolled F.Files moment files.old files.new self.old self.new) }
+        ensures err { OnErr result (self.new ≡ self.old) }
+        ensures memory { result ≡ Err p.Memory → files.new ≡ files.old }
+        ensures cause { HasCause (F.faults files.old) (F.faults files.new) (result ≡ Err p.Fault) }
+    {
+        if self.looks() {
+            return self.look(files, moment);
+        }
+        Ok(())
+    }
+
+    // Whether a poll looks at the file.
+    fn looks(&mut self) -> bool
+        ensures looks { result ≡ looks self.old }
+        ensures same { self.new ≡ self.old }
+        ensures limit { self.new.unread.limit ≡ line_limit }
+    {
+        !self.held.is_ended() && !self.held.has_line()
+    }
+
+    fn got(&mut self) -> Got
+        ensures got { result ≡ got_of self.old }
+        ensures same { self.new ≡ self.old }
+    {
+        if self.held.has_line() {
+            Got::Lines
+        } else if self.held.is_ended() {
+            Got::End
+        } else {
+            Got::NotYet
+        }
+    }
+
+    // Reads of the file.
+    fn look<F: Files>(&mut self, files: &mut F, moment: Instant) -> Result<(), PollFault>
+        requires { looks self.old ≡ true }
+        ensures polled { OnOk result
+            (WasPolled F.Files moment files.old files.new self.old self.new) }
+        ensures err { OnErr result (self.new ≡ self.old) }
+        ensures memory { result ≡ Err p.Memory → files.new ≡ files.old }
+        ensures cause { HasCause (F.faults files.old) (F.faults files.new) (result ≡ Err p.Fault) }
+    {
+        let place = self.behind + self.held.len() as u64;
+        let room = (u64::MAX - place).min(READ_LEN);
+        let count = self
+            .held
+            .fill(files, self.path.as_str(), place, room as usize)?;
+        self.take_in(count, moment);
+        Ok(())
+    }
+
+    // Takes so many bytes that came, or the end where none did.
+    fn take_in(&mut self, count: usize, moment: Instant)
+        ensures { self.new ≡ taken_in count moment self.old }
+    {
+        if count > 0 {
+            self.moment = moment;
+        } else if self.ends {
+            self.held.end();
+            self.moment = moment;
+        }
+    }
+
+    /// The event of the next line, before the settings of the input are applied to it, with the moment of the poll that made
+    /// the line whole. None exactly where no whole line is held.
+    ///
+    /// The only error is want of memory, and then the input is as it was.
+    pub fn next(&mut self) -> Result<Option<Event>, AllocError>
+        ensures gave { IfOk result (λ event. Gave event self.old self.new) }
+        ensures none { IfOk result (λ event. (event ≡ None) ↔ (lines_left self.old.unread ≡ [])) }
+        ensures keeps { OnOk result (Keeps self.old self.new) }
+        ensures err { OnErr result (self.new ≡ self.old) }
+    {
+        let Some(line) = self.held.first() else {
+            return Ok(None);
+        };
+        let bytes = self.held.front(line.content_len);
+        let event = event_of_bytes(self.alloc, self.codec, bytes, self.moment)?;
+        self.held.pass(line.taken);
+        self.behind += line.taken as u64;
+        Ok(Some(event))
+    }
+
+    /// Records a position, in the slot whose turn it is, and settles the store. It is meant to be where this reading began, or
+    /// a place behind a line that was given. Takes no memory.
+    ///
+    /// Behind an error the input has to be opened again.
+    pub fn assure<S: Store>(&mut self, store: &mut S, bytes: u64) -> Result<(), Failed>
+        requires { IsTrue S.tells → place_of 24 self.old.turn
+            ≤ file_length (S.seen store.old self.old.slot) }
+        ensures ok { OnOk result (self.new
+            ≡ record self.old { position = bytes; turn = next_turn self.old.turn }) }
+        ensures assured { OnOk result (IsReady S.Store self.old store.old
+            → IsAssured S.Store self.old bytes self.new store.new) }
+        ensures err { OnErr result (self.new ≡ self.old) }
+        ensures any_moment { AssureLeaves S.Store self.old bytes store.old store.new }
+        ensures beside { ReadsBeside S.Store (IsOwn self.old) store.old store.new }
+        ensures cause { HasCause (S.faults store.old) (S.faults store.new) (IsErr result) }
+    {
+        let turn = self.turn;
+        record_position(store, self.slot.as_str(), turn, bytes)?;
+        self.turn = turn.wrapping_add(1);
+        self.position = bytes;
+        Ok(())
+    }
+
+    /// The recorded position in bytes, and where nothing is recorded that at which this reading began. Takes no memory.
+    pub fn position(&self) -> u64
+        ensures { result ≡ self.now.position }
+    {
+        self.position
+    }
+
+    /// The place in the file behind the last line that was given, and before the first where this reading began. Takes no
+    /// memory.
+    pub fn behind(&self) -> u64
+        ensures { result ≡ self.now.behind }
+    {
+        self.behind
+    }
+}

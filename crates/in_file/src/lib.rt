@@ -1,0 +1,19 @@
+//! Inputs that watch files: the bytes of a file as they come, its lines as events, and the position that says how much
+//! of the file was taken, in a position file.
+//!
+//! `specs/Looks` has what a poll and a line are of a reading, `specs/Openings` where a reading begins, `specs/Positions`
+//! what a stop leaves recorded, and `specs/Watching` which files a path stands for.
+#![tactic(auto)]
+
+mod faults;
+mod held;
+mod input;
+pub mod laws;
+mod opening;
+mod plan;
+mod watching;
+
+pub use faults::OpenFault;
+pub use input::FileInput;
+pub use plan::FilePlan;
+pub use watching::watched_paths;

@@ -1,0 +1,9 @@
+pub mod Lines
+pub mod Rests
+pub mod Reads
+pub mod Held
+pub mod Asks
+pub mod Took
+pub mod Given
+pub mod Inputs
+pub mod Pieces

@@ -1,0 +1,173 @@
+// Calls of a file input, of any store and any files, and without clauses on what they answer.
+ghost use Rattle.std.specs.Prelude.{IsTrue, IfOk, OnOk};
+ghost use Rattle.in_file.specs.Looks.{Keeps};
+ghost use Rattle.in_file.specs.Positions.{IsReady};
+
+use crate::events::add_event;
+use crate::words::number;
+use in_file::{FileInput, FilePlan, Got, OpenFault, PollFault};
+use io_traits::Files;
+use std::alloc::AllocError;
+use store_disk::Store;
+use time_instant::Instant;
+
+/// The name of the watched file.
+pub const PATH: &str = "logs/a.log";
+
+/// The name of its position file.
+pub const SLOT: &str = "in.pos";
+
+/// Adds what the calls of runs answer, which stand between semicolons. Each run begins with an opening, and ends behind
+/// the first call that doesn't go well.
+pub fn add_runs<S: Store, F: Files>(
+    to: &mut String,
+    store: &mut S,
+    files: &mut F,
+    plan: FilePlan,
+    runs: &str,
+) -> Result<(), AllocError> {
+    for run in runs.split(';') {
+        match FileInput::open_on(*to.allocator(), store, files, PATH, SLOT, plan) {
+            Ok(input) => add_run(to, store, files, input, run)?,
+            Err(fault) => add_fault(to, fault)?,
+        }
+    }
+    Ok(())
+}
+
+fn add_fault(to: &mut String, fault: OpenFault) -> Result<(), AllocError> {
+    match fault {
+        OpenFault::Store => to.push_str("store fault; "),
+        OpenFault::Files => to.push_str("files fault; "),
+        OpenFault::Damaged(damage) => {
+            let (place, found, expected) = (damage.place, damage.found, damage.expected);
+            let file = damage.file.as_str();
+            write!(to, "{file} at {place}: {found}, not {expected}; ")
+        }
+        OpenFault::Memory => Err(AllocError),
+    }
+}
+
+fn add_run<S: Store, F: Files>(
+    to: &mut String,
+    store: &mut S,
+    files: &mut F,
+    mut input: FileInput,
+    calls: &str,
+) -> Result<(), AllocError>
+    requires { IsReady S.Store input store.old }
+{
+    write!(to, "from {}", input.behind())?;
+    let mut polls = 0u64;
+    for call in calls.split_whitespace() {
+        if call == "p" || call == "P" {
+            polls = polls.saturating_add(1);
+        }
+        if !add_call(to, store, files, &mut input, polls, call)? {
+            break;
+        }
+    }
+    to.push_str("; ")
+}
+
+// Adds what a call answers, and tells whether it went well.
+#[tactic(auto, using(in_file::proofs::Staying::kept_ready))]
+fn add_call<S: Store, F: Files>(
+    to: &mut String,
+    store: &mut S,
+    files: &mut F,
+    input: &mut FileInput,
+    polls: u64,
+    call: &str,
+) -> Result<bool, AllocError>
+    requires { IsReady S.Store input.old store.old }
+    ensures { IfOk result (λ well. IsTrue well → IsReady S.Store input.new store.new) }
+{
+    let (call, place) = call.split_once(':').unwrap_or((call, ""));
+    match call {
+        "p" => add_poll(to, files, input, polls, true),
+        "P" => add_poll(to, files, input, polls, false),
+        "n" => add_next(to, input),
+        "a" if place.is_empty() => {
+            let place = input.behind();
+            add_assured(to, store, input, place)
+        }
+        "a" => add_assured(to, store, input, number(place)),
+        _ => {
+            write!(to, ", {} of {}", input.position(), input.behind())?;
+            Ok(true)
+        }
+    }
+}
+
+fn add_poll<F: Files>(
+    to: &mut String,
+    files: &mut F,
+    input: &mut FileInput,
+    polls: u64,
+    shows: bool,
+) -> Result<bool, AllocError>
+    ensures { IfOk result (λ well. IsTrue well → Keeps input.old input.new) }
+{
+    match input.poll(files, moment_of(polls)) {
+        Ok(got) => {
+            if shows {
+                to.push_str(text_of(got))?;
+            }
+            Ok(true)
+        }
+        Err(PollFault::Fault) => {
+            to.push_str(", fault")?;
+            Ok(false)
+        }
+        Err(PollFault::Memory) => Err(AllocError),
+    }
+}
+
+fn text_of(got: Got) -> &'static str {
+    match got {
+        Got::Lines => ", lines",
+        Got::NotYet => ", not yet",
+        Got::End => ", end",
+    }
+}
+
+// So many seconds behind the beginning of 1970.
+fn moment_of(seconds: u64) -> Instant {
+    match Instant::from_nanos(i128::from(seconds) * 1_000_000_000) {
+        Some(moment) => moment,
+        None => Instant::epoch(),
+    }
+}
+
+fn add_next(to: &mut String, input: &mut FileInput) -> Result<bool, AllocError>
+    ensures { IfOk result (λ well. IsTrue well → Keeps input.old input.new) }
+{
+    to.push_str(", ")?;
+    match input.next()? {
+        Some(event) => add_event(to, &event)?,
+        None => to.push_str("none")?,
+    }
+    Ok(true)
+}
+
+fn add_assured<S: Store>(
+    to: &mut String,
+    store: &mut S,
+    input: &mut FileInput,
+    place: u64,
+) -> Result<bool, AllocError>
+    requires { IsReady S.Store input.old store.old }
+    ensures { IfOk result (λ well. IsTrue well → IsReady S.Store input.new store.new) }
+{
+    match input.assure(store, place) {
+        Ok(()) => {
+            to.push_str(", assured")?;
+            Ok(true)
+        }
+        Err(_) => {
+            to.push_str(", not assured")?;
+            Ok(false)
+        }
+    }
+}

@@ -1,0 +1,63 @@
+//! Prints what inputs take of files that change, and what a stop leaves recorded of it, table by table.
+//!
+//! A table is a file of `data/`, and each of its lines is a row, whose parts stand between bars. Bytes are written in base 16,
+//! where `COUNT*DIGITS` stands for so many times these, and `-` for no file.
+//!
+//! - `reads`: the plan of an input (`tail` or `read`, `end` or `start`, and its codec), the number of the call of the store and
+//!   of that of the files which fails; the bytes of the position file; those of the watched file, each with the number of the
+//!   call of the files from which on they stand; and runs of calls of the input, with an opening before each: `p` polls,
+//!   with the number of the poll as the seconds of its moment, `P` the same without showing the answer, `n` gives the next
+//!   event, `b` tells the place behind the last line and the recorded position, `a` records the place behind the last line, and
+//!   `a:PLACE` this one. The answer has that of each call, the message of an event with the seconds of its moment, and what the
+//!   position file records behind them. A call that doesn't go well ends its run.
+//! - `stops`: such a row. The answer is what the position file may record where a stop comes, for each moment of the store.
+//! - `paths`: a path, the files that earlier inputs watch, those that are there, and the number of the call that fails. The
+//!   answer is the files that are watched.
+//!
+//! `data/rows.py` made the tables and `stdout`: the lines by their definition, on all bytes joined, and the slots with the
+//! CRC-32 of Python's `zlib`.
+#![tactic(auto)]
+
+mod calls;
+mod events;
+mod paths;
+mod reads;
+mod words;
+
+use std::alloc::AllocError;
+use std::{fs, io};
+
+/// What the rows of a table are.
+#[derive(Clone, Copy)]
+enum Table {
+    Reads,
+    Stops,
+    Paths,
+}
+
+const TABLES: [(&str, Table); 3] = [
+    ("reads", Table::Reads),
+    ("stops", Table::Stops),
+    ("paths", Table::Paths),
+];
+
+fn main(rt: HostRuntime) -> io::Result<()> {
+    for (name, table) in &TABLES {
+        let rows = fs::read_to_string(&rt, *name)?;
+        println!(rt; "# {name}")?;
+        for row in rows.lines() {
+            let mut answer = String::new(rt.alloc());
+            add_answer(&mut answer, *table, row)?;
+            println!(rt; "{answer}")?;
+        }
+    }
+    Ok(())
+}
+
+fn add_answer(to: &mut String, table: Table, row: &str) -> Result<(), AllocError> {
+    match table {
+        Table::Reads => reads::add_read(to, row),
+        Table::Stops => reads::add_stops(to, row),
+        Table::Paths => paths::add_watched(to, row),
+    }
+}
