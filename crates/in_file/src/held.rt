@@ -208,7 +208,8 @@ fn read_into<F: Files>(
     ensures front { take held room.new ≡ take held room.old }
     ensures within { IfOk result (λ n. n ≤ length room.old - held) }
     ensures gives { IfOk result (λ n. IsTrue F.tells
-        → Gives (F.shows files.old (F.calls files.old) path.now) place (length room.old - held) n (drop held room.new)) }
+        → Gives (F.shows files.old (F.calls files.old) path.now) place (length room.old - held) n
+        (drop held room.new)) }
     ensures call { IsOneCall F.tells F.shows F.calls files.old files.new }
     ensures cause { HasCause (F.faults files.old) (F.faults files.new) (IsErr result) }
 {

@@ -5,7 +5,8 @@ ghost use Rattle.in_file.specs.Positions.{IsReady};
 
 use crate::events::add_event;
 use crate::words::number;
-use in_file::{FileInput, FilePlan, Got, OpenFault, PollFault};
+use in_file::{FileInput, FilePlan, OpenFault};
+use in_lines::{Got, PollFault};
 use io_traits::Files;
 use std::alloc::AllocError;
 use store_disk::Store;
