@@ -1,6 +1,12 @@
 //! Tells an entry of each kind to a book of each kind, and prints what is kept of it: the pipeline, the kind, and how
-//! many items it has.
+//! many items it has. Behind that it prints what the judges say of the histories in `data/histories`, one a row (see
+//! `judged`): that it is legal, or the place of the first entry that isn't, and why.
+//!
+//! What is expected of the histories is what `data/histories.py` says, which goes by the tables of legal histories alone.
 #![tactic(auto)]
+
+mod judged;
+mod meaning;
 
 use config_tree::Config;
 use element_code::Origin;
@@ -11,7 +17,7 @@ use persistent_queue::QueueRow;
 use plain_data::Items;
 use settings_lines::Policy;
 use std::alloc::{AllocError, Global};
-use std::io;
+use std::{fs, io};
 
 fn main(rt: HostRuntime) -> io::Result<()> {
     let mut full = FullBook::new(rt.alloc());
@@ -23,6 +29,11 @@ fn main(rt: HostRuntime) -> io::Result<()> {
         println!(rt; "{} {kind} {count}", told.line)?;
     }
     println!(rt; "all of it: {}", full.is_whole())?;
+    for row in fs::read_to_string(&rt, "histories")?.lines() {
+        let mut answer = String::new(rt.alloc());
+        judged::add_judged(&mut answer, row)?;
+        println!(rt; "{answer}")?;
+    }
     Ok(())
 }
 

@@ -1,0 +1,10 @@
+pub mod Outs
+pub mod BatchReads
+pub mod Ruling
+pub mod OutputNames
+pub mod Orders
+pub mod KeptLetters
+pub mod DueDeliveries
+pub mod FoundRows
+pub mod Judgements
+pub mod Parts

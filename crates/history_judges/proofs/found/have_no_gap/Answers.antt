@@ -1,0 +1,17 @@
+use Rattle.std.proofs.Common.{rules, ◌≡◌, true, false, sym, ◌∙◌, arith}
+use Rattle.std.proofs.lemmas.Bool.{false≢true}
+use Rattle.history_judges.proofs.FoundRows.{each_stops, each_on, each_all}
+use Rattle.history_judges.proofs.found.have_no_gap.Goals as goal
+
+pub returns-then-not-has_no_gap : goal.returns-then-not-has_no_gap
+returns-then-not-has_no_gap c =
+    let no : c.has_no_gap.result ≡ false = search rules in
+    each_stops c.args.rows.now c.loop-row.row-index c.row-item.result c.loop-row-test.true c.row-item.is (λ p. false≢true (sym no ∙ c.has_no_gap.ensures.1 p))
+
+pub loop-row-preserved : goal.loop-row-preserved
+loop-row-preserved c =
+    let ok : c.has_no_gap.result ≡ true = search rules in
+    each_on c.args.rows.now c.loop-row.row-index _ c.row-item.result c.loop-row-test.true (omega arith) c.row-item.is (c.has_no_gap.ensures.0 ok) c.loop-row.invariant
+
+pub returns : goal.returns
+returns c = each_all c.args.rows.now c.loop-row.row-index c.loop-row-test.false c.loop-row.invariant

@@ -1,0 +1,5 @@
+pub mod States
+pub mod Judging
+pub mod Naming
+pub mod Letters
+pub mod Finding

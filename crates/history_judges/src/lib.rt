@@ -1,0 +1,34 @@
+//! Judges of histories: plain, slow code beside the definitions of what a pipeline promises, equal to them.
+//!
+//! - [`state_after`] says where a pipeline stands after entries, and [`State::tell`] where it stands after one more.
+//! - [`first_fault`] names the first entry of a history that isn't legal, and the part of its rule that doesn't hold
+//!   there ([`Reason`]); [`State::fault`] says the same of one entry. What it doesn't judge yet is [`Unjudged`].
+//! - [`Meaning`] is what a judge has to be told of configurations: what is due of a batch.
+//!
+//! The definitions of entries, of where a pipeline stands after some, and of which histories are legal stand in
+//! `history_laws`; `specs/States` and `specs/Judging` say which of them the types here stand for.
+#![tactic(auto)]
+
+mod after;
+mod batches;
+mod delivering;
+mod equality;
+mod fault;
+mod found;
+pub mod laws;
+mod letters;
+mod meaning;
+mod naming;
+mod opening;
+mod reason;
+mod rejecting;
+mod rules;
+mod shedding;
+mod state;
+mod steps;
+
+pub use after::state_after;
+pub use fault::{Illegal, first_fault};
+pub use meaning::{Meaning, Meant};
+pub use reason::{Reason, Unjudged};
+pub use state::{Between, Delivery, Limits, Out, Plan, State, Written};
