@@ -12,8 +12,8 @@ ghost use Rattle.history_laws.specs.States.{Plan, Nothing, newest};
 ghost use Rattle.history_judges.specs.States.{state_of, batch_of, plan_of};
 ghost use Rattle.history_judges.specs.Judging.{Wants, Judges, RunningJudged, IsOutBack, AreFirst, wants_back};
 
-use crate::meaning::{Meaning, Meant};
 use crate::batches::numbers_in;
+use crate::meaning::{Meaning, Meant};
 use crate::reason::{Reason, Unjudged};
 use crate::state::{Between, Out, State};
 use crate::steps::has;

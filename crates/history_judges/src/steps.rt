@@ -11,8 +11,8 @@ ghost use Rattle.history_laws.specs.States as spec;
 ghost use Rattle.history_laws.specs.States.{next, unread, is_unread, is_among, left_of, out_of};
 ghost use Rattle.history_judges.specs.States.{state_of, written_of, batch_of, delivery_of, between_of, next_due, rejecting};
 
-use crate::meaning::Meaning;
 use crate::batches::numbers_in;
+use crate::meaning::Meaning;
 use crate::state::{Between, Delivery, Out, Plan, State, Written, copy_draws, copy_plans};
 use config_tree::Config;
 use dead_letters::Shedding;
