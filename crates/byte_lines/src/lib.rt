@@ -21,5 +21,5 @@ pub use laws::{
     cutting_changes_nothing, lines_are_those_of_the_bytes, lines_come_one_by_one,
     text_is_that_of_the_bytes,
 };
-pub use reader::LineReader;
+pub use reader::{LineReader, remove_front};
 pub use text::text_of_bytes;

@@ -139,7 +139,8 @@ impl LineReader {
     }
 }
 
-fn remove_front(bytes: &mut Vec<u8>, count: usize)
+/// Removes so many bytes in front. The others are moved; no memory is taken or given back.
+pub fn remove_front(bytes: &mut Vec<u8>, count: usize)
     requires { count ≤ vec_len bytes.old }
     ensures { bytes.new.items ≡ drop count bytes.old.items }
 {

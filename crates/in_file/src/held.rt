@@ -9,7 +9,7 @@ ghost use Rattle.in_file.specs.Looks.{IsRead};
 ghost use Rattle.in_file.specs.Openings.{line_limit};
 ghost use Rattle.in_lines.specs.declared.got.PollFault.TheVariants as p;
 
-use byte_lines::{FoundLine, find_line};
+use byte_lines::{FoundLine, find_line, remove_front};
 use in_lines::{LINE_LIMIT, PollFault};
 use io_traits::{Failed, Files};
 use std::alloc::Global;
@@ -158,9 +158,7 @@ impl Held {
         ensures view { self.new ≡ self.old }
     {
         if self.start > 0 {
-            let left = self.len();
-            self.bytes.copy_within(self.start.., 0);
-            self.bytes.truncate(left);
+            remove_front(&mut self.bytes, self.start);
             self.start = 0;
         }
     }

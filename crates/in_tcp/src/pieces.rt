@@ -3,6 +3,7 @@ ghost use Rattle.in_tcp.specs.Pieces.{IsFront, count_of, front_bytes, front_less
 ghost use Rattle.in_tcp.specs.Reads.{TookRead};
 
 use crate::reading::read_behind;
+use byte_lines::remove_front;
 use io_traits::{Links, Step};
 use std::alloc::{AllocError, Global};
 use std::collections::VecDeque;
@@ -167,6 +168,7 @@ impl Pieces {
             TookRead L.Links conn moment self.old self.new links.old links.new closed) }
         ensures err { OnErr result ((self.new ≡ self.old) × (links.new ≡ links.old)) }
     {
+        self.release_given();
         self.marks.reserve(1)?;
         make_room(&mut self.bytes, self.end)?;
         let step = read_behind(links, conn, self.end, &mut self.bytes);
@@ -176,6 +178,18 @@ impl Pieces {
         self.end += gave.count();
         self.marks.push_back_reserved(Mark { conn, moment, gave });
         Ok(gave.is_end())
+    }
+
+    /// Moves the bytes that are held to the beginning, where those given up before them are as many at least, and as many as
+    /// a read asks for. So the buffer stays in proportion to what is held, and moves cost no more than what was given up.
+    fn release_given(&mut self)
+        ensures { self.new ≡ self.old }
+    {
+        if self.start >= READ_LEN && self.start >= self.end - self.start {
+            remove_front(&mut self.bytes, self.start);
+            self.end -= self.start;
+            self.start = 0;
+        }
     }
 }
 

@@ -15,7 +15,7 @@ returns-in_default-clause-read g c =
       found = r.0;
       read = r.2;
       looks = ap (λ b. looks_in (drop s.start b) c.reserve.new.self.items) items
-          ∙ overwritten_in s.bytes.items new s.start s.end c.reserve.new.self.items c.args.self.now (ap (looks_in (drop s.start s.bytes.items)) c.reserve.ensures.items ∙ c.self.view_is)
+          ∙ overwritten_in s.bytes.items new s.start s.end c.reserve.new.self.items c.args.self.now (ap (looks_in (drop s.start s.bytes.items)) c.reserve.ensures.items ∙ c.self.view_is ∙ c.release_given.ensures)
           (omega (arith, c.self.invariant.0, ap total_of c.reserve.ensures.items)) (omega (arith, c.self.invariant.1, s.bytes.ok.0)) (c.read_behind-step.ensures.front ∙ ap (take s.end) c.deref_mut.ensures.value ∙ c.make_room.ensures.front)
           ∙ sym (ap (λ l. c.args.self.now ++ l) none.0 ∙ append-nil c.args.self.now);
       closed_is = none.1;
@@ -41,7 +41,7 @@ returns-clause-read g c =
       read = r.2;
       looks = ap (λ b. looks_in (drop s.start b) c.push_back_reserved.new.self.items) items
           ∙ pushed_in s.bytes.items new s.start s.end c.reserve.new.self.items c.push_back_reserved.new.self.items c.args.self.now (record { conn = c.args.conn; moment = c.args.moment; gave = c.in-Some.gave })
-          (ap (looks_in (drop s.start s.bytes.items)) c.reserve.ensures.items ∙ c.self.view_is)
+          (ap (looks_in (drop s.start s.bytes.items)) c.reserve.ensures.items ∙ c.self.view_is ∙ c.release_given.ensures)
           (omega (arith, c.self.invariant.0, ap total_of c.reserve.ensures.items)) (omega (arith, c.self.invariant.1, s.bytes.ok.0)) (c.read_behind-step.ensures.front ∙ ap (take s.end) c.deref_mut.ensures.value ∙ c.make_room.ensures.front) c.push_back_reserved.ensures.items
           ∙ ap (λ l. c.args.self.now ++ l) t.0;
       closed_is = c.is_end.ensures ∙ t.1;
