@@ -7,6 +7,7 @@ mod counters;
 mod crc;
 mod elements;
 mod events;
+mod inputs;
 mod jobs;
 mod json;
 mod letters;
@@ -29,6 +30,7 @@ counters ADDS
 crc FILE PASSES
 elements size|encode|decode ROUNDS
 events get|put|take|copy ROUNDS
+inputs file|tcp|make line|json FILE|PORT LINES
 jobs WORKERS TURNS JOBS
 json read|write ROUNDS FILE
 letters hold|drop_newer|drop_older LIMIT BATCHES LETTERS
@@ -94,6 +96,7 @@ fn run(rt: &HostRuntime, part: &str, given: &[String]) -> Option<u64> {
 fn run_on_files(rt: &HostRuntime, part: &str, given: &[String]) -> Option<u64> {
     match part {
         "crc" => crc::run(rt, given),
+        "inputs" => inputs::run(rt, given),
         "json" => json::run(rt, given),
         "letters" => letters::run(rt, given),
         "outputs" => outputs::run(rt, given),

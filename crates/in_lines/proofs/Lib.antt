@@ -7,3 +7,5 @@ pub mod Polled
 pub mod Sound
 pub mod Short
 pub mod Rounds
+pub mod AtOnce
+pub mod PlainObjects

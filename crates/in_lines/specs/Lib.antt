@@ -3,6 +3,7 @@ pub mod Sources
 pub mod Readings
 pub mod Events
 pub mod Decoding
+pub mod Plain
 pub mod Rows
 pub mod Given
 pub mod Samples

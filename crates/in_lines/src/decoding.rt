@@ -1,13 +1,14 @@
 //! The event of a line, by the codec of its input.
 
-ghost use Rattle.std.specs.Prelude.{◌≡◌, ◌≤◌, ◌∷◌, [], codes, length, IfOk, OnOk};
+ghost use Rattle.std.specs.Prelude.{◌≡◌, ◌≤◌, ◌∷◌, [], codes, length, Some, IfOk, OnOk};
 ghost use Rattle.byte_lines.specs.Text.{text_of};
-ghost use Rattle.decoded_fields.specs.Decoded.{named};
+ghost use Rattle.decoded_fields.specs.Decoded.{json_in, named};
 ghost use Rattle.event_text.specs.Options.{each_done, set_at, tagged};
 ghost use Rattle.event_tree.specs.declared.value.Value.TheVariants as v;
 ghost use Rattle.in_lines.specs.Decoding as spec;
 
 use crate::event::event_of_line;
+use crate::plain::{plain_event, read_plain};
 use byte_lines::text_of_bytes;
 use decoded_fields::{failure_tags, field_path, json_value, place};
 use event_text::{add_tag, try_put};
@@ -38,10 +39,7 @@ pub fn event_by_codec(
 {
     match codec {
         Codec::Plain | Codec::Line => event_of_line(alloc, line, moment),
-        Codec::Json | Codec::JsonLines => {
-            let value = json_value(alloc, line)?;
-            event_of_json(alloc, value, line, moment)
-        }
+        Codec::Json | Codec::JsonLines => event_of_json(alloc, line, moment),
     }
 }
 
@@ -57,7 +55,7 @@ pub fn event_of_bytes(
     ensures { IfOk result (λ event. event
         ≡ spec.event_by codec (record { line = text_of bytes.now; moment = moment })) }
 {
-    match str::from_utf8(bytes) {
+    match simdutf8::basic::from_utf8(bytes) {
         Ok(line) => event_by_codec(alloc, codec, line, moment),
         Err(_) => {
             let line = text_of_bytes(alloc, bytes)?;
@@ -66,19 +64,47 @@ pub fn event_of_bytes(
     }
 }
 
-// The event of a line that is the text of this value, or of none.
-fn event_of_json(
+// The event of a line that is read as JSON.
+fn event_of_json(alloc: Global, line: &str, moment: Instant) -> Result<Event, AllocError>
+    requires { length line.now ≤ 8388558 }
+    ensures { IfOk result (λ event. event
+        ≡ spec.json_event (record { line = line.now; moment = moment }) (json_in line.now)) }
+{
+    match json_value(alloc, line)? {
+        Some(Value::Object(members)) => event_of_object(alloc, members, line, moment),
+        _ => failed(alloc, line, moment),
+    }
+}
+
+// The event of the object that the line is. One that is too large for an event keeps of its members what it can hold, as they
+// are put one by one, and is read once more for that.
+fn event_of_object(
     alloc: Global,
-    value: Option<Value>,
+    members: Fields<Value>,
     line: &str,
     moment: Instant,
 ) -> Result<Event, AllocError>
+    requires length { length line.now ≤ 8388558 }
+    requires object { json_in line.now ≡ Some (v.Object members) }
+    ensures { IfOk result (λ event. event
+        ≡ spec.object_event (record { line = line.now; moment = moment }) members) }
+{
+    let Some(plain) = read_plain(&members) else {
+        return event_by_members(alloc, members, line, moment);
+    };
+    match plain_event(alloc, members, plain, line, moment)? {
+        Some(event) => Ok(event),
+        None => large_event(alloc, line, moment),
+    }
+}
+
+fn large_event(alloc: Global, line: &str, moment: Instant) -> Result<Event, AllocError>
     requires { length line.now ≤ 8388558 }
     ensures { IfOk result (λ event. event
-        ≡ spec.json_event (record { line = line.now; moment = moment }) value) }
+        ≡ spec.json_event (record { line = line.now; moment = moment }) (json_in line.now)) }
 {
-    match value {
-        Some(Value::Object(members)) => event_of_object(alloc, members, line, moment),
+    match json_value(alloc, line)? {
+        Some(Value::Object(members)) => event_by_members(alloc, members, line, moment),
         _ => failed(alloc, line, moment),
     }
 }
@@ -93,7 +119,8 @@ fn failed(alloc: Global, line: &str, moment: Instant) -> Result<Event, AllocErro
     Ok(event)
 }
 
-fn event_of_object(
+// The event of an object, whose members are put one by one.
+fn event_by_members(
     alloc: Global,
     members: Fields<Value>,
     line: &str,

@@ -14,6 +14,7 @@ mod generator;
 mod got;
 mod input;
 mod laws;
+mod plain;
 mod poll;
 mod row;
 mod sample;

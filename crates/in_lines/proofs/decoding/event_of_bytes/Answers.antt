@@ -11,4 +11,4 @@ event_by_codec-requires-in-Err c = omega (arith, text_of_short c.args.bytes.now,
 pub returns-in-Ok : goal.returns-in-Ok
 returns-in-Ok c =
     subst (λ l. IfOk c.event_by_codec.result (λ event. event ≡ event_by c.args.codec (record { line = l; moment = c.args.moment })))
-    (c.in-Ok.ensures.cases.0 ∙ sym (text_of-IsUtf8 c.args.bytes.now c.in-Ok.ensures.cases.1)) c.event_by_codec.ensures
+    (c.in-Ok.ensures.0 ∙ sym (text_of-IsUtf8 c.args.bytes.now c.in-Ok.ensures.1)) c.event_by_codec.ensures
