@@ -1,5 +1,6 @@
 pub mod Told
 pub mod Fronts
+pub mod FileBytes
 pub mod BodyReads
 pub mod ElementReads
 pub mod RunReads

@@ -24,6 +24,7 @@ use Rattle.queue_page.proofs.ElementReads.{number_long, size_long, same_head, El
 use Rattle.queue_page.proofs.Elements.{element_read}
 use Rattle.queue_page.proofs.RunReads.{run_empty, run_rest, run_with, each_run}
 use Rattle.queue_page.proofs.PageReads.{recorded_long_if, recorded_took}
+use Rattle.queue_page.proofs.RunLemmas.{run_took}
 
 -- ---- elements
 
@@ -47,7 +48,7 @@ said_by version number place frame row (Ok x) is h =
     made number place frame x = record { number = number; origin = x.0; event = x.1; next = place + length frame }
 
 -- the whole of an element, which was read
-module _ (version number place : ℕ) (bytes : List ℕ) (row : PageRow) (known : (version ≡ 1) ⊎ (version ≡ 2)) (fit : IsBytes bytes) (read : element_at version number place bytes ≡ Ok row) where
+module _ (version number place : ℕ) (bytes : List ℕ) (row : PageRow) (known : (version ≡ 1) ⊎ (version ≡ 2)) (frame_fit : IsBytes (take (total_of bytes) bytes)) (read : element_at version number place bytes ≡ Ok row) where
   took : ElementTook version number place bytes row
   took = element_took version number place bytes row read
 
@@ -59,9 +60,6 @@ module _ (version number place : ℕ) (bytes : List ℕ) (row : PageRow) (known 
 
   body_long : length (body_of frame) + 16 ≡ length frame
   body_long = omega (arith, length-drop 12 (take (length frame - 4) frame), length-take (length frame - 4) frame, long)
-
-  frame_fit : IsBytes frame
-  frame_fit = IsBytes-take (total_of bytes) bytes fit
 
   frame_reads : ReadsAs frame number (body_of frame)
   unfolding is_checked
@@ -99,7 +97,7 @@ module _ (version number place : ℕ) (bytes : List ℕ) (row : PageRow) (known 
 pub elements_are_spelled : ElementsAreSpelled
 elements_are_spelled version number place bytes row known fit read =
     let took = element_took version number place bytes row read in
-    (total_of bytes, took.within, is_element_of version number place bytes row known fit read)
+    (total_of bytes, took.within, is_element_of version number place bytes row known (IsBytes-take (total_of bytes) bytes fit) read)
 
 pub none_begins_another : NoElementBeginsAnother
 none_begins_another version place row other bytes more one two =
@@ -161,7 +159,7 @@ none_of : (limit version number place : ℕ) (bytes : List ℕ) (stop : Option M
 none_of limit version number place bytes stop all = record { size = 0; within = omega arith; many = omega arith; are = refl; all = all }
 
 module _ (version : ℕ) (known : (version ≡ 1) ⊎ (version ≡ 2)) where
-  more_of : (limit number place : ℕ) (bytes : List ℕ) → IsBytes bytes → (row : PageRow) (read : element_at version number place bytes ≡ Ok row) (r : Run)
+  more_of : (limit number place : ℕ) (bytes : List ℕ) → IsBytes (take (total_of bytes) bytes) → (row : PageRow) (read : element_at version number place bytes ≡ Ok row) (r : Run)
       → IsRunOf limit version (number + 1) (place + total_of bytes) (drop (total_of bytes) bytes) r → IsRunOf (suc limit) version number place bytes (behind (row ∷ []) r)
   more_of limit number place bytes fit row read r rest =
       let total = total_of bytes in
@@ -181,11 +179,31 @@ module _ (version : ℕ) (known : (version ≡ 1) ⊎ (version ≡ 2)) where
         all = λ stop few. omega (arith, rest.all stop (omega (arith, few)), length-drop total bytes, took.within);
       }
 
-pub is_run : (limit version number place : ℕ) (bytes : List ℕ) → (version ≡ 1) ⊎ (version ≡ 2) → IsBytes bytes → IsRunOf limit version number place bytes (run limit version number place bytes)
-is_run limit version number place bytes known = each_run version (λ l n p b r. IsBytes b → IsRunOf l version n p b r)
+-- the bytes of its elements
+abbrev HasBytes : ℕ → List ℕ → Run → Type 0
+HasBytes place bytes r = (size : ℕ) → r.end ≡ place + size → IsBytes (take size bytes)
+
+-- those of its first element, and those of the rest
+first_bytes : (limit version number place : ℕ) (bytes : List ℕ) (row : PageRow) → element_at version number place bytes ≡ Ok row → HasBytes place bytes (behind (row ∷ []) (run_rest limit version number place bytes))
+    → IsBytes (take (total_of bytes) bytes) × HasBytes (place + total_of bytes) (drop (total_of bytes) bytes) (run_rest limit version number place bytes)
+first_bytes limit version number place bytes row read have =
+    let total = total_of bytes in
+    let rest = run_took limit version (number + 1) (place + total) (drop total bytes) in
+    let all = have (total + rest.size) (omega (arith, rest.end_is)) in (
+      subst IsBytes (take-take total (total + rest.size) bytes (omega arith)) (IsBytes-take total (take (total + rest.size) bytes) all),
+      λ size ends.
+          let whole : IsBytes (take (total + size) bytes) = have (total + size) (omega (arith, ends)) in
+          subst IsBytes (drop-take total size bytes) (IsBytes-drop total (take (total + size) bytes) whole),
+    )
+
+pub is_run : (limit version number place : ℕ) (bytes : List ℕ) → (version ≡ 1) ⊎ (version ≡ 2) → HasBytes place bytes (run limit version number place bytes)
+    → IsRunOf limit version number place bytes (run limit version number place bytes)
+is_run limit version number place bytes known = each_run version (λ l n p b r. HasBytes p b r → IsRunOf l version n p b r)
     (λ l n p b empty fit. none_of l version n p b None (λ stop few. ⊎_elim (λ none. absurd (omega (arith, none, few))) (λ none. sym none) empty))
     (λ l n p b fault some read fit. none_of (suc l) version n p b (Some fault) (λ none few. absurd cc))
-    (λ l n p b row some read rest fit. more_of version known l n p b fit row read (run_rest l version n p b) (rest (IsBytes-drop (total_of b) b fit)))
+    (λ l n p b row some read rest fit.
+    let parts = first_bytes l version n p b row read fit in
+    more_of version known l n p b parts.0 row read (run_rest l version n p b) (rest parts.1))
     limit number place bytes
 
 -- ---- pages
@@ -213,8 +231,7 @@ pages_are_spelled s file page fit read =
     let known = known_version version took.known in
     let long : length extent ≡ s.length = omega (arith, length-take s.length file, took.long) in
     let r = within s extent in
-    let rest_fit : IsBytes (drop 1 extent) = IsBytes-drop 1 extent (IsBytes-take s.length file fit) in
-    let of = is_run s.length version s.least 1 (drop 1 extent) known rest_fit in
+    let of = is_run s.length version s.least 1 (drop 1 extent) known (λ size ends. IsBytes-take size (drop 1 extent) (IsBytes-drop 1 extent fit)) in
     let some : 0 < length extent = ⊎_elim (λ yes. yes) (λ none. absurd (not_known extent (omega (arith, none)) took.known)) (cases_lt 0 (length extent)) in
     let few : length r.rows < s.length = omega (arith, of.many, of.within, length-drop 1 extent, long, some) in
     let whole : take of.size (drop 1 extent) ≡ drop 1 extent = take_all of.size (drop 1 extent) (omega (arith, of.all took.stop few)) in

@@ -1,5 +1,5 @@
 -- A part of a file that is held in memory.
-use Rattle.std.specs.Prelude.{◌≡◌, ◌≤◌, ℕ, ◌-◌, min, IsTrue, List, length, take, drop}
+use Rattle.std.specs.Prelude.{◌≡◌, ◌≤◌, ◌<◌, ℕ, ◌-◌, min, IsTrue, List, length, take, drop, get_or}
 use Rattle.io_traits.specs.Reads.{bytes_of}
 use Rattle.store_trait.specs.declared.stores.Store.{Ghosts as StoreWords}
 use Rattle.queue_page.specs.Views.{BlockView}
@@ -20,6 +20,10 @@ pub record IsFront (bytes : List ℕ) (count : ℕ) (front : List ℕ) : Type 0 
 -- what is left of the part of a file up to an end, from a place on
 abbrev pub left_of : List ℕ → ℕ → ℕ → List ℕ
 left_of file place end = drop place (take end file)
+
+-- from one place up to another all of a file are bytes
+abbrev pub AreBytesIn : ℕ → ℕ → List ℕ → Type 0
+AreBytesIn from to file = (i : ℕ) → from ≤ i → i < to → get_or file i 0 < 256
 
 -- of a file that is told, and that a block holds a part of
 abbrev pub OnFile : {S : Type 0} → StoreWords S → S → List ℕ → BlockView → (List ℕ → Type 0) → Type 0

@@ -41,7 +41,7 @@ PagesAreRead =
 -- And what is read of the recorded extent is a page.
 abbrev pub PagesAreSpelled : Type 0
 PagesAreSpelled =
-    (s : PageState) (file : List ℕ) (page : PageRows) → AreBytes file → recorded s file ≡ Ok page
+    (s : PageState) (file : List ℕ) (page : PageRows) → AreBytes (take s.length file) → recorded s file ≡ Ok page
     → IsPage (take s.length file) page.version s.least page.rows × (length page.rows ≡ s.count) × (page.length ≡ s.length)
 
 -- What is told of a damage are two numbers that differ.

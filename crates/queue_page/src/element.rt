@@ -4,7 +4,7 @@ ghost use Rattle.io_traits.specs.Counts.{HasCause};
 ghost use Rattle.store_trait.specs.Calls.{ChangesNothing};
 ghost use Rattle.queue_page.specs.Answers.{TellsBody, Tells};
 ghost use Rattle.queue_page.specs.Bodies.{body_at};
-ghost use Rattle.queue_page.specs.Blocks.{IsPart, OnFile, left_of};
+ghost use Rattle.queue_page.specs.Blocks.{AreBytesIn, IsPart, OnFile, left_of};
 ghost use Rattle.queue_page.specs.Elements.{number_of, size_of, head_at, frame_at, element_at, body_misfit};
 ghost use Rattle.queue_page.specs.declared.fault.RowFault.TheVariants as r;
 
@@ -119,6 +119,7 @@ fn row_in(alloc: Global, spot: &Spot, frame: &[u8]) -> Result<PageRow, RowFault>
     ensures row { Tells (λ row. row) result
         (frame_at spot.now.version spot.now.number spot.now.place frame.now) }
     ensures next { IfOk result (λ row. row.next ≡ spot.now.place + length frame.now) }
+    ensures bytes { AreBytesIn 0 (length frame.now) frame.now }
     ensures fault { result ≢ Err r.Fault }
 {
     let (covered, crc) = frame.split_at(frame.len() - CRC_LEN);
@@ -187,6 +188,8 @@ fn read_frame<S: Store>(
         → Tells (λ row. row) result (frame_at spot.now.version spot.now.number spot.now.place
         (take total (left_of file spot.now.place spot.now.end)))) }
     ensures next { IfOk result (λ row. row.next ≡ spot.now.place + total) }
+    ensures bytes { IfOk result (λ row. OnFile S.Store store.old name.now block.old (λ file.
+        spot.now.end ≤ length file → AreBytesIn spot.now.place row.next file)) }
     ensures part { OnFile S.Store store.old name.now block.old (λ file. IsPart file block.new) }
     ensures same { ChangesNothing S.tells S.seen S.moment S.may_leave store.old store.new }
     ensures cause { HasCause (S.faults store.old) (S.faults store.new) (result ≡ Err r.Fault) }
@@ -218,6 +221,8 @@ pub(crate) fn read_element<S: Store>(
         (left_of file spot.now.place spot.now.end))) }
     ensures next { IfOk result (λ row. (spot.now.place + 16 ≤ row.next)
         × (row.next ≤ spot.now.end)) }
+    ensures bytes { IfOk result (λ row. OnFile S.Store store.old name.now block.old (λ file.
+        spot.now.end ≤ length file → AreBytesIn spot.now.place row.next file)) }
     ensures part { OnFile S.Store store.old name.now block.old (λ file. IsPart file block.new) }
     ensures same { ChangesNothing S.tells S.seen S.moment S.may_leave store.old store.new }
     ensures cause { HasCause (S.faults store.old) (S.faults store.new) (result ≡ Err r.Fault) }

@@ -3,7 +3,7 @@ ghost use Rattle.std.specs.Prelude.{◌≡◌, ◌≤◌, ◌<◌, ◌+◌, ◌-
 ghost use Rattle.io_traits.specs.Counts.{HasCause};
 ghost use Rattle.store_trait.specs.Calls.{ChangesNothing};
 ghost use Rattle.queue_page.specs.Answers.{Tells};
-ghost use Rattle.queue_page.specs.Blocks.{IsPart, OnFile};
+ghost use Rattle.queue_page.specs.Blocks.{AreBytesIn, IsPart, OnFile};
 ghost use Rattle.queue_page.specs.Pages.{IsGrown, version_of, is_version, recorded_view, opened_view, counted_view, room_of, behind_view};
 ghost use Rattle.queue_page.specs.declared.fault.RowFault.TheVariants as r;
 
@@ -67,6 +67,8 @@ fn read_elements<S: Store>(
     ensures same { ChangesNothing S.tells S.seen S.moment S.may_leave store.old store.new }
     ensures cause { HasCause (S.faults store.old) (S.faults store.new) (result ≡ Err r.Fault) }
     ensures state { IfOk result (λ page. page ≡ record { version = version; state = state.now }) }
+    ensures bytes { IfOk result (λ page. OnFile S.Store store.old name.now block.old (λ file.
+        state.now.length ≤ length file → AreBytesIn 1 state.now.length file)) }
 {
     let first = Spot {
         version,
@@ -101,6 +103,8 @@ pub(crate) fn read_recorded<S: Store>(
     ensures page { OnFile S.Store store.old name.now block.old (λ file. len ≡ length file
         → Tells (λ page. page) result (recorded_view state.now file)) }
     ensures state { IfOk result (λ page. (page.state ≡ state.now) × (state.now.length ≤ len)) }
+    ensures bytes { IfOk result (λ page. OnFile S.Store store.old name.now block.old (λ file.
+        len ≡ length file → AreBytesIn 0 state.now.length file)) }
     ensures part { OnFile S.Store store.old name.now block.old (λ file. IsPart file block.new) }
     ensures same { ChangesNothing S.tells S.seen S.moment S.may_leave store.old store.new }
     ensures cause { HasCause (S.faults store.old) (S.faults store.new) (result ≡ Err r.Fault) }
@@ -150,6 +154,8 @@ pub(crate) fn read_behind<S: Store>(
         → Tells (λ page. page) result (Ok (behind_view page file))) }
     ensures within { IfOk result (λ page. page.state.length ≤ len) }
     ensures grown { IfOk result (λ grown. IsGrown true page.state grown.state) }
+    ensures bytes { IfOk result (λ grown. OnFile S.Store store.old name.now block.old (λ file.
+        len ≡ length file → AreBytesIn page.state.length grown.state.length file)) }
     ensures part { OnFile S.Store store.old name.now block.old (λ file. IsPart file block.new) }
     ensures same { ChangesNothing S.tells S.seen S.moment S.may_leave store.old store.new }
     ensures cause { HasCause (S.faults store.old) (S.faults store.new) (result ≡ Err r.Fault) }
@@ -180,6 +186,8 @@ pub(crate) fn read_page<S: Store>(
         → Tells (λ page. page) result (opened_view head state.now file)) }
     ensures within { IfOk result (λ page. page.state.length ≤ len) }
     ensures grown { IfOk result (λ page. IsGrown head state.now page.state) }
+    ensures bytes { IfOk result (λ page. OnFile S.Store store.old name.now block.old (λ file.
+        len ≡ length file → AreBytesIn 0 page.state.length file)) }
     ensures same { ChangesNothing S.tells S.seen S.moment S.may_leave store.old store.new }
     ensures cause { HasCause (S.faults store.old) (S.faults store.new) (result ≡ Err r.Fault) }
 {

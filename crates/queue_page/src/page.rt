@@ -7,7 +7,7 @@ ghost use Rattle.store_trait.specs.Moments.{EachMoment, LeavesBeside, ReadsBesid
 ghost use Rattle.store_trait.specs.Tails.{IsSettled, AddsToTail, HoldsCut};
 ghost use Rattle.store_disk.specs.declared.faults.QueueFault.TheVariants as f;
 ghost use Rattle.queue_page.specs.Answers.{Answers, Tells};
-ghost use Rattle.queue_page.specs.Blocks.{OnFile, IsPart, left_of};
+ghost use Rattle.queue_page.specs.Blocks.{AreBytesIn, OnFile, IsPart, left_of};
 ghost use Rattle.queue_page.specs.Elements.{element_at};
 ghost use Rattle.queue_page.specs.Grammar.{IsNext};
 ghost use Rattle.queue_page.specs.Leaving.{LeavesSame, LeavesFirst};
@@ -113,6 +113,11 @@ impl Page {
             (opened_view head state.now (bytes_of (S.seen store.old name.now))) }
 
         ensures grown { IfOk result (λ page. IsGrown head state.now page.state) }
+
+        // What was read of the file are bytes, fewer than 2^64.
+        ensures bytes { IfOk result (λ page. IsTrue S.tells
+            → AreBytesIn 0 page.state.length (bytes_of (S.seen store.old name.now))) }
+        ensures short { IfOk result (λ page. page.state.length < 2 ^ 64) }
 
         // What is kept of the file, and what is settled where it was at rest.
         ensures kept { IfOk result (λ page. IsTrue S.tells → S.seen store.new name.now
@@ -246,6 +251,9 @@ fn scan_file<S: Store>(
         (opened_view head state.now (bytes_of (S.seen store.old name.now))) }
     ensures within { IfOk result (λ page. page.state.length ≤ len) }
     ensures grown { IfOk result (λ page. IsGrown head state.now page.state) }
+    ensures bytes { IfOk result (λ page. IsTrue S.tells
+        → len ≡ file_length (S.seen store.old name.now)
+        → AreBytesIn 0 page.state.length (bytes_of (S.seen store.old name.now))) }
     ensures same { ChangesNothing S.tells S.seen S.moment S.may_leave store.old store.new }
     ensures cause { HasCause (S.faults store.old) (S.faults store.new) (result ≡ Err f.Fault) }
 {

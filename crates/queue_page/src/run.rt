@@ -1,8 +1,8 @@
 // A run of elements, read one behind the other.
-ghost use Rattle.std.specs.Prelude.{◌≡◌, ◌≤◌, ◌<◌, ◌^◌, drop, take, length, IfOk, Ok, Err};
+ghost use Rattle.std.specs.Prelude.{◌≡◌, ◌≤◌, ◌<◌, ◌+◌, ◌*◌, ◌^◌, drop, take, length, IfOk, None, Ok, Err};
 ghost use Rattle.io_traits.specs.Counts.{HasCause};
 ghost use Rattle.store_trait.specs.Calls.{ChangesNothing};
-ghost use Rattle.queue_page.specs.Blocks.{IsPart, OnFile, left_of};
+ghost use Rattle.queue_page.specs.Blocks.{AreBytesIn, IsPart, OnFile, left_of};
 ghost use Rattle.queue_page.specs.Runs.{run, end_of};
 ghost use Rattle.queue_page.specs.Answers.{Tells};
 ghost use Rattle.queue_page.specs.declared.fault.RowFault.TheVariants as r;
@@ -39,8 +39,12 @@ pub(crate) fn read_run<S: Store>(
         → Tells (λ found. found) result
         (Ok (end_of (run limit first.version first.number first.place
         (left_of file first.place first.end))))) }
-    ensures within { IfOk result (λ found. (found.count ≤ limit) × (first.place ≤ found.end)
-        × (found.end ≤ first.end)) }
+    ensures within { IfOk result (λ found. (found.count ≤ limit)
+        × (first.place + 16 * found.count ≤ found.end) × (found.end ≤ first.end)) }
+    ensures all { IfOk result (λ found. found.stop ≡ None → found.count < limit
+        → found.end ≡ first.end) }
+    ensures bytes { IfOk result (λ found. OnFile S.Store store.old name.now block.old (λ file.
+        first.end ≤ length file → AreBytesIn first.place found.end file)) }
     ensures part { OnFile S.Store store.old name.now block.old (λ file. IsPart file block.new) }
     ensures same { ChangesNothing S.tells S.seen S.moment S.may_leave store.old store.new }
     ensures cause { HasCause (S.faults store.old) (S.faults store.new) (result ≡ Err r.Fault) }

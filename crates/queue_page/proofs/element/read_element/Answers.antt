@@ -1,8 +1,8 @@
 use Rattle.std.proofs.Common.{◌-◌, ◌≤◌, length, take, sym, subst}
-use Rattle.std.proofs.lemmas.Result.{err_from_is_err_and}
+use Rattle.std.proofs.lemmas.Result.{err_from_is_err_and, IfOk-weaker}
 use Rattle.io_traits.specs.Reads.{bytes_of}
 use Rattle.queue_page.specs.Answers.{Tells}
-use Rattle.queue_page.specs.Blocks.{left_of}
+use Rattle.queue_page.specs.Blocks.{AreBytesIn, left_of}
 use Rattle.queue_page.specs.Elements.{frame_at}
 use Rattle.queue_page.specs.declared.row.PageRow.{PageRow}
 use Rattle.queue_page.proofs.Told.{over}
@@ -30,3 +30,11 @@ returns-clause-row g c = λ told part within.
     subst (λ read. Tells (λ (row : PageRow). row) result read)
     (sym (element_is s.version s.number s.place (left_of file s.place s.end) (s.end - s.place) total (sym (length-left file s.place s.end within)) (c.in_ok-total.ensures.total told part within)))
     read
+
+pub returns-clause-bytes : goal.returns-clause-bytes
+returns-clause-bytes g c =
+    IfOk-weaker c.read_frame.result _ _
+    (λ row are told part within.
+    over (g.S.Store.seen c.read_total.new.store) (g.S.Store.seen c.args.store.now) c.args.name.now c.read_total.new.block (λ f. c.args.spot.now.end ≤ length f → AreBytesIn c.args.spot.now.place row.next f)
+    (c.read_total.ensures.same.reads told) (are told) (c.in_ok-total.ensures.part told part) within)
+    c.read_frame.ensures.bytes

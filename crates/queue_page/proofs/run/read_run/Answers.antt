@@ -2,11 +2,12 @@ use Rattle.std.proofs.Common.{◌≡◌, ◌≤◌, ◌+◌, length, Some, Ok, E
 use Rattle.io_traits.specs.Reads.{bytes_of}
 use Rattle.store_disk.proofs.Looking.{nothing_then}
 use Rattle.queue_page.specs.Answers.{Tells}
-use Rattle.queue_page.specs.Blocks.{IsPart, left_of}
+use Rattle.queue_page.specs.Blocks.{AreBytesIn, IsPart, left_of}
 use Rattle.queue_page.specs.Elements.{element_at}
 use Rattle.queue_page.specs.declared.element.Spot.{Spot}
 use Rattle.queue_page.specs.declared.row.PageRow.{PageRow}
 use Rattle.queue_page.proofs.Told.{over}
+use Rattle.queue_page.proofs.FileBytes.{and_behind}
 use Rattle.queue_page.proofs.RunReads.{read_at, turn, ended_at_limit, ended_at_end, ended_at_fault, ran}
 use Rattle.queue_page.proofs.run.read_run.Goals as goal
 
@@ -25,6 +26,11 @@ loop-count-preserved g c =
       same = nothing_then g.S.Store c.args.store.now c.loop-count.store c.read_element.new.store inv.same c.read_element.ensures.same;
       faults = c.in-Ok.ensures.cause.same (λ is. cc) ∙ inv.faults;
       part = λ told part. over (g.S.Store.seen c.loop-count.store) (g.S.Store.seen c.args.store.now) name c.loop-count.block (λ file. IsPart file c.read_element.new.block) (inv.same.reads told) (c.read_element.ensures.part told) (inv.part told part);
+      bytes = λ told part within.
+          let file = bytes_of (g.S.Store.seen c.args.store.now name) in
+          and_behind file c.args.first.place now.place c.in-Ok.row.next (inv.bytes told part within)
+          (over (g.S.Store.seen c.loop-count.store) (g.S.Store.seen c.args.store.now) name c.loop-count.block (λ f. now.end ≤ length f → AreBytesIn now.place c.in-Ok.row.next f) (inv.same.reads told) (c.in-Ok.ensures.bytes told)
+          (inv.part told part) (omega (arith, inv.end, within)));
       so_far = λ told part within.
           let read = over (g.S.Store.seen c.loop-count.store) (g.S.Store.seen c.args.store.now) name c.loop-count.block
           (λ file. now.end ≤ length file → element_at now.version now.number now.place (left_of file now.place now.end) ≡ Ok c.in-Ok.row) (inv.same.reads told) (c.in-Ok.ensures.row told) (inv.part told part) (omega (arith, inv.end, within)) in

@@ -1,6 +1,6 @@
 use Rattle.std.proofs.Common.{◌-◌, ◌≡◌, ◌≤◌, ◌+◌, ◌*◌, length}
 use Rattle.store_trait.specs.Calls.{ChangesNothing}
-use Rattle.queue_page.specs.Blocks.{IsPart, OnFile}
+use Rattle.queue_page.specs.Blocks.{AreBytesIn, IsPart, OnFile}
 use Rattle.queue_page.proofs.RunReads.{SoFar}
 use Rattle.queue_page.proofs.run.read_run.Given as goal
 
@@ -15,6 +15,7 @@ invariant-loop-count g l = record {
   same : ChangesNothing g.S.Store.tells g.S.Store.seen g.S.Store.moment g.S.Store.may_leave l.fn.store l.store;
   faults : g.S.Store.faults l.store ≡ g.S.Store.faults l.fn.store;
   part : OnFile g.S.Store l.fn.store l.fn.name l.fn.block (λ file. IsPart file l.block);
+  bytes : OnFile g.S.Store l.fn.store l.fn.name l.fn.block (λ file. l.fn.first.end ≤ length file → AreBytesIn l.fn.first.place l.spot.place file);
   so_far : OnFile g.S.Store l.fn.store l.fn.name l.fn.block (λ file. l.fn.first.end ≤ length file → SoFar l.fn.limit l.fn.first l.count l.spot file);
 }
 
