@@ -23,7 +23,6 @@ pub mod PurgeRun
 pub mod QueuePages
 pub mod QueueHead
 pub mod QueueOpens
-pub mod QueueTrim
 pub mod QueueReads
 pub mod QueueReady
 pub mod Lengths

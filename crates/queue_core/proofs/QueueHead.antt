@@ -3,13 +3,14 @@ use Rattle.std.proofs.Common.{◌≡◌, ℕ, suc, ◌+◌, ◌-◌, ◌<◌, �
 use Rattle.std.proofs.Math.Seq.{take-add, drop-append_seam}
 use Rattle.std.proofs.lemmas.List.{take_at, nil_from_length}
 use Rattle.io_traits.specs.Reads.{bytes_of}
-use Rattle.crc_frame.proofs.Numbers.{IsBytes, IsBytes-drop}
 use Rattle.store_disk.specs.declared.pages.PageState.{PageState}
+use Rattle.queue_page.specs.Blocks.{AreBytesIn}
 use Rattle.queue_page.specs.Grammar.{AreElements, IsPage}
 use Rattle.queue_page.specs.Pages.{PageRows, recorded, opened, extended, room_of, run_behind, with_run}
 use Rattle.queue_page.specs.Runs.{Run, run, behind}
 use Rattle.queue_page.specs.declared.row.PageRow.{PageRow}
 use Rattle.queue_page.proofs.ElementReads.{and_then_ok}
+use Rattle.queue_page.proofs.FileBytes.{front_bytes, part_bytes}
 use Rattle.queue_page.proofs.PageReads.{recorded_took}
 use Rattle.queue_page.proofs.RunLemmas.{run_took, none_there}
 use Rattle.queue_page.proofs.Spelling.{IsRunOf, is_run, pages_are_spelled, runs_are_longest}
@@ -54,7 +55,8 @@ some_file None some = absurd (omega (arith, some))
 some_file (Some bytes) some = refl
 
 -- the head page, so far as it was recorded, and the run behind that
-module _ (a b : Folder) (turn : ℕ) (s : PageState) (bytes : IsBytes (bytes_of (a (page s.page)))) (r0 : PageRows) (reads : recorded s (bytes_of (a (page s.page))) ≡ Ok r0)
+module _ (a b : Folder) (turn : ℕ) (s : PageState) (r0 : PageRows) (reads : recorded s (bytes_of (a (page s.page))) ≡ Ok r0)
+    (bytes : AreBytesIn 0 (run_behind s r0.version (bytes_of (a (page s.page)))).end (bytes_of (a (page s.page))))
     (head_is : b head ≡ a head) (newest : IsNewest (bytes_of (a head)) turn s) (tells : told (a head) ≡ Ok s) where
   abbrev file : List ℕ
   file = bytes_of (a (page s.page))
@@ -69,13 +71,14 @@ module _ (a b : Folder) (turn : ℕ) (s : PageState) (bytes : IsBytes (bytes_of 
   top = page_of s.page turn s read
 
   spelled : IsPage (take s.length file) r0.version s.least r0.rows × (length r0.rows ≡ s.count) × (r0.length ≡ s.length)
-  spelled = pages_are_spelled s file r0 bytes reads
+  spelled = pages_are_spelled s file r0 (front_bytes file s.length (λ i from to. bytes i from (omega (arith, to, (run_took (room_of s) r0.version (s.least + s.count) s.length (drop s.length file)).end_is)))) reads
 
   long : s.length ≤ length file
   long = (recorded_took s file r0 reads).long
 
   run_of : IsRunOf (room_of s) r0.version (s.least + s.count) s.length (drop s.length file) r
-  run_of = is_run (room_of s) r0.version (s.least + s.count) s.length (drop s.length file) spelled.0.is_version (IsBytes-drop s.length file bytes)
+  run_of = is_run (room_of s) r0.version (s.least + s.count) s.length (drop s.length file) spelled.0.is_version
+      (λ size ends. part_bytes file s.length size (λ i from to. bytes i (omega arith) (omega (arith, to, ends))))
 
   abbrev front : List ℕ
   front = take s.length file

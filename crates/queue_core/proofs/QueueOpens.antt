@@ -2,8 +2,8 @@
 use Rattle.std.proofs.Common.{◌≡◌, ◌≢◌, ℕ, ◌+◌, ◌<◌, ◌≤◌, ◌^◌, true, List, [], ◌∷◌, ◌++◌, length, map, take, Option, Some, None, option_map, Result, Ok, refl, sym, ◌∙◌, ap, subst, arith}
 use Rattle.std.proofs.Math.Path.{ap₂}
 use Rattle.io_traits.specs.Reads.{bytes_of}
-use Rattle.crc_frame.proofs.Numbers.{IsBytes}
 use Rattle.store_disk.specs.declared.pages.PageState.{PageState}
+use Rattle.queue_page.specs.Blocks.{AreBytesIn}
 use Rattle.queue_page.specs.Elements.{and_then}
 use Rattle.queue_page.specs.Pages.{PageRows, opened, opened_view, run_behind, with_run, view_of}
 use Rattle.queue_page.specs.Views.{PageView}
@@ -17,7 +17,7 @@ use Rattle.queue_laws.specs.Resting.{Held}
 use Rattle.queue_laws.proofs.SameFiles.{same_held, tail_below}
 use Rattle.queue_core.specs.Opening.{held_tail, held_at, held_of}
 use Rattle.queue_core.specs.Reading.{AreStanding, IsScanned}
-use Rattle.queue_core.specs.Queues.{page_of, AreTrim, AreNewest, AreTold, IsNewest, ArePages, IsCut}
+use Rattle.queue_core.specs.Queues.{page_of, HaveBytes, AreNewest, AreTold, IsNewest, ArePages, IsCut}
 use Rattle.queue_core.specs.declared.reading.Scanned.{Scanned}
 use Rattle.queue_core.specs.declared.tails.Tail.{Tail}
 use Rattle.queue_core.proofs.TornMarks.{number_of}
@@ -91,7 +91,7 @@ pub record Opens (b : Folder) (turn : ℕ) (s : PageState) (r : Scanned) (rows :
   pub rows_are : rows ≡ record { rows = all_rows queue.tails queue.top; next = queue.top.least + length queue.top.rows; recorded = queue.top.least + queue.marked }
 
 module _ (m b : Folder) (turn : ℕ) (s : PageState) (numbers : List ℕ) (r : Scanned) (scanned : IsScanned m s numbers r) (tells : told (m head) ≡ Ok s) (newest : IsNewest (bytes_of (m head)) turn s) (turns : AreNewest m r.tails.items)
-    (stand : AreStanding 0 s.page m numbers) (bytes : (n : ℕ) → n ≤ s.page → IsBytes (bytes_of (m (page n)))) (trim : AreTrim m r.tails.items)
+    (stand : AreStanding 0 s.page m numbers) (tail_bytes : HaveBytes m r.tails.items) (top_bytes : AreBytesIn 0 r.top.state.length (bytes_of (m (page s.page))))
     (short : r.top.state.length < 2 ^ 64) (cut : IsCut s r m b)
     (no_pages : (n : ℕ) → s.page < n → n < 2 ^ 32 → m (page n) ≡ None) (no_checkpoints : (n : ℕ) → s.page ≤ n → n < 2 ^ 32 → m (checkpoint n) ≡ None) where
   abbrev file : List ℕ
@@ -121,6 +121,9 @@ module _ (m b : Folder) (turn : ℕ) (s : PageState) (numbers : List ℕ) (r : S
   length_is : r.top.state.length ≡ read.length
   length_is = ap (λ (v : PageView). v.state.length) view_is
 
+  read_bytes : AreBytesIn 0 read.length file
+  read_bytes = subst (λ (n : ℕ). AreBytesIn 0 n file) length_is top_bytes
+
   abbrev top : Page
   top = page_of s.page turn s read
 
@@ -128,7 +131,7 @@ module _ (m b : Folder) (turn : ℕ) (s : PageState) (numbers : List ℕ) (r : S
   head_same = cut.others head (λ is. absurd cc)
 
   sound : IsSound top
-  sound = head_sound m b turn s (bytes s.page (omega arith)) parts.r0 parts.reads head_same newest tells
+  sound = head_sound m b turn s parts.r0 parts.reads read_bytes head_same newest tells
 
   listed_are : AreListed m numbers r.tails.items
   listed_are = listed m numbers r.tails.items scanned.tails
@@ -138,8 +141,8 @@ module _ (m b : Folder) (turn : ℕ) (s : PageState) (numbers : List ℕ) (r : S
       (sym (ap (λ x. and_then x (found_in (head_held m s))) scanned.tails) ∙ scanned.is_found)
 
   built : Built m 0 0 s.page r.tails.items r.pages.items top scanned.rows
-  built = build m (head_held m s) top (λ n less. bytes n (omega (arith, less))) sound.number sound refl (λ found is. ap (λ (f : Found). f.rows) (head_rows m s read opens found is)) 0 0 r.tails.items r.pages.items scanned.rows scanned.pages (omega arith)
-      both.1 both.0 (subst (AreStanding 0 s.page m) (sym listed_are.numbers_are) stand) trim turns listed_are.tells
+  built = build m (head_held m s) top sound.number sound refl (λ found is. ap (λ (f : Found). f.rows) (head_rows m s read opens found is)) 0 0 r.tails.items r.pages.items scanned.rows scanned.pages (omega arith)
+      both.1 both.0 (subst (AreStanding 0 s.page m) (sym listed_are.numbers_are) stand) tail_bytes turns listed_are.tells
 
   abbrev q : Queue
   q = record { tails = built.pages; top = top; marked = s.count }
@@ -157,7 +160,7 @@ module _ (m b : Folder) (turn : ℕ) (s : PageState) (numbers : List ℕ) (r : S
   held = record {
     tails = same_held q.tails m b (λ n tail. let less = tail_below n q is_queue tail in (slots_same n, other_page n (λ is. omega (arith, less, is)))) built.held;
     gone = λ n less none. other_page n (λ is. omega (arith, less, is)) ∙ built.gone n (omega arith) less none;
-    top = head_held_so m b turn s (bytes s.page (omega arith)) parts.r0 parts.reads head_same newest tells q refl refl
+    top = head_held_so m b turn s parts.r0 parts.reads read_bytes head_same newest tells q refl refl
         (subst (λ (k : ℕ). b (page s.page) ≡ option_map (take k) (m (page s.page))) length_is cut.top) (omega (arith, short, length_is));
     no_pages = λ n above fits. other_page n (λ is. omega (arith, above, is)) ∙ no_pages n above fits;
     no_checkpoints = λ n from fits. slots_same n ∙ no_checkpoints n from fits;

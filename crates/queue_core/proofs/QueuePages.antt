@@ -1,28 +1,29 @@
 -- The pages that were read are pages of a queue.
-use Rattle.std.proofs.Common.{◌≡◌, ◌≢◌, ◌⊎◌, inl, inr, ⊎_elim, ℕ, suc, ◌+◌, ◌-◌, ◌<◌, ◌≤◌, ◌^◌, ◌==◌, nat_lt, Bool, true, false, List, [], ◌∷◌, ◌++◌, length, map, take, Option, Some, None, IsSome, Result, Ok, Err, if◌then◌else◌, refl, sym, ◌∙◌, ap, subst, arith}
+use Rattle.std.proofs.Common.{◌≡◌, ◌≢◌, ◌⊎◌, inl, inr, ⊎_elim, ℕ, suc, ◌+◌, ◌-◌, ◌<◌, ◌≤◌, ◌^◌, ◌==◌, nat_lt, Bool, true, false, List, [], ◌∷◌, ◌++◌, length, map, take, drop, Option, Some, None, IsSome, Result, Ok, Err, if◌then◌else◌, refl, sym, ◌∙◌, ap, subst, arith, length-take, take-append-drop}
 use Rattle.std.proofs.lemmas.Bool.{cases_Bool, cases_lt, cond-true, cond-false, false≢true}
 use Rattle.std.proofs.lemmas.Bool.Decides.{nat_tests}
-use Rattle.std.proofs.lemmas.List.{take_all}
 use Rattle.io_traits.specs.Reads.{bytes_of}
-use Rattle.crc_frame.proofs.Numbers.{IsBytes}
 use Rattle.store_disk.specs.declared.pages.PageState.{PageState}
 use Rattle.queue_checkpoint.specs.Checkpoints.{slots_of}
+use Rattle.queue_page.specs.Blocks.{AreBytesIn}
 use Rattle.queue_page.specs.Elements.{and_then}
 use Rattle.queue_page.specs.Grammar.{AreElements, IsPage}
 use Rattle.queue_page.specs.Pages.{PageRows, recorded, opened, extended, view_of}
 use Rattle.queue_page.specs.Views.{PageView}
 use Rattle.queue_page.specs.declared.row.PageRow.{PageRow}
 use Rattle.queue_page.proofs.ElementReads.{and_then_ok}
+use Rattle.queue_page.proofs.FileBytes.{front_bytes}
+use Rattle.queue_page.proofs.PageReads.{recorded_took}
 use Rattle.queue_page.proofs.Spelling.{pages_are_spelled}
 use Rattle.queue_laws.specs.Folders.{page, checkpoint, Folder}
 use Rattle.queue_laws.specs.Checkpoints.{Misfit, misfit, bounded, told, told_by}
 use Rattle.queue_laws.specs.Found.{Damaged, or_damage, Found, since, Held, falling, opened_page, with_page, read_all}
-use Rattle.queue_laws.specs.Kept.{Page, leading, state_at, NoTail, AreNumbered, IsSound, Rising, all_rows}
+use Rattle.queue_laws.specs.Kept.{Page, leading, state_as, NoTail, AreNumbered, IsSound, Rising, all_rows}
 use Rattle.queue_laws.specs.Resting.{Records, TailHeld, TailsHeld}
 use Rattle.queue_laws.proofs.Recording.{read_is_recorded}
 use Rattle.queue_core.specs.Opening.{held_tail, view_at, views_of}
 use Rattle.queue_core.specs.Reading.{AreStanding}
-use Rattle.queue_core.specs.Queues.{below, page_of, ArePages, IsTrim, AreTrim, IsNewest, AreNewest, AreTold}
+use Rattle.queue_core.specs.Queues.{below, page_of, ArePages, HaveBytes, IsNewest, AreNewest, AreTold}
 use Rattle.queue_core.specs.declared.tails.Tail.{Tail}
 
 -- ---- rows
@@ -91,39 +92,48 @@ opened_rows s file read is =
     let r = and_then_ok (recorded s file) (λ page. Ok (extended false s file page)) read is in
     r.1 ∙ r.2
 
-module _ (number turn : ℕ) (s : PageState) (slots file : Option (List ℕ)) (read : PageRows) (bytes : IsBytes (bytes_of file)) (some : IsSome file) (reads : recorded s (bytes_of file) ≡ Ok read)
-    (trim : IsTrim number s (bytes_of file)) (newest : IsNewest (bytes_of slots) turn s) (tells : told slots ≡ Ok s) where
+module _ (number turn : ℕ) (s : PageState) (slots file : Option (List ℕ)) (read : PageRows) (bytes : AreBytesIn 0 s.length (bytes_of file)) (some : IsSome file) (reads : recorded s (bytes_of file) ≡ Ok read)
+    (newest : IsNewest (bytes_of slots) turn s) (tells : told slots ≡ Ok s) where
   abbrev p : Page
   p = page_of number turn s read
 
   spelled : IsPage (take s.length (bytes_of file)) read.version s.least read.rows × (length read.rows ≡ s.count) × (read.length ≡ s.length)
-  spelled = pages_are_spelled s (bytes_of file) read bytes reads
+  spelled = pages_are_spelled s (bytes_of file) read (front_bytes (bytes_of file) s.length bytes) reads
 
-  whole : IsPage (bytes_of file) p.version p.least p.rows
-  whole = subst (λ (b : List ℕ). IsPage b read.version s.least read.rows) (take_all s.length (bytes_of file) (omega (arith, trim.exact))) spelled.0
+  abbrev front : List ℕ
+  front = take s.length (bytes_of file)
+
+  long : length front ≡ s.length
+  long = omega (arith, length-take s.length (bytes_of file), (recorded_took s (bytes_of file) read reads).long)
+
+  bounds : InBounds s
+  bounds = in_bounds s s (told_bounded slots turn s newest tells)
 
   is_bytes : (o : Option (List ℕ)) → IsSome o → o ≡ Some (bytes_of o)
   is_bytes None none = absurd (false≢true none)
   is_bytes (Some b) is = refl
 
-  same_state : state_at p p.from p.rows (length (bytes_of file)) ≡ s
-  same_state = λ i. record { page = (sym trim.named) i; first_open = s.first_open; least = s.least; count = spelled.1 i; length = trim.exact i }
+  same_state : state_as s.page p p.from p.rows (length front) ≡ s
+  same_state = λ i. record { page = s.page; first_open = s.first_open; least = s.least; count = spelled.1 i; length = long i }
 
   pub tail_held : TailHeld p slots file
   tail_held = record {
-    bytes = bytes_of file;
-    stands = is_bytes file some;
-    is_page = whole;
-    short = omega (arith, trim.exact, newest.fits.length);
+    bytes = front;
+    rest = drop s.length (bytes_of file);
+    stands = is_bytes file some ∙ ap Some (sym (take-append-drop s.length (bytes_of file)));
+    is_page = spelled.0;
+    short = omega (arith, long, newest.fits.length);
+    named = s.page;
+    low = omega (arith, bounds.page, newest.fits.page);
     records = subst (Records (bytes_of slots) turn) (sym same_state) (read_is_recorded slots turn s newest.fits newest.is tells);
   }
 
   pub count_is : length read.rows ≡ s.count
   count_is = spelled.1
 
-  pub tail_sound : InBounds s → number < 2 ^ 32 - 1 → IsSound p
-  tail_sound bounds low =
-      let numbered = are_numbered read.version s.least 1 read.rows whole.elements whole.are in
+  pub tail_sound : number < 2 ^ 32 - 1 → IsSound p
+  tail_sound low =
+      let numbered = are_numbered read.version s.least 1 read.rows spelled.0.elements spelled.0.are in
       record {
         number = low;
         turn = newest.fits.turn_fits;
@@ -167,7 +177,7 @@ pub record Built (b : Folder) (from end h : ℕ) (tails : List Tail) (views : Li
   pub rows : found.rows ≡ all_rows pages top
   pub gone : (n : ℕ) → from ≤ n → n < h → NoTail n pages → b (page n) ≡ None
 
-module _ (b : Folder) (top : Held) (q_top : Page) (bytes : (n : ℕ) → n < q_top.number → IsBytes (bytes_of (b (page n)))) (low : q_top.number < 2 ^ 32 - 1) (sound : IsSound q_top) (least_is : q_top.least ≡ top.state.least)
+module _ (b : Folder) (top : Held) (q_top : Page) (low : q_top.number < 2 ^ 32 - 1) (sound : IsSound q_top) (least_is : q_top.least ≡ top.state.least)
     (rows_are : (found : Found) → read_all [] top ≡ Ok found → found.rows ≡ since q_top.from q_top.rows) where
   falls_not : (end : ℕ) (p : Held) (rest : List Held) → falling end (p ∷ rest) ≡ None → (end ≤ p.state.least) × (falling (p.state.least + p.state.count) rest ≡ None)
   falls_not end p rest none = elim (cases_Bool (nat_lt p.state.least end)) [
@@ -179,12 +189,12 @@ module _ (b : Folder) (top : Held) (q_top : Page) (bytes : (n : ℕ) → n < q_t
       some_none is = absurd cc
 
   pub build : (from end : ℕ) (tails : List Tail) (views : List PageView) (found : Found) → views_of b tails ≡ Ok views → from ≤ q_top.number → read_all (map (held_tail b) tails) top ≡ Ok found
-      → falling end (map (held_tail b) tails ++ top ∷ []) ≡ None → AreStanding from q_top.number b (map (λ t. t.number) tails) → AreTrim b tails → AreNewest b tails → AreTold b tails
+      → falling end (map (held_tail b) tails ++ top ∷ []) ≡ None → AreStanding from q_top.number b (map (λ t. t.number) tails) → HaveBytes b tails → AreNewest b tails → AreTold b tails
       → Built b from end q_top.number tails views q_top found
-  build from end [] views found seen below_top reads falls stand trim newest tells =
+  build from end [] views found seen below_top reads falls stand bytes newest tells =
       let f = falls_not end top [] falls in
       record { pages = []; are = refl; held = tt; rising = (below_top, omega (arith, f.0, least_is), sound); rows = rows_are found reads; gone = λ n past less none. stand n past less }
-  build from end (t ∷ tails) views found seen below_top reads falls stand trim newest tells =
+  build from end (t ∷ tails) views found seen below_top reads falls stand bytes newest tells =
       let f = falls_not end (held_tail b t) (map (held_tail b) tails ++ top ∷ []) falls in
       let first = and_then_ok (opened_page false (held_tail b t)) (λ read. and_then (read_all (map (held_tail b) tails) top) (λ rest. Ok (with_page (held_tail b t) read rest))) found reads in
       let read = first.0 in
@@ -194,11 +204,10 @@ module _ (b : Folder) (top : Held) (q_top : Page) (bytes : (n : ℕ) → n < q_t
       let opened_is = damage_ok (opened false t.state (bytes_of file)) (λ m. (page t.number, misfit m.place m.found m.expected)) read first.1 in
       let recorded_is = opened_rows t.state (bytes_of file) read opened_is in
       let one = first_view b t tails views read opened_is seen in
-      let held = tail_held t.number t.turn t.state slots file read (bytes t.number stand.1) stand.2 recorded_is trim.0 newest.0 tells.0 in
-      let count = count_is t.number t.turn t.state slots file read (bytes t.number stand.1) stand.2 recorded_is trim.0 newest.0 tells.0 in
-      let bounds = in_bounds t.state t.state (told_bounded slots t.turn t.state newest.0 tells.0) in
-      let is_sound = tail_sound t.number t.turn t.state slots file read (bytes t.number stand.1) stand.2 recorded_is trim.0 newest.0 tells.0 bounds (omega (arith, stand.1, low)) in
-      let rest = build (suc t.number) (t.state.least + t.state.count) tails one.more behind.0 one.behind (omega (arith, stand.1)) behind.1 f.1 stand.4 trim.1 newest.1 tells.1 in
+      let held = tail_held t.number t.turn t.state slots file read bytes.0 stand.2 recorded_is newest.0 tells.0 in
+      let count = count_is t.number t.turn t.state slots file read bytes.0 stand.2 recorded_is newest.0 tells.0 in
+      let is_sound = tail_sound t.number t.turn t.state slots file read bytes.0 stand.2 recorded_is newest.0 tells.0 (omega (arith, stand.1, low)) in
+      let rest = build (suc t.number) (t.state.least + t.state.count) tails one.more behind.0 one.behind (omega (arith, stand.1)) behind.1 f.1 stand.4 bytes.1 newest.1 tells.1 in
       let with_rest : with_page (held_tail b t) read behind.0 ≡ found = found_ok behind.2 in
       record {
         pages = page_of t.number t.turn t.state read ∷ rest.pages;

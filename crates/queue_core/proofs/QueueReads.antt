@@ -1,5 +1,5 @@
 -- What reads give once the pages of a folder are read.
-use Rattle.std.proofs.Common.{◌≡◌, ◌≢◌, ⊎_elim, ℕ, zero, suc, true, IsTrue, List, [], ◌∷◌, ◌++◌, take, Option, Some, None, option_map, Ok, refl, sym, ◌∙◌, ap, subst}
+use Rattle.std.proofs.Common.{◌≡◌, ◌≢◌, ⊎_elim, ℕ, zero, suc, ◌<◌, ◌^◌, true, IsTrue, List, [], ◌∷◌, ◌++◌, take, Option, Some, None, option_map, Ok, refl, sym, ◌∙◌, ap, subst}
 use Rattle.std.proofs.lemmas.Bool.{false≢true}
 use Rattle.io_traits.specs.Reads.{bytes_of}
 use Rattle.store_trait.specs.Images.{Image, IsAtRest, at_rest}
@@ -9,12 +9,13 @@ use Rattle.store_trait.specs.declared.stores.Store.{Ghosts as StoreWords}
 use Rattle.store_trait.proofs.Moments.{holds_now}
 use Rattle.store_disk.proofs.Looking.{Nothing}
 use Rattle.store_disk.specs.declared.pages.PageState.{PageState}
+use Rattle.queue_page.specs.Blocks.{AreBytesIn}
 use Rattle.queue_page.specs.Pages.{is_version, version_of, opened, opened_view, kept_of}
 use Rattle.queue_page.specs.Views.{PageView}
 use Rattle.queue_page.proofs.PageReads.{as_rows, recorded_took}
 use Rattle.queue_laws.specs.Folders.{Folder, Names, AreApart, page, checkpoint}
 use Rattle.queue_core.specs.Marks.{read_in}
-use Rattle.queue_core.specs.Queues.{IsNewest, AreNewest, LeavesRead}
+use Rattle.queue_core.specs.Queues.{IsNewest, AreNewest, HaveBytes, LeavesRead}
 use Rattle.queue_core.specs.declared.reading.Scanned.{Scanned}
 use Rattle.queue_core.specs.declared.tails.Tail.{Tail}
 use Rattle.queue_core.proofs.QueueHead.{head_parts}
@@ -44,7 +45,8 @@ module _ {S : Type 0} (store : StoreWords S) (tell : ImagesTell store) (names : 
     (nothing : Nothing store s0 s1) (name : List ℕ) (is_name : name ≡ names (page s.page)) (r : Scanned) (opens : IsTrue store.tells → opened_view true s (bytes_of (store.seen s1 name)) ≡ Ok r.top)
     (kept : IsTrue store.tells → store.seen s2 name ≡ option_map (kept_of true r.top) (store.seen s1 name))
     (settled : (bytes : List ℕ) → IsSettled store s1 name bytes → IsSettled store s2 name (kept_of true r.top bytes)) (reads : ReadsBeside store (λ n. n ≡ name) s1 s2)
-    (beside : EachMoment store s1 s2 (LeavesBeside store (λ n. n ≡ name) s1)) (newest : IsTrue store.tells → AreNewest (read_in names (store.seen s0)) r.tails.items) where
+    (beside : EachMoment store s1 s2 (LeavesBeside store (λ n. n ≡ name) s1)) (newest : IsTrue store.tells → AreNewest (read_in names (store.seen s0)) r.tails.items)
+    (tail_bytes : IsTrue store.tells → HaveBytes (read_in names (store.seen s0)) r.tails.items) (top_bytes : IsTrue store.tells → AreBytesIn 0 r.top.state.length (bytes_of (store.seen s1 name))) (short : r.top.state.length < 2 ^ 64) where
   rests1 : (i : Image) → MayLeaveNow store s1 i → IsAtRest (store.seen s0) i
   rests1 i left = rests i (nothing.images i left)
 
@@ -80,4 +82,7 @@ module _ {S : Type 0} (store : StoreWords S) (tell : ImagesTell store) (names : 
       others = λ role other. others told (names role) (λ is. other (apart role (page s.page) (is ∙ is_name)));
     };
     newest = newest;
+    tail_bytes = tail_bytes;
+    top_bytes = λ told. subst (λ n. AreBytesIn 0 r.top.state.length (bytes_of (store.seen s0 n))) is_name (subst (λ (o : Option (List ℕ)). AreBytesIn 0 r.top.state.length (bytes_of o)) (same1 told name) (top_bytes told));
+    short = short;
   }

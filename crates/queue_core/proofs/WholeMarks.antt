@@ -1,5 +1,5 @@
 -- The marks of a queue, written whole.
-use Rattle.std.proofs.Common.{◌≡◌, ◌⊎◌, inl, inr, ⊎_elim, ℕ, suc, ◌+◌, ◌<◌, ◌≤◌, ◌^◌, ◌==◌, not, Bool, true, false, List, [], ◌∷◌, ◌++◌, length, take, drop, Option, Some, if◌then◌else◌, refl, sym, ◌∙◌, ap, subst, arith, append-nil}
+use Rattle.std.proofs.Common.{◌≡◌, ◌⊎◌, inl, inr, ⊎_elim, ℕ, suc, ◌+◌, ◌-◌, ◌<◌, ◌≤◌, ◌^◌, ◌==◌, not, Bool, true, false, List, [], ◌∷◌, ◌++◌, length, take, drop, Option, Some, if◌then◌else◌, refl, sym, ◌∙◌, ap, subst, arith, append-nil}
 use Rattle.std.proofs.Math.Seq.{drop-append_seam}
 use Rattle.std.proofs.lemmas.Bool.{cond-true, cond-false, eqb-true}
 use Rattle.std.proofs.lemmas.List.{take_all}
@@ -12,7 +12,7 @@ use Rattle.queue_checkpoint.specs.Checkpoints.{FitsSlot, slot_spelling}
 use Rattle.queue_checkpoint.proofs.SlotBytes.{spelling_is_slot}
 use Rattle.queue_page.specs.Grammar.{AreElements, IsPage}
 use Rattle.queue_laws.specs.Folders.{Role, head, page, checkpoint, Folder, Names, AreApart}
-use Rattle.queue_laws.specs.Kept.{Page, Queue, first_open_of, state_at, NoTail, IsSound, Rising, IsQueue}
+use Rattle.queue_laws.specs.Kept.{Page, Queue, first_open_of, state_as, state_at, NoTail, IsSound, Rising, IsQueue}
 use Rattle.queue_laws.specs.Resting.{Records, TailHeld, TailsHeld, TopHeld, Held}
 use Rattle.queue_laws.specs.Steps.{marked, marked_pages, marked_page, recorded_page}
 use Rattle.queue_laws.proofs.Recording.{fits_slot, spelled_records}
@@ -140,31 +140,42 @@ module _ (names : Names) (apart : AreApart names) (top : Page) (len : ℕ) (fold
 
   tail_recorded : (p : Page) → IsSound p → (held : TailHeld p (folder (checkpoint p.number)) (folder (page p.number))) → Became p (length held.bytes) → new (names (page p.number)) ≡ folder (page p.number)
       → TailHeld (marked_page p) (new (names (checkpoint p.number))) (new (names (page p.number)))
-  tail_recorded p sound held became same = record {
-    bytes = held.bytes;
-    stands = same ∙ held.stands;
-    is_page = held.is_page;
-    short = held.short;
-    records = ⊎_elim
-        (λ is.
-        let from : p.from ≡ first_open_of p = sym (eqb-true (first_open_of p) p.from is.0) in
-        let turn : p.turn ≡ (marked_page p).turn = sym (cond-true (first_open_of p == p.from) p.turn (next_turn p.turn) is.0) in
-        subst (λ t. Records (bytes_of (new (names (checkpoint p.number)))) t now) turn
-        (subst (λ x. Records (bytes_of (new (names (checkpoint p.number)))) p.turn (state_at p x p.rows len_of)) from
-        (subst (λ o. Records (bytes_of o) p.turn (state_at p p.from p.rows len_of)) (sym is.1) held.records)))
-        (λ is.
-        let turn : next_turn p.turn ≡ (marked_page p).turn = sym (cond-false (first_open_of p == p.from) p.turn (next_turn p.turn) is.0) in
-        subst (λ t. Records (bytes_of (new (names (checkpoint p.number)))) t now) turn
-        (subst (λ o. Records (bytes_of o) (next_turn p.turn) now) (sym is.1)
-        (recorded (bytes_of (folder (checkpoint p.number))) p.turn (state_at p p.from p.rows len_of) now held.records (fits_slot p (next_turn p.turn) (first_open_of p) len_of p.rows sound (next_fits p.turn) (open_fits p sound) (omega arith) held.short))))
-        became;
-  }
+  tail_recorded p sound held became same = ⊎_elim
+      (λ is.
+      let from : p.from ≡ first_open_of p = sym (eqb-true (first_open_of p) p.from is.0) in
+      let turn : p.turn ≡ (marked_page p).turn = sym (cond-true (first_open_of p == p.from) p.turn (next_turn p.turn) is.0) in
+      with_slot_of held.named held.low
+      (subst (λ t. Records (bytes_of slots) t (state_as held.named p (first_open_of p) p.rows len_of)) turn
+      (subst (λ x. Records (bytes_of slots) p.turn (state_as held.named p x p.rows len_of)) from
+      (subst (λ o. Records (bytes_of o) p.turn (state_as held.named p p.from p.rows len_of)) (sym is.1) held.records))))
+      (λ is.
+      let turn : next_turn p.turn ≡ (marked_page p).turn = sym (cond-false (first_open_of p == p.from) p.turn (next_turn p.turn) is.0) in
+      with_slot_of p.number sound.number
+      (subst (λ t. Records (bytes_of slots) t now) turn
+      (subst (λ o. Records (bytes_of o) (next_turn p.turn) now) (sym is.1)
+      (recorded (bytes_of (folder (checkpoint p.number))) p.turn (state_as held.named p p.from p.rows len_of) now held.records (fits_slot p (next_turn p.turn) (first_open_of p) len_of p.rows sound (next_fits p.turn) (open_fits p sound) (omega arith) held.short)))))
+      became
     where
+      slots : Option (List ℕ)
+      slots = new (names (checkpoint p.number))
+
       len_of : ℕ
       len_of = length held.bytes
 
       now : PageState
       now = state_at p (first_open_of p) p.rows (length held.bytes)
+
+      with_slot_of : (named : ℕ) → named < 2 ^ 32 - 1 → Records (bytes_of slots) (marked_page p).turn (state_as named p (first_open_of p) p.rows len_of) → TailHeld (marked_page p) slots (new (names (page p.number)))
+      with_slot_of named low records = record {
+        bytes = held.bytes;
+        rest = held.rest;
+        stands = same ∙ held.stands;
+        is_page = held.is_page;
+        short = held.short;
+        named = named;
+        low = low;
+        records = records;
+      }
 
   tails_recorded : (number end : ℕ) (tails : List Page) (held : TailsHeld tails folder) → Rising number end tails top → AllBecame tails held → ((n : ℕ) → new (names (page n)) ≡ folder (page n)) → TailsHeld (marked_pages tails) (read_in names new)
   tails_recorded number end [] held rising became pages = tt

@@ -6,16 +6,15 @@ use Rattle.store_trait.specs.Moments.{MayLeaveNow}
 use Rattle.store_trait.specs.declared.stores.Store.{Ghosts as StoreWords}
 use Rattle.store_disk.specs.declared.pages.PageState.{PageState}
 use Rattle.queue_checkpoint.specs.Checkpoints.{FitsSlot, newest_in}
-use Rattle.queue_page.specs.Laws.{AreBytes}
+use Rattle.queue_page.specs.Blocks.{AreBytesIn}
 use Rattle.queue_page.specs.Pages.{PageRows, view_of}
 use Rattle.queue_page.specs.Views.{PageView}
 use Rattle.queue_page.specs.declared.row.PageRow.{PageRow}
 use Rattle.queue_laws.specs.Folders.{Role, page, checkpoint, Folder, Names}
 use Rattle.queue_laws.specs.Checkpoints.{told}
 use Rattle.queue_laws.specs.Found.{found}
-use Rattle.queue_laws.specs.Kept.{Page, Queue, all_rows, Stands}
+use Rattle.queue_laws.specs.Kept.{Page, Queue, all_rows}
 use Rattle.queue_core.specs.Marks.{read_in}
-use Rattle.queue_core.specs.Reading.{AreStanding}
 use Rattle.queue_core.specs.Ready.{Ready}
 use Rattle.queue_core.specs.declared.opening.Opened.{Opened}
 use Rattle.queue_core.specs.declared.reading.Scanned.{Scanned}
@@ -47,16 +46,7 @@ ArePages (t ∷ tails) views pages =
     (read : PageRows) × (rest : List Page) × (more : List PageView) × (pages ≡ page_of t.number t.turn t.state read ∷ rest) × (length read.rows ≡ t.state.count) × (views ≡ view_of t.state read ∷ more)
     × ArePages tails more rest
 
--- ---- folders as a queue writes them
-
--- the slot of the page names it, and its file ends with its rows
-pub record IsTrim (number : ℕ) (s : PageState) (bytes : List ℕ) : Type 0 where
-  pub named : s.page ≡ number
-  pub exact : length bytes ≡ s.length
-
-abbrev pub AreTrim : Folder → List Tail → Type 0
-AreTrim folder [] = ⊤
-AreTrim folder (t ∷ tails) = IsTrim t.number t.state (bytes_of (folder (page t.number))) × AreTrim folder tails
+-- ---- their checkpoints, and their bytes
 
 -- the newest slot of this file has this turn, and says this
 pub record IsNewest (slots : List ℕ) (turn : ℕ) (s : PageState) : Type 0 where
@@ -72,16 +62,10 @@ abbrev pub AreTold : Folder → List Tail → Type 0
 AreTold folder [] = ⊤
 AreTold folder (t ∷ tails) = (told (folder (checkpoint t.number)) ≡ Ok t.state) × AreTold folder tails
 
--- So it is of each page below the head of a queue that stands.
-abbrev pub StandingIsTrim : Type 0
-StandingIsTrim =
-    (q : Queue) (folder : Folder) (tails : List Tail) → Stands q folder → AreStanding 0 q.top.number folder (map (λ t. t.number) tails) → AreTold folder tails → AreTrim folder tails
-
--- a folder with these pages, as a queue leaves it: its pages are bytes, and the head page has a length
-pub record IsAsWritten (folder : Folder) (o : Opened) : Type 0 where
-  pub bytes : (n : ℕ) → AreBytes (bytes_of (folder (page n)))
-  pub tails : AreTrim folder o.pages.tails.items
-  pub short : o.pages.top.state.length < 2 ^ 64
+-- what is recorded of each are bytes
+abbrev pub HaveBytes : Folder → List Tail → Type 0
+HaveBytes folder [] = ⊤
+HaveBytes folder (t ∷ tails) = AreBytesIn 0 t.state.length (bytes_of (folder (page t.number))) × HaveBytes folder tails
 
 -- the queue of a folder that was opened
 pub record IsQueueOf (folder : Folder) (o : Opened) (q : Queue) : Type 0 where
@@ -103,17 +87,20 @@ module _ {S : Type 0} (store : StoreWords S) where
   abbrev pub IsAllAtRest : S → Type 0
   IsAllAtRest s = (i : Image) → MayLeaveNow store s i → IsAtRest (store.seen s) i
 
-  -- The pages were read of a folder at rest, and all is at rest. Their checkpoints have these turns.
+  -- The pages were read of a folder at rest, and all is at rest. Their checkpoints have these turns, and what was read of them are bytes.
   pub record LeavesRead (names : Names) (s : PageState) (r : Scanned) (old new : S) : Type 0 where
     pub rests : (i : Image) → MayLeaveNow store new i → IsAtRest (store.seen new) i
     pub cut : IsTrue store.tells → IsCut s r (read_in names (store.seen old)) (read_in names (store.seen new))
     pub newest : IsTrue store.tells → AreNewest (read_in names (store.seen old)) r.tails.items
+    pub tail_bytes : IsTrue store.tells → HaveBytes (read_in names (store.seen old)) r.tails.items
+    pub top_bytes : IsTrue store.tells → AreBytesIn 0 r.top.state.length (bytes_of (store.seen old (names (page s.page))))
+    pub short : r.top.state.length < 2 ^ 64
 
-  -- where a folder is as a queue leaves it, its queue is ready
+  -- the queue of a folder that was opened is ready
   pub record OpensQueue (names : Names) (o : Opened) (old new : S) : Type 0 where
     pub queue : Queue
     pub is : IsQueueOf (read_in names (store.seen old)) o queue
     pub ready : Ready store names queue new
 
   abbrev pub OpensReady : Names → Opened → S → S → Type 0
-  OpensReady names o old new = IsTrue store.tells → IsAsWritten (read_in names (store.seen old)) o → OpensQueue names o old new
+  OpensReady names o old new = IsTrue store.tells → OpensQueue names o old new

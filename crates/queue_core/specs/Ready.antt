@@ -1,5 +1,5 @@
 -- When a store holds a queue, whatever a stop leaves of it now.
-use Rattle.std.specs.Prelude.{◌≡◌, ◌<◌, ◌^◌, ◌+◌, ◌∷◌, ◌++◌, ℕ, suc, IsTrue, true, List, [], length, Ok}
+use Rattle.std.specs.Prelude.{◌≡◌, ◌⊎◌, ◌<◌, ◌^◌, ◌+◌, ◌∷◌, ◌++◌, ℕ, suc, IsTrue, true, List, [], length, Ok}
 use Rattle.io_traits.specs.Reads.{file_length}
 use Rattle.crc_frame.specs.Slots.{next_turn}
 use Rattle.store_trait.specs.Images.{Image, IsAtRest}
@@ -24,6 +24,10 @@ pub record IsNextPage (names : Names) (q : Queue) (len : ℕ) (next : NextPage) 
   pub head_is : next.head ≡ names head
   pub turn_is : next.turn ≡ next_turn q.top.turn
   pub state_is : next.state ≡ state_at (next_top q.top) (next_top q.top).from [] 1
+
+-- this is one of the files to which that is written
+abbrev pub IsOfNext : NextPage → List ℕ → Type 0
+IsOfNext next name = (name ≡ next.checkpoint) ⊎ (name ≡ next.file) ⊎ (name ≡ next.head)
 
 -- this page stands below the head of the queue, all its rows are recorded as acknowledged, and these are its files
 pub record IsSpentPage (names : Names) (q : Queue) (before behind : List Page) (p : Page) (file slots : List ℕ) : Type 0 where

@@ -1,6 +1,5 @@
 //! What holds of the steps of a queue. Each function here does nothing: its clauses are theorems.
 ghost use Rattle.queue_core.specs.Marks.{MarksKeep, MarksRecord};
-ghost use Rattle.queue_core.specs.Queues.{StandingIsTrim};
 ghost use Rattle.queue_core.specs.Reading.{PagesAreFound};
 ghost use Rattle.queue_core.specs.Removing.{UnreadFilesMayGo};
 
@@ -21,10 +20,4 @@ pub fn the_pages_that_stand_are_found()
 /// folder holds stays.
 pub fn unread_files_may_go()
     ensures { UnreadFilesMayGo }
-{}
-
-/// Of each page below the head of a queue that stands in a folder the slot names that page, and its file ends
-/// with its rows.
-pub fn what_stands_is_as_written()
-    ensures { StandingIsTrim }
 {}

@@ -38,9 +38,8 @@ pub struct Opened {
 /// the first files of a queue. Else it removes what no slot speaks of, tests all that is recorded, up to the
 /// first damage, and cuts from the head page what stands behind its rows.
 ///
-/// What it finds is what the folder holds as the store reads. A stop at any moment leaves what it might have
-/// left before, or a folder that holds the same. Where the folder is as a queue leaves it, its queue is ready
-/// then.
+/// What it finds is what the folder holds as the store reads, and the queue of that is ready then. A stop at
+/// any moment leaves what it might have left before, or a folder that holds the same.
 pub fn open_folder<S: Store>(
     alloc: Global,
     store: &mut S,

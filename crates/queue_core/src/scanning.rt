@@ -1,14 +1,17 @@
 // The pages below the head, read one after the other.
 ghost use Rattle.std.specs.Prelude.{◌≡◌, ◌≤◌, ◌-◌, ◌+◌, ◌++◌, ◌∷◌, ◌^◌, [], IsTrue, IfOk, Err, map, false, option_map};
 ghost use Rattle.io_traits.specs.Counts.{HasCause};
+ghost use Rattle.io_traits.specs.Reads.{bytes_of};
 ghost use Rattle.store_trait.specs.Calls.{ChangesNothing};
 ghost use Rattle.store_disk.specs.declared.faults.QueueFault.TheVariants as f;
+ghost use Rattle.queue_page.specs.Blocks.{AreBytesIn};
 ghost use Rattle.queue_page.specs.Views.{PageView};
-ghost use Rattle.queue_laws.specs.Folders.{Folder, names_in};
+ghost use Rattle.queue_laws.specs.Folders.{Folder, page, names_in};
 ghost use Rattle.queue_laws.specs.Found.{falling, head_held};
 ghost use Rattle.queue_core.specs.Marks.{read_in};
 ghost use Rattle.queue_core.specs.Collected.{Finds};
 ghost use Rattle.queue_core.specs.Opening.{AllBounded, held_tail, view_at, views_of, falls_at};
+ghost use Rattle.queue_core.specs.Queues.{HaveBytes};
 
 use crate::naming::page_name;
 use crate::tails::Tail;
@@ -62,6 +65,8 @@ pub(crate) fn scan_tails<S: Store>(
         (views_of (read_in (names_in folder.now) (S.seen store.old)) tails.now) }
     ensures states { IfOk result (λ pages. map (λ t. t.state) tails.now
         ≡ map (λ (p : PageView). p.state) pages.items) }
+    ensures bytes { IfOk result (λ pages. IsTrue S.tells
+        → HaveBytes (read_in (names_in folder.now) (S.seen store.old)) tails.now) }
     ensures same { ChangesNothing S.tells S.seen S.moment S.may_leave store.old store.new }
     ensures cause { HasCause (S.faults store.old) (S.faults store.new) (result ≡ Err f.Fault) }
 {
@@ -90,6 +95,8 @@ fn scan_tail<S: Store>(
         (view_at false
         (held_tail (read_in (names_in folder.now) (S.seen store.old)) tail.now)) }
     ensures state { IfOk result (λ page. page.state ≡ tail.now.state) }
+    ensures bytes { IfOk result (λ read. IsTrue S.tells → AreBytesIn 0 tail.now.state.length
+        (bytes_of (S.seen store.old (names_in folder.now (page tail.now.number))))) }
     ensures same { ChangesNothing S.tells S.seen S.moment S.may_leave store.old store.new }
     ensures cause { HasCause (S.faults store.old) (S.faults store.new) (result ≡ Err f.Fault) }
 {

@@ -1,5 +1,5 @@
 -- What a checkpoint tells, whose newest slot records a page.
-use Rattle.std.proofs.Common.{◌≡◌, ◌⊎◌, inl, inr, ⊎_elim, ℕ, ◌+◌, ◌<◌, ◌≤◌, ◌^◌, ◌==◌, nat_lt, false, List, length, Option, Some, Result, Ok, Err, sym, ◌∙◌, ap, subst, arith}
+use Rattle.std.proofs.Common.{◌≡◌, ◌⊎◌, inl, inr, ⊎_elim, ℕ, ◌+◌, ◌-◌, ◌<◌, ◌≤◌, ◌^◌, ◌==◌, nat_lt, false, List, length, Option, Some, Result, Ok, Err, sym, ◌∙◌, ap, subst, arith}
 use Rattle.std.proofs.lemmas.Bool.{cond-true, cond-false, cases_Bool, eqb-true, eq-eqb}
 use Rattle.std.proofs.lemmas.Bool.Decides.{nat_tests}
 use Rattle.io_traits.specs.Reads.{bytes_of}
@@ -14,18 +14,21 @@ use Rattle.queue_checkpoint.proofs.FileReads.{newest_says, sayer}
 use Rattle.queue_checkpoint.proofs.SlotWrites.{may_hold}
 use Rattle.queue_page.specs.declared.row.PageRow.{PageRow}
 use Rattle.queue_laws.specs.Checkpoints.{Misfit, misfit, bounded, told, told_by}
-use Rattle.queue_laws.specs.Kept.{Page, state_at, IsSound}
+use Rattle.queue_laws.specs.Kept.{Page, state_as, state_at, IsSound}
 use Rattle.queue_laws.specs.Resting.{Records, MayRecord}
 use Rattle.queue_laws.specs.Laws.{ReadIsRecorded}
 
 -- a state of a page is within its bounds
-pub within_bounds : (p : Page) (x len : ℕ) (rows : List PageRow) → IsSound p → length rows ≤ length p.rows → bounded (state_at p x rows len) ≡ Ok (state_at p x rows len)
+pub named_within : (named : ℕ) (p : Page) (x len : ℕ) (rows : List PageRow) → named < 2 ^ 32 - 1 → IsSound p → length rows ≤ length p.rows → bounded (state_as named p x rows len) ≡ Ok (state_as named p x rows len)
 unfolding bounded
-within_bounds p x len rows sound few =
-    let page : (p.number == 0xFFFF_FFFF) ≡ false = grind (arith, nat_tests, sound.number) in
+named_within named p x len rows low sound few =
+    let page : (named == 0xFFFF_FFFF) ≡ false = grind (arith, nat_tests, low) in
     let least : (p.least == 0) ≡ false = grind (arith, nat_tests, sound.least) in
     let numbers : nat_lt 0x7FFF_FFFF_FFFF_FFFF (p.least + length rows) ≡ false = grind (arith, nat_tests, sound.numbers, few) in
     cond-false _ _ _ page ∙ cond-false _ _ _ least ∙ cond-false _ _ _ numbers
+
+pub within_bounds : (p : Page) (x len : ℕ) (rows : List PageRow) → IsSound p → length rows ≤ length p.rows → bounded (state_at p x rows len) ≡ Ok (state_at p x rows len)
+within_bounds p x len rows sound few = named_within p.number p x len rows sound.number sound few
 
 -- its fields fit into a slot
 pub fits_slot : (p : Page) (turn x len : ℕ) (rows : List PageRow) → IsSound p → turn < 2 ^ 64 → x < 2 ^ 64 → length rows ≤ length p.rows → len < 2 ^ 64 → FitsSlot turn (state_at p x rows len)

@@ -1,5 +1,5 @@
 -- A new head page behind a queue.
-use Rattle.std.proofs.Common.{◌≡◌, ◌≢◌, inl, inr, ℕ, suc, ◌+◌, ◌-◌, ◌<◌, ◌^◌, List, [], ◌∷◌, ◌++◌, length, refl, ◌∙◌, arith}
+use Rattle.std.proofs.Common.{◌≡◌, ◌≢◌, inl, inr, ℕ, suc, ◌+◌, ◌-◌, ◌<◌, ◌^◌, List, [], ◌∷◌, ◌++◌, length, Some, refl, sym, ◌∙◌, ap, arith, append-nil}
 use Rattle.queue_laws.specs.Folders.{head, page, checkpoint, Folder}
 use Rattle.queue_laws.specs.Kept.{Page, NoTail, Rising, IsSound}
 use Rattle.queue_laws.specs.Resting.{TailHeld, TailsHeld}
@@ -64,9 +64,12 @@ rolled_is_held q a b is held is_rolled =
     (is_rolled.checkpoints n (λ same. absurd (omega (arith, less, same))), below n (omega (arith, less))) in
     let seal : TailHeld (sealed q.top) (b (checkpoint h)) (b (page h)) = record {
       bytes = t.front ++ t.tail;
-      stands = below h (omega arith) ∙ t.stands;
+      rest = [];
+      stands = below h (omega arith) ∙ t.stands ∙ ap Some (sym (append-nil (t.front ++ t.tail)));
       is_page = is_whole q (a head) (a (page h)) (rising_top 0 0 q.tails q.top is) t;
       short = t.short;
+      named = h;
+      low = (rising_top 0 0 q.tails q.top is).number;
       records = is_rolled.sealed_slot;
     } in
     record {

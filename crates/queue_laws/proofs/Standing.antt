@@ -1,5 +1,5 @@
 -- The pages of a folder that holds a queue file by file.
-use Rattle.std.proofs.Common.{◌≡◌, ◌≢◌, ◌⊎◌, inl, inr, ⊎_elim, ℕ, zero, suc, ◌+◌, ◌<◌, ◌≤◌, nat_lt, true, false, List, [], ◌∷◌, ◌++◌, length, take, Option, None, Result, Ok, refl, sym, ◌∙◌, ap, subst, arith, append-nil}
+use Rattle.std.proofs.Common.{◌≡◌, ◌≢◌, ◌⊎◌, inl, inr, ⊎_elim, ℕ, zero, suc, ◌+◌, ◌<◌, ◌≤◌, nat_lt, true, false, List, [], ◌∷◌, ◌++◌, length, take, Option, None, Result, Ok, refl, sym, ◌∙◌, ap, subst, arith}
 use Rattle.std.specs.Bool.{⊤}
 use Rattle.std.proofs.lemmas.Bool.{cond-false, cases_eq}
 use Rattle.std.proofs.lemmas.Bool.Decides.{nat_tests}
@@ -12,15 +12,19 @@ use Rattle.queue_page.proofs.Spelling.{pages_are_read}
 use Rattle.queue_laws.specs.Folders.{page, checkpoint, Folder}
 use Rattle.queue_laws.specs.Checkpoints.{Misfit, misfit, told}
 use Rattle.queue_laws.specs.Found.{since, Damaged, or_damage, Found, Held, held_by, held, falling, opened_page, top_found, with_page, read_all}
-use Rattle.queue_laws.specs.Kept.{Page, Queue, first_open_of, IsSince, RowsKept, state_at, Tells, IsTail, AreTails, NoTail, Rising}
+use Rattle.queue_laws.specs.Kept.{Page, Queue, first_open_of, IsSince, RowsKept, state_as, Tells, IsTail, AreTails, NoTail, Rising}
 
 -- a page that is held, with one of its numbers
 pub record FitsOne (p : Page) (h : Held) : Type 0 where
   pub number : h.number ≡ p.number
   pub first_open : ℕ
   pub one : (first_open ≡ p.from) ⊎ (first_open ≡ first_open_of p)
-  pub state : h.state ≡ state_at p first_open p.rows (length h.bytes)
-  pub is_page : IsPage h.bytes p.version p.least p.rows
+  pub bytes : List ℕ
+  pub rest : List ℕ
+  pub bytes_are : h.bytes ≡ bytes ++ rest
+  pub named : ℕ
+  pub state : h.state ≡ state_as named p first_open p.rows (length bytes)
+  pub is_page : IsPage bytes p.version p.least p.rows
 
 abbrev pub Fit : List Page → List Held → Type 0
 Fit [] [] = ⊤
@@ -41,24 +45,25 @@ below_all n m end (p ∷ tails) top less rising =
 abbrev Gone : ℕ → List Page → Page → Folder → Type 0
 Gone from tails top folder = (n : ℕ) → from ≤ n → n < top.number → NoTail n tails → folder (page n) ≡ None
 
-tells_one : (p : Page) (rows : List PageRow) (len : ℕ) (slots : Option (List ℕ)) → Tells p rows len slots
-    → (first_open : ℕ) × ((first_open ≡ p.from) ⊎ (first_open ≡ first_open_of p)) × (told slots ≡ Ok (state_at p first_open rows len))
-tells_one p rows len slots (inl is) = (p.from, inl refl, is)
-tells_one p rows len slots (inr is) = (first_open_of p, inr refl, is)
+tells_one : (named : ℕ) (p : Page) (rows : List PageRow) (len : ℕ) (slots : Option (List ℕ)) → Tells named p rows len slots
+    → (first_open : ℕ) × ((first_open ≡ p.from) ⊎ (first_open ≡ first_open_of p)) × (told slots ≡ Ok (state_as named p first_open rows len))
+tells_one named p rows len slots (inl is) = (p.from, inl refl, is)
+tells_one named p rows len slots (inr is) = (first_open_of p, inr refl, is)
 
 fit_one : (p : Page) (tails : List Page) (folder : Folder) (rest : Result (List Held) Damaged) → IsTail p (folder (checkpoint p.number)) (folder (page p.number)) → HeldAs tails rest
     → HeldAs (p ∷ tails) (held_by p.number (folder (checkpoint p.number)) (folder (page p.number)) rest)
 fit_one p tails folder rest tail more =
-    let one = tells_one p p.rows (length tail.bytes) (folder (checkpoint p.number)) tail.told in
-    let s = state_at p one.0 p.rows (length tail.bytes) in
-    let now : Held = record { number = p.number; state = s; bytes = tail.bytes } in
+    let one = tells_one tail.named p p.rows (length tail.bytes) (folder (checkpoint p.number)) tail.told in
+    let s = state_as tail.named p one.0 p.rows (length tail.bytes) in
+    let file = tail.bytes ++ tail.rest in
+    let now : Held = record { number = p.number; state = s; bytes = file } in
     record {
       pages = now ∷ more.pages;
       is =
           ap (λ (o : Option (List ℕ)). held_by p.number (folder (checkpoint p.number)) o rest) tail.stands
-          ∙ ap (λ (t : Result PageState Misfit). and_then (or_damage t (λ m. (checkpoint p.number, m))) (λ s. and_then rest (λ pages. Ok (record { number = p.number; state = s; bytes = tail.bytes } ∷ pages)))) one.2
+          ∙ ap (λ (t : Result PageState Misfit). and_then (or_damage t (λ m. (checkpoint p.number, m))) (λ s. and_then rest (λ pages. Ok (record { number = p.number; state = s; bytes = file } ∷ pages)))) one.2
           ∙ ap (λ (r : Result (List Held) Damaged). and_then r (λ pages. Ok (now ∷ pages))) more.is;
-      fit = (record { number = refl; first_open = one.0; one = one.1; state = refl; is_page = tail.is_page }, more.fit);
+      fit = (record { number = refl; first_open = one.0; one = one.1; bytes = tail.bytes; rest = tail.rest; bytes_are = refl; named = tail.named; state = refl; is_page = tail.is_page }, more.fit);
     }
 
 pub fits : (count from end : ℕ) (tails : List Page) (top : Page) (folder : Folder) → from + count ≡ top.number → Rising from end tails top → AreTails tails folder
@@ -101,11 +106,11 @@ none_falls number end (p ∷ tails) q (h ∷ hs) top rising fit same =
 
 -- ---- they read as their rows
 
-page_opens : (p : Page) (h : Held) → FitsOne p h → opened_page false h ≡ Ok (record { version = p.version; rows = p.rows; length = length h.bytes })
+page_opens : (p : Page) (h : Held) (f : FitsOne p h) → opened_page false h ≡ Ok (record { version = p.version; rows = p.rows; length = length f.bytes })
 page_opens p h f =
-    let s = state_at p f.first_open p.rows (length h.bytes) in
-    let reads : recorded s (h.bytes ++ []) ≡ Ok (record { version = p.version; rows = p.rows; length = length h.bytes }) = pages_are_read s p.version p.rows h.bytes [] f.is_page refl refl in
-    let read : recorded s h.bytes ≡ Ok (record { version = p.version; rows = p.rows; length = length h.bytes }) = ap (recorded s) (sym (append-nil h.bytes)) ∙ reads in
+    let s = state_as f.named p f.first_open p.rows (length f.bytes) in
+    let reads : recorded s (f.bytes ++ f.rest) ≡ Ok (record { version = p.version; rows = p.rows; length = length f.bytes }) = pages_are_read s p.version p.rows f.bytes f.rest f.is_page refl refl in
+    let read : recorded s h.bytes ≡ Ok (record { version = p.version; rows = p.rows; length = length f.bytes }) = ap (recorded s) f.bytes_are ∙ reads in
     ap (λ (t : PageState). opened_page false (record h { state = t })) f.state
     ∙ ap (λ r. or_damage (and_then r (λ page. Ok (extended false s h.bytes page))) (λ m. (page h.number, misfit m.place m.found m.expected))) read
 
@@ -142,7 +147,7 @@ reads q (p ∷ tails) [] top read count first_open fit opens since_is one least 
 reads q (p ∷ tails) (h ∷ hs) top read count first_open fit opens since_is one least gives enough within long =
     let more = reads q tails hs top read count first_open fit.1 opens since_is one least gives enough within long in
     let f = fit.0 in
-    let page_rows : PageRows = record { version = p.version; rows = p.rows; length = length h.bytes } in
+    let page_rows : PageRows = record { version = p.version; rows = p.rows; length = length f.bytes } in
     let front : h.state.first_open ≡ f.first_open = ap (λ (s : PageState). s.first_open) f.state in
     record {
       held = with_page h page_rows more.held;

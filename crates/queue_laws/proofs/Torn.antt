@@ -21,10 +21,10 @@ use Rattle.queue_page.specs.declared.row.PageRow.{PageRow}
 use Rattle.queue_page.proofs.Spelling.{pages_are_read}
 use Rattle.queue_page.proofs.Appending.{says_first}
 use Rattle.queue_laws.specs.Checkpoints.{told}
-use Rattle.queue_laws.specs.Kept.{Page, Queue, first_open_of, leading, state_at, IsTop, IsSound}
-use Rattle.queue_laws.specs.Resting.{Records, MayRecord, TopHeld, MayHoldTail}
+use Rattle.queue_laws.specs.Kept.{Page, Queue, first_open_of, leading, state_as, state_at, Tells, IsTop, IsSound}
+use Rattle.queue_laws.specs.Resting.{Records, MayRecord, TailHeld, TopHeld, MayHoldTail}
 use Rattle.queue_laws.specs.Laws.{TailsStand, MarkedHeadsStand, OpenHeadsStand}
-use Rattle.queue_laws.proofs.Recording.{within_bounds, fits_slot, records_told, torn_records}
+use Rattle.queue_laws.proofs.Recording.{named_within, within_bounds, fits_slot, records_told, torn_records}
 
 leading_few : (acknowledged : List Bool) → leading acknowledged ≤ length acknowledged
 leading_few [] = omega arith
@@ -39,18 +39,29 @@ next_fits turn = mod_below (turn + 1) (2 ^ 64) (omega arith)
 
 -- ---- pages below the head
 
+-- the slot from before, or the next one
+told_as : (p : Page) (slots file : Option (List ℕ)) (f : FileImage) → IsSound p → (held : TailHeld p slots file)
+    → MayRecord slots p.turn (state_at p (first_open_of p) p.rows (length held.bytes)) f → (named : ℕ) × Tells named p p.rows (length held.bytes) f.file
+told_as p slots file f sound held may =
+    let len = length held.bytes in
+    let was = state_as held.named p p.from p.rows len in
+    let is = state_at p (first_open_of p) p.rows len in
+    let fits = fits_slot p (next_turn p.turn) (first_open_of p) len p.rows sound (next_fits p.turn) (open_fits p sound) (omega arith) held.short in
+    ⊎_elim
+    (λ old. (held.named, inl (records_told f.file p.turn was old (named_within held.named p p.from len p.rows held.low sound (omega arith)))))
+    (λ new. (p.number, inr (records_told f.file (next_turn p.turn) is new (within_bounds p (first_open_of p) len p.rows sound (omega arith)))))
+    (torn_records slots p.turn was is f held.records fits may)
+
 pub tails_stand : TailsStand
 tails_stand p slots file f sound held may =
-    let len = length held.bytes in
-    let good : (x : ℕ) → _ = λ x. within_bounds p x len p.rows sound (omega arith) in
-    let fits = fits_slot p (next_turn p.turn) (first_open_of p) len p.rows sound (next_fits p.turn) (open_fits p sound) (omega arith) held.short in
+    let one = told_as p slots file f sound held may in
     record {
       bytes = held.bytes;
+      rest = held.rest;
       stands = held.stands;
       is_page = held.is_page;
-      told = ⊎_elim (λ old. inl (records_told f.file p.turn (state_at p p.from p.rows len) old (good p.from)))
-          (λ new. inr (records_told f.file (next_turn p.turn) (state_at p (first_open_of p) p.rows len) new (good (first_open_of p))))
-          (torn_records slots p.turn (state_at p p.from p.rows len) (state_at p (first_open_of p) p.rows len) f held.records fits may);
+      named = one.0;
+      told = one.1;
     }
 
 -- ---- the head page

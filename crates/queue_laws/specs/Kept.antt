@@ -69,19 +69,27 @@ pub record Kept (q : Queue) (folder : Folder) : Type 0 where
 
 -- ---- the same file by file
 
--- what a checkpoint says of a page with these rows and so many bytes, by one of its two numbers
+-- what a checkpoint says of a page with these rows and so many bytes, where it has this number for the page
+abbrev pub state_as : ℕ → Page → ℕ → List PageRow → ℕ → PageState
+state_as named p first_open rows len = record { page = named; first_open = first_open; least = p.least; count = length rows; length = len }
+
+-- where it has the page's own number, as a queue writes it
 abbrev pub state_at : Page → ℕ → List PageRow → ℕ → PageState
-state_at p first_open rows len = record { page = p.number; first_open = first_open; least = p.least; count = length rows; length = len }
+state_at p first_open rows len = state_as p.number p first_open rows len
 
-abbrev pub Tells : Page → List PageRow → ℕ → Option (List ℕ) → Type 0
-Tells p rows len slots = (told slots ≡ Ok (state_at p p.from rows len)) ⊎ (told slots ≡ Ok (state_at p (first_open_of p) rows len))
+-- by one of its two numbers
+abbrev pub Tells : ℕ → Page → List PageRow → ℕ → Option (List ℕ) → Type 0
+Tells named p rows len slots = (told slots ≡ Ok (state_as named p p.from rows len)) ⊎ (told slots ≡ Ok (state_as named p (first_open_of p) rows len))
 
--- a page below the head: its file is its rows, and its checkpoint speaks of all of them
+-- A page below the head: its file begins with its rows, and its checkpoint speaks of all of them. What stands behind them, and the number that the
+-- checkpoint has for the page, are nothing that is read.
 pub record IsTail (p : Page) (slots file : Option (List ℕ)) : Type 0 where
   pub bytes : List ℕ
-  pub stands : file ≡ Some bytes
+  pub rest : List ℕ
+  pub stands : file ≡ Some (bytes ++ rest)
   pub is_page : IsPage bytes p.version p.least p.rows
-  pub told : Tells p p.rows (length bytes) slots
+  pub named : ℕ
+  pub told : Tells named p p.rows (length bytes) slots
 
 abbrev pub AreTails : List Page → Folder → Type 0
 AreTails [] folder = ⊤

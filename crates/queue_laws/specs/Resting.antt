@@ -1,5 +1,5 @@
 -- What the files of a queue are between two calls, and what a stop may leave of each while a call changes it.
-use Rattle.std.specs.Prelude.{◌≡◌, ◌≢◌, ◌⊎◌, ◌≤◌, ◌<◌, ◌^◌, ℕ, ◌+◌, ⊤, List, [], ◌∷◌, ◌++◌, length, take, drop, Option, Some, None}
+use Rattle.std.specs.Prelude.{◌≡◌, ◌≢◌, ◌⊎◌, ◌≤◌, ◌<◌, ◌^◌, ℕ, ◌+◌, ◌-◌, ⊤, List, [], ◌∷◌, ◌++◌, length, take, drop, Option, Some, None}
 use Rattle.io_traits.specs.Reads.{bytes_of}
 use Rattle.crc_frame.specs.Slots.{place_of, is_slot, next_turn, NewestIs}
 use Rattle.crc_frame.specs.declared.slots.Slot.{Slot}
@@ -11,7 +11,7 @@ use Rattle.queue_checkpoint.specs.Checkpoints.{FitsSlot, slot_spelling, version_
 use Rattle.queue_page.specs.Elements.{is_element}
 use Rattle.queue_page.specs.Grammar.{IsPage, AreElements}
 use Rattle.queue_laws.specs.Folders.{head, page, checkpoint, Folder, Names}
-use Rattle.queue_laws.specs.Kept.{Page, Queue, first_open_of, state_at, NoTail}
+use Rattle.queue_laws.specs.Kept.{Page, Queue, first_open_of, state_as, state_at, NoTail}
 
 -- ---- checkpoint files
 
@@ -32,13 +32,17 @@ pub record MayRecord (slots : Option (List ℕ)) (turn : ℕ) (s : PageState) (f
 
 -- ---- pages below the head
 
--- the file of the page is its rows, and its checkpoint says where it was recorded
+-- The file of the page begins with its rows, and its checkpoint says where it was recorded. Nothing stands behind them, and the checkpoint has the
+-- page's own number, where a queue wrote both; where others did, neither is read.
 pub record TailHeld (p : Page) (slots file : Option (List ℕ)) : Type 0 where
   pub bytes : List ℕ
-  pub stands : file ≡ Some bytes
+  pub rest : List ℕ
+  pub stands : file ≡ Some (bytes ++ rest)
   pub is_page : IsPage bytes p.version p.least p.rows
   pub short : length bytes < 2 ^ 64
-  pub records : Records (bytes_of slots) p.turn (state_at p p.from p.rows (length bytes))
+  pub named : ℕ
+  pub low : named < 2 ^ 32 - 1
+  pub records : Records (bytes_of slots) p.turn (state_as named p p.from p.rows (length bytes))
 
 -- ---- the head page
 

@@ -1,13 +1,19 @@
-use Rattle.std.proofs.Common.{map, sym, ap, ◌∙◌}
+use Rattle.std.proofs.Common.{◌≡◌, List, map, sym, ap, ◌∙◌, subst}
+use Rattle.io_traits.specs.Folders.{Content}
 use Rattle.store_disk.proofs.Looking.{nothing_then}
-use Rattle.queue_laws.specs.Folders.{names_in}
+use Rattle.queue_laws.specs.Folders.{Names, names_in}
 use Rattle.queue_laws.proofs.ApartNames.{names_apart}
 use Rattle.queue_core.specs.Marks.{read_in}
+use Rattle.queue_core.specs.Queues.{HaveBytes}
 use Rattle.queue_core.specs.declared.tails.Tail.{Tail}
 use Rattle.queue_core.proofs.ScanReads.{handed_on, none_falls, pages_lost, pages_read, head_lost, head_read, found_tail_lost, found_top_lost, found_rows, rows_found}
 use Rattle.queue_core.proofs.QueueReads.{leaves_read}
 use Rattle.queue_core.proofs.FoundStays.{looked, opened_run}
 use Rattle.queue_core.proofs.reading.read_pages.Goals as goal
+
+-- what was read of the pages below the head is what reads gave at first
+have_at_first : (names : Names) (old now : Content) → now ≡ old → (slice tails : List Tail) → slice ≡ tails → HaveBytes (read_in names now) slice → HaveBytes (read_in names old) tails
+have_at_first names old now same slice tails is have = subst (HaveBytes (read_in names old)) is (subst (λ (c : Content). HaveBytes (read_in names c) slice) same have)
 
 pub returns-in_err-tails-clause-keeps : goal.returns-in_err-tails-clause-keeps
 returns-in_err-tails-clause-keeps g c rests tells =
@@ -98,6 +104,9 @@ returns-clause-leaves g c rests =
     (nothing_then g.S.Store c.args.store.now c.read_tails.new.store c.scan_tails.new.store c.read_tails.ensures.same c.scan_tails.ensures.same)
     c.as_str.result.now (c.as_str.ensures ∙ c.in_ok-name-2.ensures) (record { tails = c.in_ok-tails.tails; pages = c.in_ok-pages.pages; top = c.in_ok-top.top }) c.in_ok-top.ensures.page c.in_ok-top.ensures.kept c.in_ok-top.ensures.settled
     c.scan.ensures.reads c.scan.ensures.beside c.in_ok-tails.ensures.newest
+    (λ told. have_at_first (names_in c.args.folder.now) (g.S.Store.seen c.args.store.now) (g.S.Store.seen c.read_tails.new.store) (c.read_tails.ensures.same.reads told) c.as_slice-2.result.now c.in_ok-tails.tails.items c.as_slice-2.ensures.value
+    (c.in_ok-pages.ensures.bytes told))
+    c.in_ok-top.ensures.bytes c.in_ok-top.ensures.short
 
 pub returns-clause-stated : goal.returns-clause-stated
 returns-clause-stated g c = record {

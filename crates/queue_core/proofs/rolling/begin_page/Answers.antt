@@ -1,4 +1,5 @@
-use Rattle.std.proofs.Common.{[], ◌∷◌, refl}
+use Rattle.std.proofs.Common.{inl, inr, [], ◌∷◌, refl, ◌∙◌, ap}
+use Rattle.io_traits.specs.Folders.{Content}
 use Rattle.io_traits.specs.Reads.{bytes_of}
 use Rattle.crc_frame.specs.Slots.{place_of}
 use Rattle.queue_checkpoint.specs.Checkpoints.{slot_spelling}
@@ -67,3 +68,26 @@ returns-clause-slotted g c = on_ok c.sync-2.result (λ told.
     let more = behind s1 s2 s3 s4 s5 c.as_str-2.result.now c.as_str-3.result.now (2 ∷ []) (place_of 48 next.turn) (slot_spelling next.turn next.state) (c.in_ok-append.ensures.written told) (c.append.ensures.change.beside told)
     (c.sync.ensures.settled.reads told) (c.in_ok-write_slot-2.ensures.written told) (c.write_slot-2.ensures.change.beside told) (c.sync-2.ensures.settled.reads told) in
     slotted_there name next.checkpoint (slot_spelling 0 next.sealed) (bytes_of (s0 name)) s1 s5 (place_of 48 0) (length-spelling 0 next.sealed) (c.in_ok-write_slot.ensures.written told) more c.as_str.ensures)
+
+pub returns-in_err-write_slot-clause-beside : goal.returns-in_err-write_slot-clause-beside
+returns-in_err-write_slot-clause-beside g c told name none = c.write_slot.ensures.change.beside told name (λ is. none (inl (is ∙ c.as_str.ensures)))
+
+pub returns-in_err-append-clause-beside : goal.returns-in_err-append-clause-beside
+returns-in_err-append-clause-beside g c told name none =
+    c.append.ensures.change.beside told name (λ is. none (inr (inl (is ∙ c.as_str-2.ensures)))) ∙ c.write_slot.ensures.change.beside told name (λ is. none (inl (is ∙ c.as_str.ensures)))
+
+pub returns-in_err-sync-clause-beside : goal.returns-in_err-sync-clause-beside
+returns-in_err-sync-clause-beside g c told name none =
+    ap (λ (content : Content). content name) (c.sync.ensures.settled.reads told)
+    ∙ c.append.ensures.change.beside told name (λ is. none (inr (inl (is ∙ c.as_str-2.ensures)))) ∙ c.write_slot.ensures.change.beside told name (λ is. none (inl (is ∙ c.as_str.ensures)))
+
+pub returns-in_err-write_slot-2-clause-beside : goal.returns-in_err-write_slot-2-clause-beside
+returns-in_err-write_slot-2-clause-beside g c told name none =
+    c.write_slot-2.ensures.change.beside told name (λ is. none (inr (inr (is ∙ c.as_str-3.ensures)))) ∙ ap (λ (content : Content). content name) (c.sync.ensures.settled.reads told)
+    ∙ c.append.ensures.change.beside told name (λ is. none (inr (inl (is ∙ c.as_str-2.ensures)))) ∙ c.write_slot.ensures.change.beside told name (λ is. none (inl (is ∙ c.as_str.ensures)))
+
+pub returns-clause-beside : goal.returns-clause-beside
+returns-clause-beside g c told name none =
+    ap (λ (content : Content). content name) (c.sync-2.ensures.settled.reads told)
+    ∙ c.write_slot-2.ensures.change.beside told name (λ is. none (inr (inr (is ∙ c.as_str-3.ensures)))) ∙ ap (λ (content : Content). content name) (c.sync.ensures.settled.reads told)
+    ∙ c.append.ensures.change.beside told name (λ is. none (inr (inl (is ∙ c.as_str-2.ensures)))) ∙ c.write_slot.ensures.change.beside told name (λ is. none (inl (is ∙ c.as_str.ensures)))
