@@ -46,7 +46,7 @@ module _ (numbers : Numbers) where
   tails_held [] folder held = tt
   tails_held (p ∷ tails) folder held =
       let h = held.0 in
-      (record { bytes = h.bytes; stands = h.stands; is_page = h.is_page; short = h.short; records = h.records }, tails_held tails folder held.1)
+      (record { bytes = h.bytes; rest = h.rest; stands = h.stands; is_page = h.is_page; short = h.short; named = h.named; low = h.low; records = h.records }, tails_held tails folder held.1)
 
   no_tail : (n : ℕ) (tails : List Page) → NoTail n (map page tails) → NoTail n tails
   no_tail n [] none = tt
@@ -78,6 +78,7 @@ module _ (numbers : Numbers) where
     acknowledged = ap (λ n. with_range n numbers.first numbers.behind p.acknowledged) is.least ∙ ap (with_range o.page.state.least numbers.first numbers.behind) is.acknowledged;
     from = is.from;
     turn = is.turn;
+    long = is.long;
   }
 
   pages_of : (os : List OpenPage) (ps : List Page) → ArePagesOf os ps → ArePagesOf (map (with_acknowledged numbers) os) (map page ps)

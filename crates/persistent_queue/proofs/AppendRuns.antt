@@ -19,7 +19,7 @@ use Rattle.queue_core.specs.Ready.{Keeps, IsNextRow, RowKept, RowReady}
 use Rattle.queue_core.specs.Writes.{NoneShorter}
 use Rattle.queue_core.proofs.TornMarks.{number_of}
 use Rattle.persistent_queue.specs.Calls.{end_of}
-use Rattle.persistent_queue.specs.Opens.{AreLong, Climb, HasPage, IsReady, Opens, TailsSlotted}
+use Rattle.persistent_queue.specs.Opens.{AreLong, Climb, HasPage, IsReady, Opens, TailsSlotted, place_behind}
 use Rattle.persistent_queue.specs.Views.{OpenPage, QueueView}
 use Rattle.persistent_queue.specs.Writing.{behind_append}
 use Rattle.persistent_queue.proofs.BitLists.{leads_still}
@@ -66,12 +66,17 @@ pub climb_order : (from end : ℕ) (tails : List OpenPage) → Climb from end ta
 climb_order from end [] climb = climb
 climb_order from end (o ∷ tails) climb = omega (arith, climb.0, climb_order (suc o.number) end tails climb.1)
 
+-- a page ends behind its last row
+pub behind_more : (place : ℕ) (rows : List PageRow) (row : PageRow) → place_behind place (rows ++ row ∷ []) ≡ row.next
+behind_more place [] row = refl
+behind_more place (r ∷ rows) row = behind_more r.next rows row
+
 -- pages below a number have the same files
 module _ (folder : List ℕ) (old new : Content) (end : ℕ) (same : (n : ℕ) → n < end → new (names_in folder (page n)) ≡ old (names_in folder (page n))) where
   pub long_still : (from : ℕ) (tails : List OpenPage) → Climb from end tails → AreLong folder tails old → AreLong folder tails new
   long_still from [] climb long = tt
   long_still from (o ∷ tails) climb long =
-      (ap file_length (same o.number (omega (arith, climb_order (suc o.number) end tails climb.1))) ∙ long.0, long_still (suc o.number) tails climb.1 long.1)
+      (omega (arith, long.0, ap file_length (same o.number (omega (arith, climb_order (suc o.number) end tails climb.1)))), long_still (suc o.number) tails climb.1 long.1)
 
 -- checkpoints become no shorter
 pub slotted_still : (folder : List ℕ) (old new : Content) → NoneShorter old new → (tails : List OpenPage) → TailsSlotted folder tails old → TailsSlotted folder tails new
@@ -143,6 +148,7 @@ module _ {S : Type 0} (store : StoreWords S) (v : QueueView) (frame : List ℕ) 
               acknowledged = ap (λ (l : List Bool). l ++ false ∷ []) t.acknowledged;
               from = t.from;
               turn = t.turn;
+              long = sym element.next ∙ sym (behind_more 1 q.top.rows row);
             };
             files = λ told. record {
               tails = long_still v.folder (store.seen old) (store.seen new) v.top.number (λ n less. other_page told n (λ is. omega (arith, less, is))) 0 v.tails (is_ready told).climb (opens.files told).tails;

@@ -64,11 +64,11 @@ others_of [] = []
 others_of (name ∷ names) = names
 
 module _ (folder : List ℕ) (content : Content) (cursor : CursorView) where
-  one_there : (o : OpenPage) → o.file ≡ names_in folder (page o.number) → file_length (content (names_in folder (page o.number))) ≡ o.page.state.length
+  one_there : (o : OpenPage) → o.file ≡ names_in folder (page o.number) → o.page.state.length ≤ file_length (content (names_in folder (page o.number)))
       → (cursor.page ≡ o.number → IsPart (bytes_of (content (names_in folder (page cursor.page)))) cursor.block) → IsThere (λ n. names_in folder (page n)) content cursor.page cursor.block o
   one_there o file long part = record {
     file = file;
-    long = subst (λ (name : List ℕ). o.page.state.length ≤ file_length (content name)) (sym file) (omega (arith, long));
+    long = subst (λ (name : List ℕ). o.page.state.length ≤ file_length (content name)) (sym file) long;
     part = λ is. subst (λ (name : List ℕ). IsPart (bytes_of (content name)) cursor.block) (ap (λ n. names_in folder (page n)) is ∙ sym file) (part is);
   }
 
@@ -82,7 +82,7 @@ module _ (folder : List ℕ) (content : Content) (cursor : CursorView) where
 pub all_there : (v : QueueView) (marks : List Mark) (bytes : ℕ) (content : Content) → IsHeldQueue v marks bytes → IsOfFiles v content
     → AreThere (λ n. names_in v.folder (page n)) content v.cursor.page v.cursor.block (all_pages v)
 all_there v marks bytes content held files =
-    tails_there v.folder content v.cursor v.tails v.top held.tails files.tails (λ among. files.part (inr among)) (one_there v.folder content v.cursor v.top held.top files.top (λ is. files.part (inl is)))
+    tails_there v.folder content v.cursor v.tails v.top held.tails files.tails (λ among. files.part (inr among)) (one_there v.folder content v.cursor v.top held.top (omega (arith, files.top)) (λ is. files.part (inl is)))
 
 module _ (v : QueueView) (content : Content) where
   pub files_taken : (unread : ℕ) (cursor : CursorView) → WasRead (λ n. names_in v.folder (page n)) content v.cursor.page v.cursor.block cursor.page cursor.block → cursor.page ≤ v.top.number → IsOfFiles v content

@@ -25,4 +25,4 @@ pub mod GivenRows
 pub mod RisingRows
 pub mod OpenRows
 pub mod GivenOnce
-pub mod StopsLeft
+pub mod Recovered

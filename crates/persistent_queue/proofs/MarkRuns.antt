@@ -1,14 +1,16 @@
 -- The marks of an open queue: they can be written, they are those of the queue, and what they leave.
-use Rattle.std.proofs.Common.{◌≡◌, ◌≢◌, inl, inr, ℕ, suc, ◌+◌, ◌≤◌, ◌==◌, not, Bool, true, false, IsTrue, List, [], ◌∷◌, ◌++◌, length, map, drop, get_or, Option, if◌then◌else◌, refl, sym, ◌∙◌, ap, subst, arith}
+use Rattle.std.proofs.Common.{◌≡◌, ◌≢◌, inl, inr, ℕ, suc, ◌+◌, ◌≤◌, ◌==◌, not, Bool, true, false, IsTrue, List, [], ◌∷◌, ◌++◌, length, map, drop, get_or, Option, if◌then◌else◌, refl, sym, ◌∙◌, ap, subst, arith, length-append}
 use Rattle.std.proofs.Math.Path.{ap₂}
 use Rattle.io_traits.specs.Folders.{Content}
 use Rattle.io_traits.specs.Reads.{bytes_of, file_length}
 use Rattle.crc_frame.specs.Slots.{place_of, next_turn}
 use Rattle.store_trait.specs.declared.stores.Store.{Ghosts as StoreWords}
 use Rattle.queue_page.specs.Blocks.{IsPart}
+use Rattle.queue_page.specs.Grammar.{AreElements, IsPage}
+use Rattle.queue_page.specs.declared.row.PageRow.{PageRow}
 use Rattle.queue_laws.specs.Folders.{Role, head, page, checkpoint, Folder, names_in}
 use Rattle.queue_laws.specs.Kept.{Page, Queue, leading, first_open_of, state_at}
-use Rattle.queue_laws.specs.Resting.{TailHeld, TailsHeld}
+use Rattle.queue_laws.specs.Resting.{TailsHeld}
 use Rattle.queue_laws.specs.Steps.{marked, marked_page, marked_pages, recorded_page}
 use Rattle.queue_laws.proofs.ApartNames.{names_apart}
 use Rattle.queue_core.specs.Marks.{read_in, IsMarkOf, AreMarksOf}
@@ -19,7 +21,7 @@ use Rattle.queue_core.proofs.TornMarks.{number_of}
 use Rattle.queue_core.proofs.WriteLemmas.{beside_still}
 use Rattle.queue_core.proofs.Lengths.{longer_wrote}
 use Rattle.persistent_queue.specs.Calls.{behind_mark, first_open, is_due, mark_of, marks_of, state_of, tail_checkpoints, with_marked, with_recorded}
-use Rattle.persistent_queue.specs.Opens.{AreLong, ArePagesOf, Becomes, Climb, HasPage, IsAmong, IsPageOf, IsReady, KeepsQueue, Opens, TailsSlotted}
+use Rattle.persistent_queue.specs.Opens.{AreLong, ArePagesOf, Becomes, Climb, HasPage, IsAmong, IsPageOf, IsReady, KeepsQueue, Opens, TailsSlotted, place_behind}
 use Rattle.persistent_queue.specs.Views.{OpenPage, QueueView}
 
 -- ---- files
@@ -99,6 +101,15 @@ module _ (folder : List ℕ) where
 
 -- ---- the marks of a queue
 
+-- a page has as many bytes as its rows say
+elements_length : (version number place : ℕ) (rows : List PageRow) (bytes : List ℕ) → AreElements version number place rows bytes → place_behind place rows ≡ place + length bytes
+elements_length version number place [] bytes are = omega (arith, ap length are)
+elements_length version number place (r ∷ rows) bytes are =
+    omega (arith, elements_length version (number + 1) r.next rows are.1 are.5, are.4.next, ap length (sym are.2), length-append are.0 are.1)
+
+pub page_length : (version least : ℕ) (rows : List PageRow) (bytes : List ℕ) → IsPage bytes version least rows → length bytes ≡ place_behind 1 rows
+page_length version least rows bytes is = omega (arith, ap length is.begins, elements_length version least 1 rows is.elements is.are)
+
 open_is : (o : OpenPage) (p : Page) → IsPageOf o p → first_open_of p ≡ first_open o
 open_is o p is = ap₂ (λ (n : ℕ) (l : List Bool). n + leading l) is.least is.acknowledged
 
@@ -118,31 +129,27 @@ module _ (folder : List ℕ) (content : Content) where
   mark_is : (role : Role) (o : OpenPage) (p : Page) (len : ℕ) (due : Bool) (m : Mark) → IsPageOf o p → len ≡ o.page.state.length → m.file ≡ names role → IsMarkOf names role p len (mark_of o due m)
   mark_is role o p len due m is long named = record { file = named; turn = ap next_turn (sym is.turn); state = state_is o p len is long }
 
-  tail_long : (o : OpenPage) (p : Page) (held : TailHeld p (now (checkpoint p.number)) (now (page p.number))) → IsPageOf o p → file_length (content (names (page o.number))) ≡ o.page.state.length
-      → length held.bytes ≡ o.page.state.length
-  tail_long o p held is long = sym (ap file_length held.stands) ∙ ap (λ n. file_length (content (names (page n)))) is.number ∙ long
-
-  pub marks_are : (top : OpenPage) (q_top : Page) (len : ℕ) (tails : List OpenPage) (pages : List Page) (marks : List Mark) (held : TailsHeld pages now) → ArePagesOf tails pages → AreLong folder tails content
+  pub marks_are : (top : OpenPage) (q_top : Page) (len : ℕ) (tails : List OpenPage) (pages : List Page) (marks : List Mark) (held : TailsHeld pages now) → ArePagesOf tails pages
       → IsPageOf top q_top → len ≡ top.page.state.length → Named folder tails marks → AreMarksOf names q_top len pages now held (marks_of tails top marks)
-  marks_are top q_top len [] [] [] held are long top_is top_long named = absurd (omega (arith, ap length named))
-  marks_are top q_top len [] [] (m ∷ []) held are long top_is top_long named = (mark_of top true m, refl, mark_is head top q_top len true m top_is top_long (first_file named), refl)
-  marks_are top q_top len [] [] (m ∷ k ∷ marks) held are long top_is top_long named = absurd (omega (arith, ap length named))
-  marks_are top q_top len [] (p ∷ pages) marks held are long top_is top_long named = absurd are
-  marks_are top q_top len (o ∷ tails) [] marks held are long top_is top_long named = absurd are
-  marks_are top q_top len (o ∷ tails) (p ∷ pages) [] held are long top_is top_long named = absurd (omega (arith, ap length named))
-  marks_are top q_top len (o ∷ tails) (p ∷ pages) (m ∷ marks) held are long top_is top_long named = (
+  marks_are top q_top len [] [] [] held are top_is top_long named = absurd (omega (arith, ap length named))
+  marks_are top q_top len [] [] (m ∷ []) held are top_is top_long named = (mark_of top true m, refl, mark_is head top q_top len true m top_is top_long (first_file named), refl)
+  marks_are top q_top len [] [] (m ∷ k ∷ marks) held are top_is top_long named = absurd (omega (arith, ap length named))
+  marks_are top q_top len [] (p ∷ pages) marks held are top_is top_long named = absurd are
+  marks_are top q_top len (o ∷ tails) [] marks held are top_is top_long named = absurd are
+  marks_are top q_top len (o ∷ tails) (p ∷ pages) [] held are top_is top_long named = absurd (omega (arith, ap length named))
+  marks_are top q_top len (o ∷ tails) (p ∷ pages) (m ∷ marks) held are top_is top_long named = (
     mark_of o (is_due o) m,
     marks_of tails top marks,
     refl,
-    mark_is (checkpoint p.number) o p (length held.0.bytes) (is_due o) m are.0 (tail_long o p held.0 are.0 long.0) (first_file named ∙ ap (λ n. names (checkpoint n)) (sym are.0.number)),
+    mark_is (checkpoint p.number) o p (length held.0.bytes) (is_due o) m are.0 (page_length p.version p.least p.rows held.0.bytes held.0.is_page ∙ sym are.0.long) (first_file named ∙ ap (λ n. names (checkpoint n)) (sym are.0.number)),
     due_is o p are.0,
-    marks_are top q_top len tails pages marks held.1 are.1 long.1 top_is top_long (other_files named),
+    marks_are top q_top len tails pages marks held.1 are.1 top_is top_long (other_files named),
   )
 
 -- ---- what is open then
 
 recorded_is : (o : OpenPage) (p : Page) → IsPageOf o p → IsPageOf (with_recorded o) (recorded_page p)
-recorded_is o p is = record { number = is.number; version = is.version; least = is.least; count = is.count; acknowledged = is.acknowledged; from = open_is o p is; turn = ap next_turn is.turn }
+recorded_is o p is = record { number = is.number; version = is.version; least = is.least; count = is.count; acknowledged = is.acknowledged; from = open_is o p is; turn = ap next_turn is.turn; long = is.long }
 
 marked_is : (o : OpenPage) (p : Page) → IsPageOf o p → IsPageOf (with_marked o) (marked_page p)
 marked_is o p is = record {
@@ -153,6 +160,7 @@ marked_is o p is = record {
   acknowledged = is.acknowledged;
   from = open_is o p is;
   turn = ap₂ (λ (b : Bool) (t : ℕ). if b then t else next_turn t) (ap₂ (λ (a b : ℕ). a == b) (open_is o p is) is.from) is.turn;
+  long = is.long;
 }
 
 all_marked_are : (tails : List OpenPage) (pages : List Page) → ArePagesOf tails pages → ArePagesOf (map with_marked tails) (marked_pages pages)
@@ -181,7 +189,7 @@ module _ (folder : List ℕ) (old new : Content) where
 
   long_stay : ((n : ℕ) → new (names_in folder (page n)) ≡ old (names_in folder (page n))) → (tails : List OpenPage) → AreLong folder tails old → AreLong folder (map with_marked tails) new
   long_stay same [] long = tt
-  long_stay same (o ∷ tails) long = (ap file_length (same o.number) ∙ long.0, long_stay same tails long.1)
+  long_stay same (o ∷ tails) long = (omega (arith, long.0, ap file_length (same o.number)), long_stay same tails long.1)
 
 module _ {S : Type 0} (store : StoreWords S) (v : QueueView) (marks : List Mark) (old new : S) (named : Named v.folder v.tails marks) where
   abbrev writes : List Write
@@ -201,7 +209,7 @@ module _ {S : Type 0} (store : StoreWords S) (v : QueueView) (marks : List Mark)
     are_marks told =
         let held = opens.ready.held told in
         let files = opens.files told in
-        marks_are v.folder (store.seen old) v.top q.top (length (held.top.front ++ held.top.tail)) v.tails q.tails marks held.tails opens.tails files.tails opens.top
+        marks_are v.folder (store.seen old) v.top q.top (length (held.top.front ++ held.top.tail)) v.tails q.tails marks held.tails opens.tails opens.top
         (sym (ap file_length held.top.stands) ∙ ap (λ n. file_length (store.seen old (names_in v.folder (page n)))) opens.top.number ∙ files.top) named
 
     pub opens_marked : IsReady store v old → (IsTrue store.tells → Wrote writes (store.seen old) (store.seen new)) → Ready store (names_in v.folder) (marked q) new → Opens store (behind_mark v) (marked q) new

@@ -1,5 +1,5 @@
 -- A queue that was opened, its files, and the queue that it stands for.
-use Rattle.std.proofs.Common.{◌≡◌, ◌≤◌, ⊎_elim, ℕ, zero, suc, ◌+◌, ◌<◌, ◌^◌, nat_lt, ◌&&◌, ◌==◌, ◌/◌, ◌%◌, not, Bool, true, false, IsTrue, List, [], ◌∷◌, length, map, replicate, get_or, drop, Option, Some, None, Result, Ok, Err, refl, sym, ◌∙◌, ap, subst, arith}
+use Rattle.std.proofs.Common.{◌≡◌, ◌≤◌, ⊎_elim, ℕ, zero, suc, ◌+◌, ◌<◌, ◌^◌, nat_lt, ◌&&◌, ◌==◌, ◌/◌, ◌%◌, not, Bool, true, false, IsTrue, List, [], ◌∷◌, ◌++◌, length, map, replicate, get_or, drop, Option, Some, None, Result, Ok, Err, refl, sym, ◌∙◌, ap, subst, arith, length-append}
 use Rattle.std.proofs.Math.Path.{ap₂}
 use Rattle.std.proofs.lemmas.Bool.Decides.{nat_tests}
 use Rattle.std.proofs.lemmas.Nat.Bits.{bit_at-zero}
@@ -8,7 +8,7 @@ use Rattle.std.specs.Int.{bit_at}
 use Rattle.std.specs.Result.{IsErrAnd}
 use Rattle.store_disk.specs.declared.faults.QueueFault.{QueueFault}
 use Rattle.io_traits.specs.Folders.{Content}
-use Rattle.io_traits.specs.Reads.{bytes_of}
+use Rattle.io_traits.specs.Reads.{bytes_of, file_length}
 use Rattle.store_trait.specs.declared.stores.Store.{Ghosts as StoreWords}
 use Rattle.store_disk.specs.declared.pages.PageState.{PageState}
 use Rattle.queue_checkpoint.specs.Checkpoints.{newest_in}
@@ -16,14 +16,16 @@ use Rattle.queue_checkpoint.proofs.FileReads.{found_within, newest_says, sayer}
 use Rattle.queue_page.specs.Pages.{PageRows, view_of}
 use Rattle.queue_page.specs.Views.{PageView}
 use Rattle.queue_laws.specs.Folders.{head, page, checkpoint, Folder, names_in}
-use Rattle.queue_laws.specs.Found.{Damaged, Found, Held, found, is_new}
-use Rattle.queue_laws.specs.Kept.{Page, AreNumbered, IsSound, Rising, leading}
-use Rattle.queue_laws.specs.Resting.{TailsHeld}
+use Rattle.queue_laws.specs.Found.{Damaged, Found, Held as HeldPage, found, is_new}
+use Rattle.queue_laws.specs.Kept.{Page, Queue, AreNumbered, IsQueue, IsSound, Rising, leading}
+use Rattle.queue_laws.specs.Resting.{Held, TailHeld, TailsHeld}
 use Rattle.queue_laws.proofs.NewFolders.{new_is_empty}
+use Rattle.queue_laws.proofs.Torn.{is_whole}
+use Rattle.queue_laws.proofs.Whole.{rising_top}
 use Rattle.queue_core.specs.Collected.{IsLost}
 use Rattle.queue_core.specs.Known.{AreStated, IsFirst, IsReadOf, WasOpened}
 use Rattle.queue_core.specs.Marks.{read_in}
-use Rattle.queue_core.specs.Queues.{ArePages, AreNewest, IsAsWritten, OpensReady, page_of}
+use Rattle.queue_core.specs.Queues.{ArePages, AreNewest, IsNewest, OpensReady, page_of}
 use Rattle.queue_core.specs.Reading.{AreStanding}
 use Rattle.queue_core.specs.declared.opening.Opened.{Opened}
 use Rattle.queue_core.specs.declared.tails.Tail.{Tail}
@@ -32,9 +34,10 @@ use Rattle.queue_core.proofs.StandingPages.{pages_are_found}
 use Rattle.persistent_queue.specs.Bits.{bit_of, bits_from, is_among, with_range}
 use Rattle.persistent_queue.specs.Calls.{tail_checkpoints}
 use Rattle.persistent_queue.specs.Opening.{below_number, page_opened, queue_opened, tails_opened, unread_in, unread_of, FindsQueue, OpensAs, OpensFolder}
-use Rattle.persistent_queue.specs.Opens.{AreLong, ArePagesOf, Climb, IsPageOf, IsReady, TailsSlotted}
+use Rattle.persistent_queue.specs.Opens.{AreLong, ArePagesOf, Climb, IsPageOf, IsReady, TailsSlotted, place_behind}
 use Rattle.persistent_queue.specs.Views.{OpenPage, QueueView}
 use Rattle.persistent_queue.specs.declared.limits.Limits.{Limits}
+use Rattle.persistent_queue.proofs.MarkRuns.{page_length}
 use Rattle.persistent_queue.proofs.OpenedRows.{SameStates, all_count, below_same, few_unread, first_state, other_states}
 use Rattle.persistent_queue.proofs.PageNumbers.{first_within}
 
@@ -111,38 +114,46 @@ module _ (folder : List ℕ) where
   says_long : {x y : ℕ × PageState} → ◌≡◌ {A = Option (ℕ × PageState)} (Some x) (Some y) → x.1.length ≡ y.1.length
   says_long is = cc
 
+  -- a page has as many bytes as its rows say, and its file those and maybe more
+  tail_length : (content : Content) (t : Tail) (read : PageRows) → TailHeld (page_of t.number t.turn t.state read) (content (names_in folder (checkpoint t.number))) (content (names_in folder (page t.number)))
+      → IsNewest (bytes_of (content (names_in folder (checkpoint t.number)))) t.turn t.state → (t.state.length ≡ place_behind 1 read.rows) × (t.state.length ≤ file_length (content (names_in folder (page t.number))))
+  tail_length content t read held newest =
+      let slots = bytes_of (content (names_in folder (checkpoint t.number))) in
+      let says = newest_says slots held.records.slot held.records.bytes held.records.newest in
+      let long : t.state.length ≡ length held.bytes = says_long (sym newest.is ∙ says) ∙ ap (λ (s : PageState). s.length) held.records.says_is in (
+        long ∙ page_length read.version t.state.least read.rows held.bytes held.is_page,
+        omega (arith, long, ap file_length held.stands, length-append held.bytes held.rest),
+      )
+
   longs : (content : Content) (tails : List Tail) (views : List PageView) (pages : List Page) → SameStates tails views → ArePages tails views pages → TailsHeld pages (read_in (names_in folder) content)
       → AreNewest (read_in (names_in folder) content) tails → AreLong folder (tails_opened folder tails views) content
   longs content [] views pages same are held newest = tt
   longs content (t ∷ tails) [] pages same are held newest = absurd (omega (arith, ap length same))
   longs content (t ∷ tails) (v ∷ views) pages same are held newest =
-      let p = page_of t.number t.turn t.state are.0 in
       let all = subst (λ ps. TailsHeld ps (read_in (names_in folder) content)) are.3 held in
-      let slots = bytes_of (content (names_in folder (checkpoint t.number))) in
-      let says = newest_says slots all.0.records.slot all.0.records.bytes all.0.records.newest in
-      let long : t.state.length ≡ length all.0.bytes = says_long (sym newest.0.is ∙ says) ∙ ap (λ (s : PageState). s.length) all.0.records.says_is in
       let views_are : views ≡ are.2 = ap (drop 1) are.5 in (
-        ap (λ (o : Option (List ℕ)). length (bytes_of o)) all.0.stands ∙ sym long ∙ ap (λ (s : PageState). s.length) (first_state same),
+        omega (arith, (tail_length content t are.0 all.0 newest.0).1, ap (λ (s : PageState). s.length) (first_state same)),
         longs content tails views are.1 (other_states same) (subst (λ vs. ArePages tails vs are.1) (sym views_are) are.6) all.1 newest.1,
       )
 
   -- ---- pages of a queue
 
-  page_is : (number turn : ℕ) (s : PageState) (read : PageRows) → AreNumbered s.least read.rows → IsPageOf (page_opened folder number turn s.first_open (view_of s read)) (page_of number turn s read)
-  page_is number turn s read numbered = record { number = refl; version = refl; least = refl; count = refl; acknowledged = below_same s.first_open s.least read.rows numbered; from = refl; turn = refl }
+  page_is : (number turn : ℕ) (s : PageState) (read : PageRows) → AreNumbered s.least read.rows → read.length ≡ place_behind 1 read.rows
+      → IsPageOf (page_opened folder number turn s.first_open (view_of s read)) (page_of number turn s read)
+  page_is number turn s read numbered long = record { number = refl; version = refl; least = refl; count = refl; acknowledged = below_same s.first_open s.least read.rows numbered; from = refl; turn = refl; long = long }
 
-  pages_are : (number end : ℕ) (tails : List Tail) (views : List PageView) (pages : List Page) (top : Page) → Rising number end pages top → ArePages tails views pages → ArePagesOf (tails_opened folder tails views) pages
-  pages_are number end [] views pages top rising are = subst (λ ps. ArePagesOf [] ps) (sym are) tt
-  pages_are number end (t ∷ tails) views pages top rising are =
+  pages_are : (content : Content) (number end : ℕ) (tails : List Tail) (views : List PageView) (pages : List Page) (top : Page) → Rising number end pages top → SameStates tails views → ArePages tails views pages
+      → TailsHeld pages (read_in (names_in folder) content) → AreNewest (read_in (names_in folder) content) tails → ArePagesOf (tails_opened folder tails views) pages
+  pages_are content number end [] views pages top rising same are held newest = subst (λ ps. ArePagesOf [] ps) (sym are) tt
+  pages_are content number end (t ∷ tails) views pages top rising same are held newest =
       let p = page_of t.number t.turn t.state are.0 in
+      let all = subst (λ ps. TailsHeld ps (read_in (names_in folder) content)) are.3 held in
+      let states = subst (λ vs. SameStates (t ∷ tails) vs) are.5 same in
+      let long : are.0.length ≡ place_behind 1 are.0.rows = sym (ap (λ (s : PageState). s.length) (first_state states)) ∙ (tail_length content t are.0 all.0 newest.0).0 in
       let rises = subst (λ ps. Rising number end ps top) are.3 rising in
       subst (λ vs. ArePagesOf (tails_opened folder (t ∷ tails) vs) pages) (sym are.5)
       (subst (λ ps. ArePagesOf (page_opened folder t.number t.turn t.state.first_open (view_of t.state are.0) ∷ tails_opened folder tails are.2) ps) (sym are.3)
-      (page_is t.number t.turn t.state are.0 rises.3.numbered, pages_are (suc t.number) (t.state.least + length are.0.rows) tails are.2 are.1 top rises.4 are.6))
-
-  top_sound : (number end : ℕ) (pages : List Page) (top : Page) → Rising number end pages top → IsSound top
-  top_sound number end [] top rising = rising.2
-  top_sound number end (p ∷ pages) top rising = top_sound (suc p.number) (p.least + length p.rows) pages top rising.4
+      (page_is t.number t.turn t.state are.0 rises.3.numbered long, pages_are content (suc t.number) (t.state.least + length are.0.rows) tails are.2 are.1 top rises.4 (other_states states) are.6 all.1 newest.1))
 
 -- a fault that is handed on
 pub hands_on : (folder : List ℕ) (limits : Limits) (f : Folder) (result : Result QueueView QueueFault) (lost : QueueFault) → IsErrAnd result (λ e. e ≡ lost) → IsLost (names_in folder) lost (found f) → FindsQueue folder limits f result
@@ -165,7 +176,7 @@ module _ (folder : List ℕ) (o : Opened) (stated : AreStated o.state o.pages) w
   pub unread_fits : unread_in tails + unread_of top < 2 ^ 64
   unread_fits =
       let f : Folder = λ role. None in
-      let t : Held = record { number = o.state.page; state = o.state; bytes = [] } in
+      let t : HeldPage = record { number = o.state.page; state = o.state; bytes = [] } in
       omega (arith, few_unread folder f t 0 o.pages.tails.items o.pages.pages.items stated.states (stated.rises f), stated.top.numbers, least_same)
 
 -- ---- what the store tells
@@ -183,9 +194,19 @@ module _ {S : Type 0} (store : StoreWords S) (folder : List ℕ) (limits : Limit
         top = slot_long folder (bytes_of (store.seen new (names_in folder head))) o.turn o.state l.head_is.is;
       }
 
-  opens_as : OpensReady store (names_in folder) o old new → IsTrue store.tells → IsAsWritten (read_in (names_in folder) (store.seen old)) o → OpensAs store v o old new
-  opens_as ready told written =
-      let q = ready told written in
+  -- the head page has as many bytes as its rows say
+  top_length : (queue : Queue) (read : PageRows) → IsQueue queue → queue.top ≡ page_of o.state.page o.turn o.state read → o.pages.top ≡ view_of o.state read → Held queue (read_in (names_in folder) (store.seen new))
+      → length (bytes_of (store.seen new (names_in folder (page o.state.page)))) ≡ o.pages.top.state.length → read.length ≡ place_behind 1 read.rows
+  top_length queue read is top_is view_is held exact =
+      let now = read_in (names_in folder) (store.seen new) in
+      let t = held.top in
+      let whole = is_whole queue (now head) (now (page queue.top.number)) (rising_top 0 0 queue.tails queue.top is) t in
+      sym (ap (λ (x : PageView). x.state.length) view_is) ∙ sym exact ∙ ap (λ (p : Page). length (bytes_of (now (page p.number)))) (sym top_is) ∙ ap (λ (f : Option (List ℕ)). length (bytes_of f)) t.stands
+      ∙ page_length queue.top.version queue.top.least queue.top.rows (t.front ++ t.tail) whole ∙ ap (λ (p : Page). place_behind 1 p.rows) top_is
+
+  opens_as : OpensReady store (names_in folder) o old new → IsTrue store.tells → OpensAs store v o old new
+  opens_as ready told =
+      let q = ready told in
       let l = was.leaves told in
       let queue = q.queue in
       let held = q.ready.held told in
@@ -194,10 +215,11 @@ module _ {S : Type 0} (store : StoreWords S) (folder : List ℕ) (limits : Limit
         is = q.is;
         opens = record {
           ready = q.ready;
-          tails = pages_are folder 0 0 o.pages.tails.items o.pages.pages.items queue.tails queue.top q.ready.is q.is.tails;
+          tails = pages_are folder (store.seen new) 0 0 o.pages.tails.items o.pages.pages.items queue.tails queue.top q.ready.is stated.states q.is.tails held.tails l.newest;
           top = subst (λ (view : PageView). IsPageOf (page_opened folder o.state.page o.turn o.state.first_open view) queue.top) (sym q.is.top_is)
               (subst (λ (p : Page). IsPageOf (page_opened folder o.state.page o.turn o.state.first_open (view_of o.state q.is.read)) p) (sym q.is.top)
-              (page_is folder o.state.page o.turn o.state q.is.read (subst (λ (p : Page). IsSound p) q.is.top (top_sound folder 0 0 queue.tails queue.top q.ready.is)).numbered));
+              (page_is folder o.state.page o.turn o.state q.is.read (subst (λ (p : Page). IsSound p) q.is.top (rising_top 0 0 queue.tails queue.top q.ready.is)).numbered
+              (top_length queue q.is.read q.ready.is q.is.top q.is.top_is held l.exact)));
           files = λ told. record {
             tails = longs folder (store.seen new) o.pages.tails.items o.pages.pages.items queue.tails stated.states q.is.tails held.tails l.newest;
             top = l.exact;
@@ -212,7 +234,7 @@ module _ {S : Type 0} (store : StoreWords S) (folder : List ℕ) (limits : Limit
 
   -- ---- how many rows are unread
 
-  abbrev the_top : Folder → Held
+  abbrev the_top : Folder → HeldPage
   the_top f = record { number = o.state.page; state = o.state; bytes = bytes_of (f (page o.state.page)) }
 
   ok_same : {x y : Found} → ◌≡◌ {A = Result Found Damaged} (Ok x) (Ok y) → x ≡ y

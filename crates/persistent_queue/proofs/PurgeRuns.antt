@@ -176,7 +176,7 @@ module _ (folder : List ℕ) (k : ℕ) (old new : Content) (same_page : (n : ℕ
   long_above : (from end : ℕ) (tails : List OpenPage) → k < from → Climb from end tails → AreLong folder tails old → AreLong folder tails new
   long_above from end [] above climb long = tt
   long_above from end (o ∷ tails) above climb long = (
-    ap file_length (same_page o.number (λ is. omega (arith, is, above, climb.0))) ∙ long.0,
+    omega (arith, long.0, ap file_length (same_page o.number (λ is. omega (arith, is, above, climb.0)))),
     long_above (suc o.number) end tails (omega (arith, above, climb.0)) climb.1 long.1,
   )
 
@@ -185,7 +185,7 @@ module _ (folder : List ℕ) (k : ℕ) (old new : Content) (same_page : (n : ℕ
   long_left from end (o ∷ tails) climb some long = ⊎_elim
       (λ here. subst (λ l. AreLong folder l new) (sym here.1) (long_above (suc o.number) end tails (omega (arith, here.0)) climb.1 long.1))
       (λ there. let bounds = spent_bounds (suc o.number) end tails k climb.1 there.0 in
-      subst (λ l. AreLong folder l new) (sym there.1) (ap file_length (same_page o.number (λ is. omega (arith, is, bounds.0))) ∙ long.0, long_left (suc o.number) end tails climb.1 there.0 long.1))
+      subst (λ l. AreLong folder l new) (sym there.1) (omega (arith, long.0, ap file_length (same_page o.number (λ is. omega (arith, is, bounds.0)))), long_left (suc o.number) end tails climb.1 there.0 long.1))
       (spent_cases o tails k some)
 
 among_above : (n k from end : ℕ) (tails : List OpenPage) → k < from → Climb from end tails → IsAmong n tails → n ≢ k

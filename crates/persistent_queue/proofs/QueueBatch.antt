@@ -1,19 +1,20 @@
 -- A batch takes the first unread rows of a queue that is open.
-use Rattle.std.proofs.Common.{◌≡◌, inl, inr, ℕ, zero, suc, ◌+◌, ◌-◌, ◌==◌, List, [], ◌∷◌, ◌++◌, length, map, take, drop, Option, Some, None, Ok, refl, sym, ap, ◌∙◌, subst, arith, length-append, length-take, slice_get, ◌≤◌}
+use Rattle.std.proofs.Common.{◌≡◌, inl, inr, ℕ, zero, suc, ◌+◌, ◌-◌, ◌==◌, List, [], ◌∷◌, ◌++◌, length, map, take, drop, Option, Some, None, Ok, refl, sym, ap, ◌∙◌, subst, arith, append-nil, length-append, slice_get, ◌≤◌}
 use Rattle.std.proofs.lemmas.Bool.{cond-true, cond-false, cases_Bool}
 use Rattle.std.proofs.lemmas.Bool.Decides.{nat_tests}
-use Rattle.std.proofs.lemmas.List.{length-map, take_all, take-append-drop}
+use Rattle.std.proofs.lemmas.List.{length-map, take_at}
 use Rattle.io_traits.specs.Folders.{Content}
 use Rattle.io_traits.specs.Reads.{bytes_of, file_length}
 use Rattle.queue_page.specs.Blocks.{left_of}
-use Rattle.queue_page.specs.Grammar.{AreElements}
+use Rattle.queue_page.specs.Grammar.{AreElements, IsPage}
 use Rattle.queue_page.specs.Views.{BlockView}
 use Rattle.queue_page.specs.declared.row.PageRow.{PageRow}
 use Rattle.queue_laws.specs.Folders.{head, page, checkpoint, names_in}
 use Rattle.queue_laws.specs.Found.{Row}
-use Rattle.queue_laws.specs.Kept.{Page, Queue, Rising}
+use Rattle.queue_laws.specs.Kept.{Page, Queue, IsSound, Rising}
 use Rattle.queue_laws.specs.Resting.{TailHeld, TailsHeld, TopHeld}
-use Rattle.queue_laws.proofs.Torn.{more_elements}
+use Rattle.queue_laws.proofs.Torn.{is_whole}
+use Rattle.queue_laws.proofs.Whole.{rising_top}
 use Rattle.queue_core.specs.Marks.{read_in}
 use Rattle.persistent_queue.specs.NextBatch.{StandsAt, RowsStand, AllStand, Rise, unread_rows_in}
 use Rattle.persistent_queue.specs.Opens.{AreLong, ArePagesOf, IsPageOf}
@@ -24,19 +25,20 @@ use Rattle.persistent_queue.specs.Views.{OpenPage, CursorView, QueueView}
 use Rattle.persistent_queue.specs.declared.batching.Batch.{Batch}
 use Rattle.persistent_queue.specs.declared.page_rows.QueueRow.{QueueRow}
 use Rattle.persistent_queue.specs.declared.page_rows.Reading.{Reading}
+use Rattle.persistent_queue.proofs.MarkRuns.{page_length}
 use Rattle.persistent_queue.proofs.NextBatches.{BatchReads, batch_got, batch_reads}
 
 -- ---- the rows of a page stand in its file
 
-elements_left : (version : ℕ) (elements : List ℕ) → left_of (version ∷ elements) 1 (length (version ∷ elements)) ≡ elements
-elements_left version elements = ap (drop 1) (take_all (length (version ∷ elements)) (version ∷ elements) (omega arith))
-
-first_stands : (o : OpenPage) (p : Page) (file elements : List ℕ) → IsPageOf o p → file ≡ p.version ∷ elements → AreElements p.version p.least 1 p.rows elements → length file ≡ o.page.state.length
-    → StandsAt o p.rows file o.page.state.least 1
-first_stands o p file elements is begins are long =
+first_stands : (o : OpenPage) (p : Page) (bytes rest : List ℕ) → IsPageOf o p → IsPage bytes p.version p.least p.rows → StandsAt o p.rows (bytes ++ rest) o.page.state.least 1
+first_stands o p bytes rest is is_page =
+    let file = bytes ++ rest in
+    let elements = is_page.elements in
+    let are = is_page.are in
     let none : 0 ≡ o.page.state.least - o.page.state.least = omega arith in
-    let size : length file ≡ suc (length elements) = ap length begins in
-    let left : elements ≡ left_of file 1 o.page.state.length = sym (elements_left p.version elements) ∙ (λ i. left_of (sym begins i) 1 (ap length (sym begins) i)) ∙ ap (left_of file 1) long in
+    let long : length bytes ≡ o.page.state.length = page_length p.version p.least p.rows bytes is_page ∙ sym is.long in
+    let size : length bytes ≡ suc (length elements) = ap length is_page.begins in
+    let left : elements ≡ left_of file 1 o.page.state.length = ap (drop 1) (sym is_page.begins) ∙ ap (drop 1) (sym (take_at bytes rest o.page.state.length long)) in
     record {
       within = omega (arith, size, long);
       behind = omega arith;
@@ -50,40 +52,34 @@ module _ (folder : List ℕ) (content : Content) where
   file_is : (o : OpenPage) (p : Page) (bytes : List ℕ) → IsPageOf o p → o.file ≡ names_in folder (page o.number) → content (names_in folder (page p.number)) ≡ Some bytes → bytes_of (content o.file) ≡ bytes
   file_is o p bytes is named stands = ap (λ (name : List ℕ). bytes_of (content name)) (named ∙ ap (λ n. names_in folder (page n)) (sym is.number)) ∙ ap bytes_of stands
 
-  pub file_long : (o : OpenPage) → o.file ≡ names_in folder (page o.number) → file_length (content (names_in folder (page o.number))) ≡ o.page.state.length → length (bytes_of (content o.file)) ≡ o.page.state.length
-  file_long o named long = ap (λ (name : List ℕ). file_length (content name)) named ∙ long
+  pub file_long : (o : OpenPage) → o.file ≡ names_in folder (page o.number) → o.page.state.length ≤ file_length (content (names_in folder (page o.number))) → o.page.state.length ≤ length (bytes_of (content o.file))
+  file_long o named long = omega (arith, long, ap (λ (name : List ℕ). file_length (content name)) named)
 
   pub tail_first : (o : OpenPage) (p : Page) (slots : Option (List ℕ)) → IsPageOf o p → o.file ≡ names_in folder (page o.number) → TailHeld p slots (content (names_in folder (page p.number)))
-      → file_length (content (names_in folder (page o.number))) ≡ o.page.state.length → StandsAt o p.rows (bytes_of (content o.file)) o.page.state.least 1
-  tail_first o p slots is named held long =
-      first_stands o p (bytes_of (content o.file)) held.is_page.elements is (file_is o p held.bytes is named held.stands ∙ held.is_page.begins) held.is_page.are (file_long o named long)
+      → StandsAt o p.rows (bytes_of (content o.file)) o.page.state.least 1
+  tail_first o p slots is named held =
+      subst (λ (file : List ℕ). StandsAt o p.rows file o.page.state.least 1) (sym (file_is o p (held.bytes ++ held.rest) is named held.stands)) (first_stands o p held.bytes held.rest is held.is_page)
 
-  pub top_first : (o : OpenPage) (q : Queue) (slots : Option (List ℕ)) → IsPageOf o q.top → o.file ≡ names_in folder (page o.number) → TopHeld q slots (content (names_in folder (page q.top.number)))
-      → file_length (content (names_in folder (page o.number))) ≡ o.page.state.length → StandsAt o q.top.rows (bytes_of (content o.file)) o.page.state.least 1
-  top_first o q slots is named held long =
-      let p = q.top in
-      let elements = held.is_page.elements in
-      let few : length (take q.marked p.rows) ≡ q.marked = omega (arith, length-take q.marked p.rows, held.marked) in
-      let size : 1 + length elements ≡ length held.front = omega (arith, ap length held.is_page.begins) in
-      let behind = subst (λ n. AreElements p.version (p.least + length (take q.marked p.rows)) n (drop q.marked p.rows) held.tail) (sym size)
-      (subst (λ n. AreElements p.version (p.least + n) (length held.front) (drop q.marked p.rows) held.tail) (sym few) held.behind) in
-      let all = more_elements p.version p.least 1 (take q.marked p.rows) (drop q.marked p.rows) elements held.tail held.is_page.are behind in
-      first_stands o p (bytes_of (content o.file)) (elements ++ held.tail) is (file_is o p (held.front ++ held.tail) is named held.stands ∙ ap (λ (l : List ℕ). l ++ held.tail) held.is_page.begins)
-      (subst (λ (l : List PageRow). AreElements p.version p.least 1 l (elements ++ held.tail)) (take-append-drop q.marked p.rows) all) (file_long o named long)
+  pub top_first : (o : OpenPage) (q : Queue) (slots : Option (List ℕ)) → IsSound q.top → IsPageOf o q.top → o.file ≡ names_in folder (page o.number) → TopHeld q slots (content (names_in folder (page q.top.number)))
+      → StandsAt o q.top.rows (bytes_of (content o.file)) o.page.state.least 1
+  top_first o q slots sound is named held =
+      let all = held.front ++ held.tail in
+      let file : bytes_of (content o.file) ≡ all ++ [] = file_is o q.top all is named held.stands ∙ sym (append-nil all) in
+      subst (λ (file : List ℕ). StandsAt o q.top.rows file o.page.state.least 1) (sym file) (first_stands o q.top all [] is (is_whole q slots (content (names_in folder (page q.top.number))) sound held))
 
-  page_stands : (s : Stand) (o : OpenPage) (rows : List PageRow) → StandsAt o rows (bytes_of (content o.file)) o.page.state.least 1 → length (bytes_of (content o.file)) ≡ o.page.state.length
+  page_stands : (s : Stand) (o : OpenPage) (rows : List PageRow) → StandsAt o rows (bytes_of (content o.file)) o.page.state.least 1 → o.page.state.length ≤ length (bytes_of (content o.file))
       → (s.page ≡ o.number → StandsAt o rows (bytes_of (content o.file)) s.reading.number s.reading.place) → RowsStand content s o rows
-  page_stands s o rows first long here = record { long = omega (arith, long); first = first; here = here }
+  page_stands s o rows first long here = record { long = long; first = first; here = here }
 
   all_stand : (most : ℕ) (c : CursorView) (tails : List OpenPage) (top : OpenPage) (q : Queue) (pages : List Page) → ArePagesOf tails pages → IsPageOf top q.top → TailsHeld pages (read_in (names_in folder) content)
-      → StandsAt top q.top.rows (bytes_of (content top.file)) top.page.state.least 1 → AreLong folder tails content → file_length (content (names_in folder (page top.number))) ≡ top.page.state.length
+      → StandsAt top q.top.rows (bytes_of (content top.file)) top.page.state.least 1 → AreLong folder tails content → top.page.state.length ≤ file_length (content (names_in folder (page top.number)))
       → AreNamed folder (tails ++ top ∷ []) → CursorStands content c (tails ++ top ∷ []) (map (λ (p : Page). p.rows) pages ++ q.top.rows ∷ [])
       → AllStand content (begun most c) (tails ++ top ∷ []) (map (λ (p : Page). p.rows) pages ++ q.top.rows ∷ [])
   all_stand most c [] top q [] are top_is held top_first long top_long named stands = (page_stands (begun most c) top q.top.rows top_first (file_long top named.0 top_long) stands.0, tt)
   all_stand most c [] top q (p ∷ pages) are top_is held top_first long top_long named stands = elim are [ ]
   all_stand most c (o ∷ tails) top q [] are top_is held top_first long top_long named stands = elim are [ ]
   all_stand most c (o ∷ tails) top q (p ∷ pages) are top_is held top_first long top_long named stands = (
-    page_stands (begun most c) o p.rows (tail_first o p (content (names_in folder (checkpoint p.number))) are.0 named.0 held.0 long.0) (file_long o named.0 long.0) stands.0,
+    page_stands (begun most c) o p.rows (tail_first o p (content (names_in folder (checkpoint p.number))) are.0 named.0 held.0) (file_long o named.0 long.0) stands.0,
     all_stand most c tails top q pages are.1 top_is held.1 top_first long.1 top_long named.1 stands.1,
   )
 
@@ -126,8 +122,8 @@ no_rows (row ∷ rows) none = absurd (omega (arith, none))
 module _ (most : ℕ) (content : Content) (v : QueueView) (q : Queue) (rows : List Row) (read : IsRead content v q) (unread : AreUnread content v q rows) where
   start_stands : AllStand content (begun most v.cursor) (all_pages v) (page_rows q)
   start_stands =
-      let top = top_first v.folder content v.top q (content (names_in v.folder head)) read.top (last_named v.tails read.named) read.held.top read.files.top in
-      all_stand v.folder content most v.cursor v.tails v.top q q.tails read.tails read.top read.held.tails top read.files.tails read.files.top read.named unread.stands
+      let top = top_first v.folder content v.top q (content (names_in v.folder head)) (rising_top 0 0 q.tails q.top read.is) read.top (last_named v.tails read.named) read.held.top in
+      all_stand v.folder content most v.cursor v.tails v.top q q.tails read.tails read.top read.held.tails top read.files.tails (omega (arith, read.files.top)) read.named unread.stands
     where
       last_named : (tails : List OpenPage) → AreNamed v.folder (tails ++ v.top ∷ []) → v.top.file ≡ names_in v.folder (page v.top.number)
       last_named [] named = named.0

@@ -1,52 +1,28 @@
 -- A new head page behind those of an open queue.
-use Rattle.std.proofs.Common.{◌≡◌, ◌⊎◌, ⊎_elim, inl, inr, ℕ, suc, ◌+◌, ◌-◌, ◌<◌, ◌≤◌, ◌^◌, IsTrue, List, [], ◌∷◌, ◌++◌, length, Option, Some, refl, sym, ◌∙◌, ap, subst, arith, length-append}
+use Rattle.std.proofs.Common.{◌≡◌, ◌⊎◌, ⊎_elim, inl, inr, ℕ, suc, ◌≢◌, ◌+◌, ◌-◌, ◌<◌, ◌≤◌, ◌^◌, IsTrue, List, [], ◌∷◌, ◌++◌, length, Option, Some, refl, sym, ◌∙◌, ap, subst, arith, length-append}
 use Rattle.std.proofs.Math.Path.{ap₂}
 use Rattle.io_traits.specs.Folders.{Content}
 use Rattle.io_traits.specs.Reads.{bytes_of, file_length}
 use Rattle.crc_frame.specs.Slots.{next_turn}
+use Rattle.store_trait.specs.Moments.{ReadsBeside}
 use Rattle.store_trait.specs.declared.stores.Store.{Ghosts as StoreWords}
-use Rattle.crc_frame.specs.Frames.{frame_of}
-use Rattle.element_code.specs.declared.row.Origin.{Origin}
-use Rattle.element_code.specs.declared.row.Origin.TheVariants.{Unknown, Id}
-use Rattle.event_tree.specs.Events.{Ev}
 use Rattle.queue_page.specs.Blocks.{IsPart}
-use Rattle.queue_page.specs.Bodies.{IsBody}
-use Rattle.queue_page.specs.Grammar.{IsElement, AreElements, IsPage}
-use Rattle.queue_page.specs.declared.row.PageRow.{PageRow}
 use Rattle.queue_laws.specs.Folders.{Role, head, page, checkpoint, Folder, names_in}
-use Rattle.queue_laws.specs.Kept.{Page, Queue, leading}
-use Rattle.queue_laws.specs.Resting.{Held, TailHeld, TailsHeld, TopHeld}
+use Rattle.queue_laws.specs.Kept.{Page, Queue, Rising, leading}
+use Rattle.queue_laws.specs.Resting.{Held, TopHeld}
 use Rattle.queue_laws.specs.Steps.{CanRoll, rolled}
 use Rattle.queue_laws.specs.Steps.{sealed as sealed_page}
 use Rattle.queue_laws.proofs.ApartNames.{names_apart}
-use Rattle.queue_laws.proofs.Torn.{is_whole}
-use Rattle.queue_laws.proofs.Whole.{rising_top}
 use Rattle.queue_core.specs.Marks.{read_in}
-use Rattle.queue_core.specs.Ready.{Ready, Keeps, IsNextPageOf, PageKeeps, PageReady}
+use Rattle.queue_core.specs.Ready.{Ready, Keeps, IsNextPageOf, IsOfNext, PageKeeps, PageReady}
 use Rattle.queue_core.specs.Writes.{NoneShorter}
 use Rattle.queue_core.specs.declared.rolling.NextPage.{NextPage}
+use Rattle.queue_core.proofs.TornMarks.{number_of}
 use Rattle.persistent_queue.specs.Calls.{end_of, first_open}
 use Rattle.persistent_queue.specs.Opens.{AreLong, ArePagesOf, Climb, HasPage, IsAmong, IsOfFiles, IsPageOf, IsReady, Opens, TailsSlotted}
 use Rattle.persistent_queue.specs.Views.{OpenPage, QueueView}
 use Rattle.persistent_queue.specs.Writing.{behind_roll, next_page, sealed}
 use Rattle.persistent_queue.proofs.AppendRuns.{slotted_still}
-
--- ---- pages with the same rows have the same bytes
-
-same_body : (version : ℕ) (a b : List ℕ) (origin : Origin) (event : Ev) → IsBody version a origin event → IsBody version b origin event → a ≡ b
-same_body version a b Unknown event is other = sym is.1.spelled ∙ other.1.spelled
-same_body version a b (Id id) event is other = sym is.1.spelled ∙ other.1.spelled
-
-same_element : (version place : ℕ) (row : PageRow) (a b : List ℕ) → IsElement version place row a → IsElement version place row b → a ≡ b
-same_element version place row a b is other = sym is.framed ∙ ap (frame_of row.number) (same_body version is.body other.body row.origin row.event is.is_body other.is_body) ∙ other.framed
-
-same_elements : (version number place : ℕ) (rows : List PageRow) (a b : List ℕ) → AreElements version number place rows a → AreElements version number place rows b → a ≡ b
-same_elements version number place [] a b are other = are ∙ sym other
-same_elements version number place (row ∷ rows) a b are other =
-    sym are.2 ∙ ap₂ (λ (x y : List ℕ). x ++ y) (same_element version place row are.0 other.0 are.4 other.4) (same_elements version (number + 1) row.next rows are.1 other.1 are.5 other.5) ∙ other.2
-
-same_page : (version least : ℕ) (rows : List PageRow) (a b : List ℕ) → IsPage a version least rows → IsPage b version least rows → a ≡ b
-same_page version least rows a b is other = is.begins ∙ ap (λ l. version ∷ l) (same_elements version least 1 rows is.elements other.elements is.are other.are) ∙ sym other.begins
 
 -- ---- one page more
 
@@ -71,9 +47,12 @@ among_more n [] o (inr none) = absurd none
 among_more n (t ∷ tails) o (inl is) = inl (inl is)
 among_more n (t ∷ tails) o (inr more) = ⊎_elim (λ among. inl (inr among)) (λ is. inr is) (among_more n tails o more)
 
-held_front : (tails : List Page) (p : Page) (folder : Folder) → TailsHeld (tails ++ p ∷ []) folder → TailsHeld tails folder × TailHeld p (folder (checkpoint p.number)) (folder (page p.number))
-held_front [] p folder held = (tt, held.0)
-held_front (t ∷ tails) p folder held = let rest = held_front tails p folder held.1 in ((held.0, rest.0), rest.1)
+-- pages below the head have lesser numbers
+among_below : (n number end : ℕ) (tails : List OpenPage) (pages : List Page) (last : Page) → ArePagesOf tails pages → Rising number end pages last → IsAmong n tails → n < last.number
+among_below n number end [] pages last are rising among = absurd among
+among_below n number end (o ∷ tails) [] last are rising among = absurd are
+among_below n number end (o ∷ tails) (p ∷ pages) last are rising (inl is) = omega (arith, is, are.0.number, rising.1)
+among_below n number end (o ∷ tails) (p ∷ pages) last are rising (inr among) = among_below n (suc p.number) (p.least + length p.rows) tails pages last are.1 rising.4 among
 
 -- ---- files that stay
 
@@ -81,18 +60,16 @@ module _ (folder : List ℕ) (old new : Content) where
   abbrev Stays : ℕ → Type 0
   Stays n = new (names_in folder (page n)) ≡ old (names_in folder (page n))
 
-  tails_stay : (tails : List OpenPage) (pages : List Page) → ArePagesOf tails pages → TailsHeld pages (read_in (names_in folder) old) → TailsHeld pages (read_in (names_in folder) new) → (n : ℕ) → IsAmong n tails → Stays n
-  tails_stay [] pages are held now n among = absurd among
-  tails_stay (o ∷ tails) [] are held now n among = absurd are
-  tails_stay (o ∷ tails) (p ∷ pages) are held now n (inl is) =
-      subst Stays (are.0.number ∙ sym is)
-      (now.0.stands ∙ ap Some (same_page p.version p.least p.rows now.0.bytes held.0.bytes now.0.is_page held.0.is_page) ∙ sym held.0.stands)
-  tails_stay (o ∷ tails) (p ∷ pages) are held now n (inr among) = tails_stay tails pages are.1 held.1 now.1 n among
-
-  long_more : (tails : List OpenPage) (o : OpenPage) → ((n : ℕ) → IsAmong n tails → Stays n) → AreLong folder tails old → file_length (new (names_in folder (page o.number))) ≡ o.page.state.length
+  long_more : (tails : List OpenPage) (o : OpenPage) → ((n : ℕ) → IsAmong n tails → Stays n) → AreLong folder tails old → o.page.state.length ≤ file_length (new (names_in folder (page o.number)))
       → AreLong folder (tails ++ o ∷ []) new
   long_more [] o stay long one = (one, tt)
-  long_more (t ∷ tails) o stay long one = (ap file_length (stay t.number (inl refl)) ∙ long.0, long_more tails o (λ n among. stay n (inr among)) long.1 one)
+  long_more (t ∷ tails) o stay long one = (omega (arith, long.0, ap file_length (stay t.number (inl refl))), long_more tails o (λ n among. stay n (inr among)) long.1 one)
+
+no_checkpoint : (n k : ℕ) → page n ≡ checkpoint k → ⊥
+no_checkpoint n k is = absurd cc
+
+no_head : (n : ℕ) → page n ≡ head → ⊥
+no_head n is = absurd cc
 
 -- a page that was just begun has one byte
 begun_long : (q : Queue) (slots file : Option (List ℕ)) → TopHeld (rolled q) slots file → file_length file ≡ 1
@@ -141,26 +118,27 @@ module _ {S : Type 0} (store : StoreWords S) (v : QueueView) (old new : S) (next
     pub keeps_page : PageKeeps store next old new → Keeps store names q old new
     keeps_page keeps = keeps names q (names_apart v.folder) opens.ready can is_next
 
-    module _ (page_ready : PageReady store next old new) where
+    other_file : (n : ℕ) → n ≢ suc v.top.number → IsOfNext (next_page v.folder v.top) (names (page n)) → ⊥
+    other_file n other (inl is) = no_checkpoint n v.top.number (names_apart v.folder (page n) (checkpoint v.top.number) is)
+    other_file n other (inr (inl is)) = other (ap number_of (names_apart v.folder (page n) (page (suc v.top.number)) is))
+    other_file n other (inr (inr is)) = no_head n (names_apart v.folder (page n) head is)
+
+    module _ (page_ready : PageReady store next old new) (page_beside : ReadsBeside store (IsOfNext next) old new) where
       now : Ready store names (rolled q) new
       now = page_ready names q (names_apart v.folder) opens.ready can is_next
 
       module _ (told : IsTrue store.tells) where
-        before : Held q (read_in names (store.seen old))
-        before = opens.ready.held told
-
         behind : Held (rolled q) (read_in names (store.seen new))
         behind = now.held told
 
+        page_same : (n : ℕ) → n ≢ suc v.top.number → store.seen new (names (page n)) ≡ store.seen old (names (page n))
+        page_same n other = page_beside told (names (page n)) (λ mine. other_file n other (subst (λ (x : NextPage). IsOfNext x (names (page n))) next_is mine))
+
         tails_same : (n : ℕ) → IsAmong n v.tails → store.seen new (names (page n)) ≡ store.seen old (names (page n))
-        tails_same = tails_stay v.folder (store.seen old) (store.seen new) v.tails q.tails opens.tails before.tails (held_front q.tails (sealed_page q.top) (read_in names (store.seen new)) behind.tails).0
+        tails_same n among = page_same n (λ is. omega (arith, is, among_below n 0 0 v.tails q.tails q.top opens.tails opens.ready.is among, opens.top.number))
 
         top_same : store.seen new (names (page v.top.number)) ≡ store.seen old (names (page v.top.number))
-        top_same =
-            let one = (held_front q.tails (sealed_page q.top) (read_in names (store.seen new)) behind.tails).1 in
-            let whole = is_whole q (store.seen old (names head)) (store.seen old (names (page q.top.number))) (rising_top 0 0 q.tails q.top opens.ready.is) before.top in
-            subst (λ n. store.seen new (names (page n)) ≡ store.seen old (names (page n))) opens.top.number
-            (one.stands ∙ ap Some (same_page q.top.version q.top.least q.top.rows one.bytes (before.top.front ++ before.top.tail) one.is_page whole) ∙ sym before.top.stands)
+        top_same = page_same v.top.number (λ is. absurd (omega (arith, is)))
 
         part_now : HasPage v.cursor.page (behind_roll v) → IsPart (bytes_of (store.seen new (names (page v.cursor.page)))) v.cursor.block
         part_now (inl is) = absurd (omega (arith, is, (opens.files told).within))
@@ -173,7 +151,7 @@ module _ {S : Type 0} (store : StoreWords S) (v : QueueView) (old new : S) (next
 
         files_now : IsOfFiles (behind_roll v) (store.seen new)
         files_now = record {
-          tails = long_more v.folder (store.seen old) (store.seen new) v.tails (sealed v.top) tails_same (opens.files told).tails (ap file_length top_same ∙ (opens.files told).top);
+          tails = long_more v.folder (store.seen old) (store.seen new) v.tails (sealed v.top) tails_same (opens.files told).tails (omega (arith, (opens.files told).top, ap file_length top_same));
           top = ap (λ n. file_length (store.seen new (names (page (suc n))))) (sym opens.top.number) ∙ begun_long q (store.seen new (names head)) (store.seen new (names (page (suc q.top.number)))) behind.top;
           part = part_now;
           within = omega (arith, (opens.files told).within);
@@ -185,7 +163,7 @@ module _ {S : Type 0} (store : StoreWords S) (v : QueueView) (old new : S) (next
           record {
             ready = now;
             tails = are_more v.tails q.tails (sealed v.top) (sealed_page q.top) opens.tails
-                (record { number = t.number; version = t.version; least = t.least; count = t.count; acknowledged = t.acknowledged; from = t.from; turn = refl });
-            top = record { number = ap suc t.number; version = refl; least = ends; count = refl; acknowledged = refl; from = ends; turn = ap next_turn t.turn };
+                (record { number = t.number; version = t.version; least = t.least; count = t.count; acknowledged = t.acknowledged; from = t.from; turn = refl; long = t.long });
+            top = record { number = ap suc t.number; version = refl; least = ends; count = refl; acknowledged = refl; from = ends; turn = ap next_turn t.turn; long = refl };
             files = files_now;
           }

@@ -40,7 +40,7 @@ rows_with pages last = map (λ (p : Page). p.rows) pages ++ last.rows ∷ []
 
 -- all rows of these pages stand in their files
 pub record StandsFirst (content : Content) (o : OpenPage) (rows : List PageRow) : Type 0 where
-  pub long : length (bytes_of (content o.file)) ≡ o.page.state.length
+  pub long : o.page.state.length ≤ length (bytes_of (content o.file))
   pub first : StandsAt o rows (bytes_of (content o.file)) o.page.state.least 1
 
 abbrev pub AllFirst : Content → List OpenPage → List (List PageRow) → Type 0
@@ -56,7 +56,7 @@ all_first folder content (o ∷ tails) top [] last are held long named stands = 
 all_first folder content (o ∷ tails) top (p ∷ pages) last are held long named stands = (
   record {
     long = file_long folder content o named.0 long.0;
-    first = tail_first folder content o p (content (names_in folder (checkpoint p.number))) are.0 named.0 held.0 long.0;
+    first = tail_first folder content o p (content (names_in folder (checkpoint p.number))) are.0 named.0 held.0;
   },
   all_first folder content tails top pages last are.1 held.1 long.1 named.1 stands,
 )
@@ -72,8 +72,8 @@ module _ {S : Type 0} (store : StoreWords S) (v : QueueView) (q : Queue) (s : S)
       let files = opens.files tells in
       let is = last_named v.folder v.tails v.top named in
       all_first v.folder (store.seen s) v.tails v.top q.tails q.top opens.tails held.tails files.tails named (record {
-        long = file_long v.folder (store.seen s) v.top is files.top;
-        first = top_first v.folder (store.seen s) v.top q (store.seen s (names_in v.folder head)) opens.top is held.top files.top;
+        long = file_long v.folder (store.seen s) v.top is (omega (arith, files.top));
+        first = top_first v.folder (store.seen s) v.top q (store.seen s (names_in v.folder head)) (rising_top 0 0 q.tails q.top opens.ready.is) opens.top is held.top;
       })
 
   pub is_read : IsRead (store.seen s) v q

@@ -14,7 +14,7 @@ use Rattle.queue_laws.specs.Steps.{marked, rolled, with_row}
 use Rattle.queue_laws.proofs.ApartNames.{names_apart}
 use Rattle.queue_laws.proofs.Keeping.{marked_keeps}
 use Rattle.queue_core.specs.Marks.{NoChances}
-use Rattle.queue_core.specs.Ready.{Keeps, MarkKeeps, MarkRecords, PageKeeps, PageReady, RowKept, RowReady}
+use Rattle.queue_core.specs.Ready.{IsOfNext, Keeps, MarkKeeps, MarkRecords, PageKeeps, PageReady, RowKept, RowReady}
 use Rattle.queue_core.specs.Writes.{NoneShorter, Settled, writes_of}
 use Rattle.queue_core.specs.declared.marking.Mark.{Mark}
 use Rattle.queue_core.specs.declared.rolling.NextPage.{NextPage}
@@ -135,9 +135,9 @@ module _ {S : Type 0} (store : StoreWords S) (tell : ImagesTell store) where
         abbrev first : (origin : List ℕ) (event : Ev) → PageRow
         first origin event = row_framed (end_of v.top) origin event 1
 
-        module _ (page_ready : PageReady store next mid rolled_to) where
+        module _ (page_ready : PageReady store next mid rolled_to) (page_beside : ReadsBeside store (IsOfNext next) mid rolled_to) where
           opens_second : (q : Queue) → Opens store v q old → Opens store grown (rolled (marked q)) rolled_to
-          opens_second q opens = opens_rolled store (behind_mark v) mid rolled_to next plan.next_is plan.number refl (marked q) refl (opens_first q opens) page_ready
+          opens_second q opens = opens_rolled store (behind_mark v) mid rolled_to next plan.next_is plan.number refl (marked q) refl (opens_first q opens) page_ready page_beside
 
           pub keeps_added : RowKept store next.file frame rolled_to new → KeepsRow store row_behind v frame old new
           keeps_added row_kept origin event is q opens =

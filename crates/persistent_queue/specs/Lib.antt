@@ -12,4 +12,4 @@ pub mod QueueBatches
 pub mod Writing
 pub mod UnreadRows
 pub mod GivenOnce
-pub mod Stops
+pub mod Recovery

@@ -9,7 +9,7 @@ use Rattle.queue_page.specs.Views.{PageView}
 use Rattle.queue_core.specs.Collected.{IsLost}
 use Rattle.queue_core.specs.Known.{IsOfFolder}
 use Rattle.queue_core.specs.Marks.{read_in}
-use Rattle.queue_core.specs.Queues.{IsAsWritten, IsQueueOf}
+use Rattle.queue_core.specs.Queues.{IsQueueOf}
 use Rattle.queue_core.specs.declared.opening.Opened.{Opened}
 use Rattle.queue_core.specs.declared.tails.Tail.{Tail}
 use Rattle.persistent_queue.specs.Calls.{end_of}
@@ -87,9 +87,9 @@ module _ {S : Type 0} (store : StoreWords S) where
     pub is : IsQueueOf (read_in (names_in v.folder) (store.seen old)) o queue
     pub opens : Opens store v queue new
 
-  -- The queue has this folder and these limits in any case. Where the folder is as a queue leaves it, the store holds its queue.
+  -- The queue has this folder and these limits, and the store holds it.
   pub record OpensFolder (folder : List ℕ) (limits : Limits) (old new : S) (v : QueueView) : Type 0 where
     pub opened : Opened
     pub is : v ≡ queue_opened folder limits opened
     pub reads : IsTrue store.tells → IsOfFolder (read_in (names_in folder) (store.seen old)) opened
-    pub ready : IsTrue store.tells → IsAsWritten (read_in (names_in folder) (store.seen old)) opened → OpensAs v opened old new
+    pub ready : IsTrue store.tells → OpensAs v opened old new

@@ -4,6 +4,7 @@ use Rattle.io_traits.specs.Folders.{Content}
 use Rattle.io_traits.specs.Reads.{bytes_of, file_length}
 use Rattle.store_trait.specs.declared.stores.Store.{Ghosts as StoreWords}
 use Rattle.queue_page.specs.Blocks.{IsPart}
+use Rattle.queue_page.specs.declared.row.PageRow.{PageRow}
 use Rattle.queue_laws.specs.Folders.{head, page, checkpoint, names_in}
 use Rattle.queue_laws.specs.Kept.{Page, Queue}
 use Rattle.queue_laws.specs.Steps.{with_tails}
@@ -30,6 +31,11 @@ pub record IsSlotted (v : QueueView) (content : Content) : Type 0 where
 
 -- ---- a queue
 
+-- the place behind the last of these rows of a page, which stand from a place on
+abbrev pub place_behind : ℕ → List PageRow → ℕ
+place_behind place [] = place
+place_behind place (r ∷ rows) = place_behind r.next rows
+
 -- this page that is open is this page of a queue
 pub record IsPageOf (o : OpenPage) (p : Page) : Type 0 where
   pub number : p.number ≡ o.number
@@ -39,6 +45,7 @@ pub record IsPageOf (o : OpenPage) (p : Page) : Type 0 where
   pub acknowledged : p.acknowledged ≡ o.acknowledged
   pub from : p.from ≡ o.from
   pub turn : p.turn ≡ o.turn
+  pub long : o.page.state.length ≡ place_behind 1 p.rows
 
 abbrev pub ArePagesOf : List OpenPage → List Page → Type 0
 ArePagesOf [] [] = ⊤
@@ -46,10 +53,10 @@ ArePagesOf [] (p ∷ pages) = ⊥
 ArePagesOf (o ∷ tails) [] = ⊥
 ArePagesOf (o ∷ tails) (p ∷ pages) = IsPageOf o p × ArePagesOf tails pages
 
--- the files of these pages have as many bytes as they say
+-- the files of these pages have as many bytes as they say, or more
 abbrev pub AreLong : List ℕ → List OpenPage → Content → Type 0
 AreLong folder [] content = ⊤
-AreLong folder (o ∷ tails) content = (file_length (content (names_in folder (page o.number))) ≡ o.page.state.length) × AreLong folder tails content
+AreLong folder (o ∷ tails) content = (o.page.state.length ≤ file_length (content (names_in folder (page o.number)))) × AreLong folder tails content
 
 -- a page of this number is open
 abbrev pub IsAmong : ℕ → List OpenPage → Type 0
@@ -59,7 +66,7 @@ IsAmong n (o ∷ tails) = (n ≡ o.number) ⊎ IsAmong n tails
 abbrev pub HasPage : ℕ → QueueView → Type 0
 HasPage n v = (n ≡ v.top.number) ⊎ IsAmong n v.tails
 
--- The files of all pages have as many bytes as they say, what was read last of the page of the next row stands there, and that page isn't above the head.
+-- The files of all pages have as many bytes as they say, those below the head maybe more, what was read last of the page of the next row stands there, and that page isn't above the head.
 pub record IsOfFiles (v : QueueView) (content : Content) : Type 0 where
   pub tails : AreLong v.folder v.tails content
   pub top : file_length (content (names_in v.folder (page v.top.number))) ≡ v.top.page.state.length

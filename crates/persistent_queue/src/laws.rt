@@ -3,7 +3,7 @@ ghost use Rattle.persistent_queue.specs.Acknowledging.{AcknowledgedIsOpen, Ackno
 ghost use Rattle.persistent_queue.specs.GivenOnce.{RowsAreGivenOnce};
 ghost use Rattle.persistent_queue.specs.NextBatch.{NextBatchIsRead};
 ghost use Rattle.persistent_queue.specs.QueueBatches.{FirstRowsAreTaken};
-ghost use Rattle.persistent_queue.specs.Stops.{StopLeavesAsWritten};
+ghost use Rattle.persistent_queue.specs.Recovery.{WhatIsKeptIsOpened};
 ghost use Rattle.persistent_queue.specs.Unread.{NextRowsAreRead};
 ghost use Rattle.persistent_queue.specs.UnreadRows.{AcknowledgedLeavesUnread, AllAreGiven, MarkLeavesUnread};
 ghost use Rattle.persistent_queue.specs.UnreadRows.{OpenedRowsAreUnread};
@@ -76,8 +76,9 @@ pub fn each_row_is_given_once<S: Store>()
     ensures { RowsAreGivenOnce S.Store }
 {}
 
-/// Whatever a stop between two calls leaves of the folder of a queue is a folder as a queue leaves it, so that the
-/// next opening stands for its queue.
-pub fn a_stop_leaves_it_as_written<S: Store>()
-    ensures { StopLeavesAsWritten S.Store }
+/// A folder that holds a queue, as each does that a stop at any moment of a call leaves, is opened, and never found
+/// damaged. What is opened gives the rows of the queue, page by page, that weren't acknowledged when that was last
+/// recorded, or aren't now; and of those behind the last record the first, be they none or all.
+pub fn what_is_kept_is_opened<S: Store>()
+    ensures { WhatIsKeptIsOpened S.Store }
 {}

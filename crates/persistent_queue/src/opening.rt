@@ -46,7 +46,7 @@ impl Queue {
         ensures any_moment { KeepsOpened S.Store (names_in folder.now) store.old store.new }
         ensures keeps { OpeningKeeps S.Store (names_in folder.now) store.old store.new }
 
-        // It takes calls, and where the folder is as a queue leaves it, it stands for that queue.
+        // It takes calls, and stands for the queue of the folder.
         ensures ready { IfOk result (λ queue. IsReady S.Store queue store.new) }
         ensures opens { IfOk result (λ queue. OpensFolder S.Store folder.now limits store.old
             store.new queue) }
