@@ -457,12 +457,13 @@ for version in [1, 2]:
         files = {"page.0": data, HEAD: first + last}
         run((1000, AMPLE), files, "u", expected=f"q/{name} at {place}: {found}, not {expected}; ")
 
-    second = overlaid(at + 12, b"\1", two)
+    first, second = overlaid(13, b"\1", two), overlaid(at + 12, b"\1", two)
     damage(two[:40], 40, 40, end)
     damage(overlaid(0, b"\7", two), 0, 7, 2)
     damage(overlaid(1, u(8, 3), two), 1, 3, 1)
     damage(overlaid(9, u(4, 200), two), 1, 217, end)
     damage(second, at, number_at(two, end - 4, 4), crc32(second[at : end - 4]))
+    damage(first + element(3, body_of(version, "i"))[:20], 1, number_at(two, at - 4, 4), crc32(first[1 : at - 4]))
     damage(two, 0, 2, 3, slot(1, 0, 1, 1, 3, end))
     damage(two, 0, 9, 1, slot(1, *said, version=9), HEAD)
     damage(two, 0, W, W - 1, slot(1, W, *said[1:]), HEAD)
@@ -484,6 +485,11 @@ run((59, AMPLE), folder((1, 3, 3, 0, 1), b"", p0=TWO, c0=slot(0, *ALL)), "u", ex
 run((59, AMPLE), folder((1, 3, 3, 0, 1), b"\2", p0=TWO[:58], c0=slot(0, *ALL)), "u", expected="q/page.0 at 58: 58, not 59; ")
 run((59, AMPLE), folder((1, 3, 3, 0, 1), b"\2", p0=TWO + b"x", c0=slot(0, *ALL)), "u t:9", expected="open; 2; 1i 2i; ")
 
+# a page below the head that others wrote: its slot has another number, and bytes stand behind its rows
+strange = folder((1, 3, 3, 0, 1), b"\2", p0=TWO + THIRD + b"x", c0=slot(0, 7, *ALL[1:]))
+run((59, AMPLE), strange, "u t:1 a:1-2 m", "u t:9 a:2-3 w:i m p", "u t:9", expected="open; 2; 1i; 2; open; 1; 2i; 3; 3; 0; open; 1; 3i; ")
+run((59, AMPLE), strange, "w:i w:i w:i t:9 a:1-6 m p p", "u w:i", expected="open; 3; 4; 5; 1i 2i 3i 4i 5i; 5; 0; 1; open; 0; 6; ")
+
 # ---- a stop at each change, and a call that fails
 
 BEHIND = "u t:9 w:z t:9 m p p u"
@@ -495,3 +501,4 @@ for table in [halts, faults]:
     table((59, AMPLE), fourteen | gone | {"page.2": fourteen["page.2"] + b"torn"}, "t:1 a:2-3 m w:i", BEHIND)
 halts((30, AMPLE), {}, "w:a w:b w:c t:9 a:1-4 m p p", BEHIND)
 halts((1000, 59), {}, "w:a w:b w:c", "t:9 a:1-3 w:d m", BEHIND)
+halts((59, AMPLE), strange, "t:1 a:1-2 m w:i t:9 a:2-3 m p", BEHIND)
