@@ -146,6 +146,16 @@ fn room_for(alloc: Global, rows: usize) -> Items<QueueRow> {
     Items::with_capacity(alloc, rows.min(MOST_ROOM)).unwrap_or(Items::new(alloc))
 }
 
+/// A block that holds nothing gets the room of a common one again, so that many rows are read at once; where there is no
+/// memory it stays as it is.
+fn give_room(alloc: Global, block: &mut Block)
+    ensures { (file : List ℕ) → IsPart file block.old → IsPart file block.new }
+{
+    if let Ok(empty) = Block::new(alloc, BLOCK_LEN) {
+        *block = empty;
+    }
+}
+
 /// Reads the next rows for a batch, at most so many, and goes behind them. Where that fails, the next row is
 /// the one before it.
 fn read_from<S: Store>(
@@ -178,7 +188,7 @@ fn read_from<S: Store>(
     let mut reading = begun(alloc, most, cursor);
     let mut page = cursor.page;
     let mut block = mem::replace(&mut cursor.block, Block::new(alloc, 0)?);
-    read_all(
+    match read_all(
         alloc,
         store,
         tails,
@@ -186,7 +196,13 @@ fn read_from<S: Store>(
         &mut page,
         &mut block,
         &mut reading,
-    )?;
+    ) {
+        Ok(()) => {}
+        Err(fault) => {
+            give_room(alloc, &mut cursor.block);
+            return Err(fault);
+        }
+    }
     cursor.page = page;
     cursor.number = reading.number;
     cursor.place = reading.place;
