@@ -1,0 +1,5 @@
+pub mod ChunkRuns
+pub mod FieldRuns
+pub mod TextCuts
+pub mod ItemRuns
+pub mod Meanings

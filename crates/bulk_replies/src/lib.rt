@@ -1,0 +1,15 @@
+//! What the reply to a bulk request says of each event: the head and the body of an HTTP message (RFC 9112),
+//! and in the body the items of Elasticsearch's bulk API.
+#![tactic(auto)]
+
+mod answers;
+mod chunks;
+mod fields;
+mod framing;
+mod head;
+mod reply;
+mod said;
+
+pub use plain_data::{Items, Text};
+pub use reply::{Reply, is_whole, read_reply};
+pub use said::Said;
