@@ -3,3 +3,4 @@ pub mod FieldRuns
 pub mod TextCuts
 pub mod ItemRuns
 pub mod Meanings
+pub mod AnswerLaws

@@ -1,0 +1,4 @@
+pub mod FateRuns
+pub mod RequestRuns
+pub mod Keeping
+pub mod DeliveryRuns

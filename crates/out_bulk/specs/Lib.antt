@@ -1,0 +1,9 @@
+pub mod Hosts
+pub mod Settings
+pub mod Requests
+pub mod Written
+pub mod Exchanges
+pub mod Fates
+pub mod Batches
+pub mod Deliveries
+pub mod Steps
