@@ -1,3 +1,4 @@
+pub mod Remembering
 pub mod FateRuns
 pub mod RequestRuns
 pub mod Keeping

@@ -7,3 +7,4 @@ pub mod Fates
 pub mod Batches
 pub mod Deliveries
 pub mod Steps
+pub mod MemoryPeers

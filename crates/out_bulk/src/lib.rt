@@ -4,11 +4,15 @@
 mod bulk;
 mod fates;
 mod hosts;
+mod memory_peer;
 mod output;
 mod peer;
 mod request;
 mod settings;
+mod tcp_peer;
 
 pub use bulk::Bulk;
+pub use memory_peer::{Asked, MemoryPeer};
 pub use peer::{Peer, PeerFault};
 pub use settings::BulkSettings;
+pub use tcp_peer::TcpPeer;

@@ -45,3 +45,14 @@ impl From<PeerFault> for DeliverFault {
         }
     }
 }
+
+impl From<AllocError> for PeerFault {
+    ghost use Rattle.std.specs.Prelude.{◌≡◌};
+    ghost use Rattle.out_bulk.specs.declared.peer.PeerFault.TheVariants.{Memory};
+
+    ghost from_gives = { λ _ fault. fault ≡ Memory };
+
+    fn from(_error: AllocError) -> PeerFault {
+        PeerFault::Memory
+    }
+}
