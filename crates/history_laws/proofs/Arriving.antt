@@ -6,21 +6,22 @@ use Rattle.std.proofs.lemmas.Grind.{flat_map-append}
 use Rattle.std.proofs.lemmas.List.Concat.{flat_map-cons}
 use Rattle.event_tree.specs.Events.{Ev}
 use Rattle.event_tree.specs.declared.lists.DeadPart.{DeadPart}
-use Rattle.pipeline_bus.specs.Ends.{InOrder}
+use Rattle.pipeline_bus.specs.Ends.{Sending, InOrder}
 use Rattle.pipeline_bus.specs.Parcels.{is_last, filled, number_behind, numbered}
-use Rattle.pipeline_bus.specs.declared.parcel.Heard.TheVariants.{Assured}
 use Rattle.pipeline_bus.specs.declared.parcel.Parcel.{Parcel}
 use Rattle.event_flow.specs.Meaning.{Makes, Due}
 use Rattle.event_flow.specs.Meaning as due
 use Rattle.queue_laws.specs.Found.{Found}
+use Rattle.history_laws.specs.Deeds.{DeedOf, deeds_by, told_by, mail_of}
 use Rattle.history_laws.specs.Entries.{Entry, ParcelAt, Accept, Mark, Assure, Read, Back, Shed, Deliver, Letters, Ack, Purge, Adopt, Opened}
 use Rattle.history_laws.specs.Legal.{Legal, Fits}
-use Rattle.history_laws.specs.Links.{Listening, Link, IsPart, row_of, rows_of, is_same, IsMadeOf, AreMadeOf, AreSettled, EachStands, StandsThere, AssuredArrived, ArrivalsWereDue}
+use Rattle.history_laws.specs.Links.{Listening, Link, IsPart, row_of, rows_of, is_same, IsMadeOf, AreMadeOf, AreSettled, assured, sending_on, IsSentBy, IsSentFrom, LinkSound, EachStands, StandsThere, AssuredArrived, ArrivalsWereDue}
 use Rattle.history_laws.specs.Lists.{IsIn}
 use Rattle.history_laws.specs.States.{Plan, Written, State, start, newest, reads, left_of, out_of, tells_letters, written, next, after}
 use Rattle.history_laws.specs.Steps.{Step, NoOpening, one_more, steps}
 use Rattle.history_laws.proofs.Histories.{settled_stays, settled_stand}
 use Rattle.history_laws.proofs.Lists.{in_front, in_behind, in_either}
+use Rattle.history_laws.proofs.Mailing.{mail_numbered, was_sent}
 use Rattle.history_laws.proofs.Numbers.{and_first, and_second}
 
 -- ---- parcels with events have numbers of their own
@@ -157,9 +158,13 @@ module _ (makes : Makes) where
 
 -- ---- deliveries
 
+-- what a link between pipelines has
+sent_by : (makes : Makes) (listening : Listening) (done : List DeedOf) (l : Link) (k : ℕ) → l.from ≡ Some k → LinkSound makes listening done l → IsSentBy makes listening done k l
+sent_by makes listening done l k from sound = subst (IsSentFrom makes listening done l) from sound.sender
+
 -- a parcel that was taken was sent
-taken_sent : (l : Link) → InOrder l.sends l.takes → IsPart l.taken l.takes.taken → (p : Parcel) → IsIn p l.taken → IsIn p l.sends.sent
-taken_sent l order part p i =
+taken_sent : (sends : Sending) (l : Link) → InOrder sends l.takes → IsPart l.taken l.takes.taken → (p : Parcel) → IsIn p l.taken → IsIn p sends.sent
+taken_sent sends l order part p i =
     let here = subst (IsIn p) (sym part.2) (in_front p (part.0 ++ l.taken) part.1 (in_behind p part.0 l.taken i)) in
     subst (IsIn p) (sym order.parcels) (in_front p (l.takes.taken ++ l.takes.room) order.on_the_way (in_front p l.takes.taken l.takes.room here))
 
@@ -175,12 +180,15 @@ each_stands makes told more found legal fits (w ∷ rows) are settled = (
 )
 
 pub assured_arrived : AssuredArrived
-assured_arrived makes listening sends takes l number events sound assured more found legal fits =
+assured_arrived makes listening done l k number events legal_deeds from sound was more found legal fits =
+    let takes = told_by l.to done in
     let taker = sound.taker in
-    let settled = taker.answers (record { number = number; answer = Assured }) assured.given in
-    let was_sent = taken_sent l sound.order sound.taken settled.parcel settled.is_taken in
-    let same = numbered_same l.sends.sent sound.sender.in_turn assured.parcel settled.parcel assured.sent was_sent settled.some (assured.number_is ∙ sym settled.number_is) in
-    let is : settled.parcel.events ≡ events = ap (λ (p : Parcel). p.events) (sym same) ∙ assured.events_are in
+    let settled = taker.answers (assured number) was.given in
+    let sends = sending_on l.address (mail_of k done) in
+    let was_sent = taken_sent sends l (sent_by makes listening done l k from sound).order sound.taken settled.parcel settled.is_taken in
+    let numbers = mail_numbered makes (deeds_by k done) legal_deeds l.address in
+    let same = numbered_same sends.sent numbers was.parcel settled.parcel was.sent was_sent settled.some (was.number_is ∙ sym settled.number_is) in
+    let is : settled.parcel.events ≡ events = ap (λ (p : Parcel). p.events) (sym same) ∙ was.events_are in
     let at : ParcelAt = record { place = l.place; number = number } in
     let rows = rows_of makes at takes in
     record {
@@ -205,8 +213,17 @@ some_of x [] i e = i
 some_of x (y ∷ ys) i e = cc
 
 pub arrivals_were_due : ArrivalsWereDue
-arrivals_were_due makes listening sends takes l number w sound i =
+arrivals_were_due makes listening done l k number w legal_deeds from sound i =
+    let takes = told_by l.to done in
     let rows_at = (λ (n : ℕ). rows_of makes (record { place = l.place; number = n }) takes) in
     let known = sound.taker.known number (some_of w (rows_at number) i) in
-    let from = made_of listening l.address (rows_at known.0.number) known.0.events (sound.taker.made known.0 known.1 known.3) w (subst (λ n. IsIn w (rows_at n)) (sym known.2) i) in
-    record { events = known.0.events; due = (sound.sender.due known.0 (taken_sent l sound.order sound.taken known.0 known.1) known.3).1; event = from.0; has = from.1; made = from.2 }
+    let made = made_of listening l.address (rows_at known.0.number) known.0.events (sound.taker.made known.0 known.1 known.3) w (subst (λ n. IsIn w (rows_at n)) (sym known.2) i) in
+    let sent = taken_sent (sending_on l.address (mail_of k done)) l (sent_by makes listening done l k from sound).order sound.taken known.0 known.1 in
+    let was = was_sent makes l.address known.0 known.3 (deeds_by k done) legal_deeds sent in
+    record {
+      events = known.0.events;
+      sent = record { before = was.before; parcel = known.0; rest = was.rest; parts = was.parts; unopened = was.unopened; events_are = refl; next = was.next };
+      event = made.0;
+      has = made.1;
+      made = made.2;
+    }

@@ -96,8 +96,8 @@ acknowledged_below number end (p ∷ tails) top rising =
     )
 
 pub accepted_is_written : (makes : Makes) → AcceptedIsWritten makes
-accepted_is_written makes told q row input parcel event legal running is queue number event_is names = (
-  (running, omega (arith, number, is.low), omega (arith, number, is.high)),
+accepted_is_written makes told q row input parcel event legal running comes is queue number event_is names = (
+  (running, omega (arith, number, is.low), omega (arith, number, is.high), comes),
   record {
     is = queue;
     known = λ r i. ⊎_elim

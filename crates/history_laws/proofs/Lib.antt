@@ -11,6 +11,7 @@ pub mod Rejections
 pub mod Steps
 pub mod Giving
 pub mod Standing
+pub mod Mailing
 pub mod Arriving
 pub mod Reaching
 pub mod Holding

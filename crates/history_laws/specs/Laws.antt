@@ -4,7 +4,6 @@ use Rattle.event_tree.specs.Events.{Ev}
 use Rattle.event_tree.specs.declared.lists.DeadPart.{DeadPart}
 use Rattle.settings_lines.specs.declared.settings.Policy.{Policy}
 use Rattle.foreign_parts.specs.declared.filter.Verdict.{Verdict}
-use Rattle.foreign_parts.specs.Delivering.{taken}
 use Rattle.foreign_parts.specs.declared.output.Fate.{Fate}
 use Rattle.foreign_parts.specs.declared.place.Place.{Place}
 use Rattle.foreign_parts.specs.declared.place.Place.TheVariants as place
@@ -18,7 +17,6 @@ use Rattle.history_laws.specs.Entries.{Entry, Accept, Mark, Assure, Read, Back, 
 use Rattle.history_laws.specs.Legal.{rejections, Legal_at, Legal, Fits, IsFound}
 use Rattle.history_laws.specs.Lists.{IsIn}
 use Rattle.history_laws.specs.States.{Plan, Written, Out, Limits, State, start, out_of, unread, due_of, next, after}
-use Rattle.history_laws.specs.Steps.{NoOpening, printed, given}
 
 -- what was told up to any step is legal too
 abbrev pub PrefixesAreLegal : Type 0
@@ -165,14 +163,3 @@ RejectionsWereAppended =
     (makes : Makes) (bytes : Bytes) (base content : Held) (told : List Entry) (plan : Plan) (id : List ℕ) (at : Place) (events : List Ev) → Legal makes start told
     → DeadHolds makes bytes start base told content → (w : WasTold makes start told plan (due.Events id at events))
     → (rejections plan.config id (fates_of w.entry) events ≡ []) ⊎ WereAppended (limits_in told) base content (rejections plan.config id (fates_of w.entry) events)
-
--- What was told of stdout and of a box since the pipeline was last opened stands in what it was given: the bytes of the events, and the events that the box took.
-abbrev pub RunsGiveToStdout : Type 0
-RunsGiveToStdout =
-    (makes : Makes) (bytes : Bytes) (told : List Entry) (plan : Plan) (id : List ℕ) (events : List Ev) → (w : WasTold makes start told plan (due.Events id place.Stdout events)) → NoOpening w.rest
-    → (front : List ℕ) × (back : List ℕ) × (printed makes bytes told ≡ front ++ bytes plan.config id events ++ back)
-
-abbrev pub RunsGiveToBoxes : Type 0
-RunsGiveToBoxes =
-    (makes : Makes) (number : ℕ) (told : List Entry) (plan : Plan) (id : List ℕ) (events : List Ev) → (w : WasTold makes start told plan (due.Events id (place.Foreign number) events))
-    → NoOpening w.rest → (front : List Ev) × (back : List Ev) × (given makes number told ≡ front ++ taken (fates_of w.entry) events ++ back)

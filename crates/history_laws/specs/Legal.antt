@@ -1,5 +1,5 @@
 -- Which histories of a pipeline are legal.
-use Rattle.std.specs.Prelude.{◌≡◌, ◌≢◌, ◌⊎◌, ◌≤◌, ◌<◌, ℕ, ◌+◌, List, [], ◌∷◌, ◌++◌, length, Option, Some, None, bytes_eq, codes, if◌then◌else◌, ⊤}
+use Rattle.std.specs.Prelude.{◌≡◌, ◌≢◌, ◌⊎◌, ◌≤◌, ◌<◌, ℕ, ◌+◌, ◌^◌, true, List, [], ◌∷◌, ◌++◌, length, Option, Some, None, bytes_eq, codes, if◌then◌else◌, ⊤}
 use Rattle.std.specs.Fmt.{decimal}
 use Rattle.event_tree.specs.Events.{Ev}
 use Rattle.event_tree.specs.declared.lists.DeadPart.{DeadPart}
@@ -21,8 +21,8 @@ use Rattle.event_flow.specs.Meaning as due
 use Rattle.event_flow.specs.Parts.{parts_of}
 use Rattle.queue_laws.specs.Found.{Row, Found}
 use Rattle.dead_letters.specs.Appends.{kept_from}
-use Rattle.history_laws.specs.Entries.{Entry, Accept, Mark, Assure, Read, Back, Shed, Deliver, Letters, Ack, Purge, Adopt, Opened}
-use Rattle.history_laws.specs.Inputs.{HasId}
+use Rattle.history_laws.specs.Entries.{Entry, ParcelAt, Accept, Mark, Assure, Read, Back, Shed, Deliver, Letters, Ack, Purge, Adopt, Opened}
+use Rattle.history_laws.specs.Inputs.{Input, IsInput, HasId}
 use Rattle.history_laws.specs.Lists.{IsIn, Rise, AreBelow}
 use Rattle.history_laws.specs.States.{Plan, Written, Out, Between, Nothing, Shed_of, Rejecting, Limits, State, newest, unread, numbers_of, events_of, out_of, next, top_of, numbers_found}
 
@@ -81,16 +81,33 @@ rejections config id (x ∷ fates) [] = []
 rejections config id (f.Took ∷ fates) (e ∷ es) = rejections config id fates es
 rejections config id (f.Rejected status text ∷ fates) (e ∷ es) = rejected config id status text e ∷ rejections config id fates es
 
+-- a status has 16 bits, and a text at most 65,536 bytes
+pub record MayReject (status : ℕ) (text : List ℕ) : Type 0 where
+  pub status_fits : status < 2 ^ 16
+  pub text_fits : length text ≤ 65536
+
+-- the letter is that of the event, rejected with a status
+pub record IsRejection (config : Config) (id : List ℕ) (letter : DeadPart) (e : Ev) : Type 0 where
+  pub status : ℕ
+  pub text : List ℕ
+  pub may : MayReject status text
+  pub is : letter ≡ rejected config id status text e
+
 -- these are letters of some of the events, in their order, each rejected with a status
 abbrev pub AreRejections : Config → List ℕ → List DeadPart → List Ev → Type 0
 AreRejections config id [] es = ⊤
 AreRejections config id (l ∷ ls) [] = ⊥
-AreRejections config id (l ∷ ls) (e ∷ es) =
-    (((status : ℕ) × (text : List ℕ) × (l ≡ rejected config id status text e)) × AreRejections config id ls es) ⊎ AreRejections config id (l ∷ ls) es
+AreRejections config id (l ∷ ls) (e ∷ es) = (IsRejection config id l e × AreRejections config id ls es) ⊎ AreRejections config id (l ∷ ls) es
+
+-- each rejected event has such a status
+abbrev pub AreStatuses : List Fate → Type 0
+AreStatuses [] = ⊤
+AreStatuses (f.Took ∷ fates) = AreStatuses fates
+AreStatuses (f.Rejected status text ∷ fates) = (status < 2 ^ 16) × AreStatuses fates
 
 -- at a box each event has its fate, and elsewhere none has one
 abbrev pub FatesFit : Place → List Fate → List Ev → Type 0
-FatesFit (place.Foreign number) fates es = AreFates fates es
+FatesFit (place.Foreign number) fates es = AreFates fates es × AreStatuses fates
 FatesFit place.Stdout fates es = fates ≡ []
 FatesFit (place.File path) fates es = fates ≡ []
 FatesFit (place.Address address) fates es = fates ≡ []
@@ -182,6 +199,12 @@ pub record IsRunning (s : State) : Type 0 where
   pub newest : newest s.plans ≡ Some plan
   pub between : s.between ≡ Nothing
 
+-- An event comes by an input of these configurations: one that the newest has, or that ends a parcel which it took.
+pub record MayCome (plans : List Plan) (number : ℕ) (parcel : Option ParcelAt) : Type 0 where
+  pub input : Input
+  pub is_input : IsInput plans number input
+  pub is_open : (input.is_open ≡ true) ⊎ (parcel ≢ None)
+
 -- The batch has a new number, goes by the newest configuration, and has the first of the rows that are unread.
 pub record MayRead (s : State) (batch generation : ℕ) (numbers : List ℕ) : Type 0 where
   pub running : IsRunning s
@@ -213,7 +236,7 @@ module _ (makes : Makes) where
 
   -- the entry is legal where the pipeline stands so
   abbrev pub Legal_at : State → Entry → Type 0
-  Legal_at s (Accept input parcel number event) = IsRunning s × (s.low ≤ number) × (number ≤ s.high)
+  Legal_at s (Accept input parcel number event) = IsRunning s × (s.low ≤ number) × (number ≤ s.high) × MayCome s.plans input parcel
   Legal_at s (Mark front) = IsRunning s × (s.low ≤ front + 1) × (front + 1 ≤ s.high)
   Legal_at s (Assure input front) = IsRunning s × (front ≡ s.front)
   Legal_at s (Read batch generation numbers) = MayRead s batch generation numbers

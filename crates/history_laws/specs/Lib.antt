@@ -6,6 +6,8 @@ pub mod Legal
 pub mod Contents
 pub mod Steps
 pub mod Laws
+pub mod Deeds
+pub mod Givings
 pub mod Links
 pub mod Yards
 pub mod Queues

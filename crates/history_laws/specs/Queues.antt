@@ -9,7 +9,7 @@ use Rattle.queue_laws.specs.Found.{Row, Found}
 use Rattle.queue_laws.specs.Kept.{Page, Queue, all_rows, Kept, IsQueue}
 use Rattle.queue_laws.specs.Steps.{marked, with_row, rolled, CanRoll, IsSpent, with_tails}
 use Rattle.history_laws.specs.Entries.{Entry, ParcelAt, Accept, Mark, Read, Ack, Purge, Opened}
-use Rattle.history_laws.specs.Legal.{Names, IsFound, IsRowOf, IsRunning, Fits, Legal_at, Legal}
+use Rattle.history_laws.specs.Legal.{Names, IsFound, IsRowOf, IsRunning, MayCome, Fits, Legal_at, Legal}
 use Rattle.history_laws.specs.Lists.{IsIn}
 use Rattle.history_laws.specs.States.{Written, State, start, unread, numbers_found, numbers_out, out_of, written, next, after}
 
@@ -85,7 +85,7 @@ module _ (makes : Makes) where
   abbrev pub AcceptedIsWritten : Type 0
   AcceptedIsWritten =
       (told : List Entry) (q : Queue) (row : PageRow) (input : ℕ) (parcel : Option ParcelAt) (event : Ev) → Legal makes start told → IsRunning (after makes start told)
-      → IsQueueAt (after makes start told) q → IsQueue (with_row row q) → row.number ≡ next_in q → row.event ≡ event → Names row.origin (written (after makes start told) input row.number event)
+      → MayCome (after makes start told).plans input parcel → IsQueueAt (after makes start told) q → IsQueue (with_row row q) → row.number ≡ next_in q → row.event ≡ event → Names row.origin (written (after makes start told) input row.number event)
       → Legal_at makes (after makes start told) (Accept input parcel row.number event)
       × IsQueueAt (next makes (after makes start told) (Accept input parcel row.number event)) (with_row row q)
 

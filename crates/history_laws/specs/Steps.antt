@@ -1,4 +1,4 @@
--- What was told since a pipeline was last opened, and what it gave to stdout, boxes and addresses then.
+-- What was told since a pipeline was last opened, and what that alone gave to stdout, boxes and addresses.
 use Rattle.std.specs.Prelude.{ℕ, List, [], ◌∷◌, ◌++◌, Bool, false, bytes_eq, flat_map, if◌then◌else◌, ⊤}
 use Rattle.event_tree.specs.Events.{Ev}
 use Rattle.foreign_parts.specs.Delivering.{taken}
@@ -58,7 +58,7 @@ module _ (makes : Makes) where
   abbrev pub steps_of : List Entry → List Step
   steps_of told = steps start [] told
 
-  -- what was given to stdout then, and the events that a box took
+  -- what this pipeline gave to stdout then, and the events that a box took of it
   abbrev pub printed : Bytes → List Entry → List ℕ
   printed bytes told = flat_map (λ step. printed_in bytes step.before step.entry) (steps_of told)
 

@@ -1,7 +1,9 @@
 //! What holds of histories. Each function here does nothing: its clauses are theorems.
 ghost use Rattle.history_laws.specs.Contents.{Bytes};
 ghost use Rattle.history_laws.specs.Holdings.{LeftIsSound, FollowingStands, OpeningStands};
-ghost use Rattle.history_laws.specs.Laws.{PrefixesAreLegal, AcknowledgedWereDelivered, SettledStand, AssuredStand, OpeningsFit, FoundAreUnread, DeliveriesWereTold, FilesHoldDeliveries, LettersWereAppended, RejectionsWereAppended, RunsGiveToStdout, RunsGiveToBoxes};
+ghost use Rattle.history_laws.specs.Laws.{PrefixesAreLegal, AcknowledgedWereDelivered, SettledStand, AssuredStand, OpeningsFit, FoundAreUnread, DeliveriesWereTold, FilesHoldDeliveries, LettersWereAppended, RejectionsWereAppended};
+ghost use Rattle.history_laws.specs.Deeds.{LegalDeedsTell, FrontsOfDeedsAreLegal, DeliveriesAreAnswered};
+ghost use Rattle.history_laws.specs.Givings.{ToldWereDone, RunsGiveToStdout, RunsGiveToBoxes};
 ghost use Rattle.history_laws.specs.Links.{AssuredArrived, ArrivalsWereDue};
 ghost use Rattle.event_flow.specs.Meaning.{Makes};
 ghost use Rattle.history_laws.specs.Queues.{KeptFits, AcceptedIsWritten, MarkedIsSettled, RolledIsOf, AcknowledgedIsOf, PurgedIsOf, OpenedIsOf, OthersLeaveIt, AcceptedComesLast, FirstAreRead, FoundComeNext, OthersLeaveUnread};
@@ -49,8 +51,19 @@ pub fn letters_were_appended()
     ensures rejected { RejectionsWereAppended }
 {}
 
-/// What was told of stdout or of a box, and no opening came behind it, stands in what it was given.
+/// What a pipeline did, entries with parcels that it sent and answers that it heard, tells a legal history where it
+/// is legal, and each front of it is legal. Behind each delivery to an address that was told since the pipeline was
+/// opened an answer was heard that a parcel of exactly these events is assured.
+pub fn deliveries_are_answered()
+    ensures told { LegalDeedsTell }
+    ensures fronts { FrontsOfDeedsAreLegal }
+    ensures answered { DeliveriesAreAnswered }
+{}
+
+/// Of all pipelines of a run: what one told was told at a moment of the run; and what was told of stdout or of a
+/// box, where none was opened behind it, stands in what it was given.
 pub fn runs_give_what_was_told()
+    ensures told { ToldWereDone }
     ensures printed { RunsGiveToStdout }
     ensures given { RunsGiveToBoxes }
 {}
@@ -64,7 +77,7 @@ pub fn acknowledged_events_stand()
 
 /// Events of which the pipeline that sent them heard that they stand with the listener arrived there: each of
 /// them is still in its queue, or all was told there that is due of it. And nothing else arrives from a parcel
-/// than what was due to its address.
+/// than what was due to its address when it was sent.
 pub fn assured_parcels_arrived()
     ensures arrived { AssuredArrived }
     ensures due { ArrivalsWereDue }

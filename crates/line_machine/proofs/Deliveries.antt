@@ -3,7 +3,6 @@ use Rattle.std.proofs.Common.{◌≡◌, ◌≢◌, ◌⊎◌, inl, inr, ℕ, ze
 use Rattle.std.proofs.lemmas.Option.{same_Some}
 use Rattle.event_tree.specs.Events.{Ev}
 use Rattle.event_tree.specs.declared.lists.DeadPart.{DeadPart}
-use Rattle.foreign_parts.specs.Delivering.{AreFates}
 use Rattle.foreign_parts.specs.declared.output.Fate.{Fate}
 use Rattle.foreign_parts.specs.declared.place.Place.{Place}
 use Rattle.foreign_parts.specs.declared.place.Place.TheVariants as place
@@ -224,7 +223,7 @@ module _ (makes : Makes) (listening : Listening) (bytes : Bytes) (places : Place
 
   -- ---- a box rejects events
 
-  module _ (n : ℕ) (id : List ℕ) (number : ℕ) (events : List Ev) (rest : List Due) (h : IsHome i n (due.Events id (place.Foreign number) events ∷ rest)) (fates : List Fate) (fit : AreFates fates events)
+  module _ (n : ℕ) (id : List ℕ) (number : ℕ) (events : List Ev) (rest : List Due) (h : IsHome i n (due.Events id (place.Foreign number) events ∷ rest)) (fates : List Fate) (fit : FatesFit (place.Foreign number) fates events)
       (some_rejected : rejections h.batch.plan.config id fates events ≢ []) (new : Held) where
     abbrev left : List Due
     left = due.Events id (place.Foreign number) events ∷ rest
@@ -253,7 +252,7 @@ module _ (makes : Makes) (listening : Listening) (bytes : Bytes) (places : Place
       letters_then = ap (tells_letters (between_with b) n letters) (left_there n left h) ∙ ap rejecting_with b_shed
 
       legal_letters : Legal_at makes (between_with b) (Letters n letters)
-      legal_letters = next_letters b n left h shed.newer letters is_shed (parts, rejections_are h.batch.plan.config id fates events, some_rejected, below, refl)
+      legal_letters = next_letters b n left h shed.newer letters is_shed (parts, rejections_are h.batch.plan.config id fates events fit.0 fit.1, some_rejected, below, refl)
 
       legal_then : Legal_at makes (rejecting_with shed) delivery
       legal_then =

@@ -8,6 +8,7 @@ use Rattle.event_tree.specs.declared.lists.DeadPart.{DeadPart}
 use Rattle.config_tree.specs.declared.tree.Config.{Config}
 use Rattle.settings_lines.specs.declared.settings.Policy.{Policy}
 use Rattle.settings_lines.specs.declared.settings.Policy.TheVariants.{Hold, DropNewer, DropOlder}
+use Rattle.foreign_parts.specs.Delivering.{AreFates}
 use Rattle.foreign_parts.specs.declared.output.Fate.{Fate}
 use Rattle.foreign_parts.specs.declared.output.Fate.TheVariants as f
 use Rattle.dead_letters.specs.Found.{Held}
@@ -15,7 +16,7 @@ use Rattle.dead_letters.specs.Shedding.{shedding, older, not_kept, shed}
 use Rattle.dead_letters.specs.declared.shedding.Shedding.{Shedding}
 use Rattle.dead_letters.proofs.Sheds.{sheds_none, sheds}
 use Rattle.history_laws.specs.Contents.{Appended, part_of}
-use Rattle.history_laws.specs.Legal.{rejections, AreRejections, MayShedBy}
+use Rattle.history_laws.specs.Legal.{rejections, AreRejections, AreStatuses, MayShedBy}
 use Rattle.history_laws.specs.Lists.{Rise, AreBelow}
 use Rattle.history_laws.specs.States.{Limits}
 
@@ -83,15 +84,18 @@ module _ (limits : Limits) (s : Shedding) (parts : List DeadPart) (old new : Hel
 
 -- ---- letters of rejected events
 
-pub rejections_are : (config : Config) (id : List ℕ) (fates : List Fate) (es : List Ev) → AreRejections config id (rejections config id fates es) es
-rejections_are config id [] es = tt
-rejections_are config id (x ∷ fates) [] = tt
-rejections_are config id (f.Took ∷ fates) (e ∷ es) = later (rejections config id fates es) (rejections_are config id fates es)
+pub rejections_are : (config : Config) (id : List ℕ) (fates : List Fate) (es : List Ev) → AreFates fates es → AreStatuses fates → AreRejections config id (rejections config id fates es) es
+rejections_are config id [] es fates_are statuses = tt
+rejections_are config id (x ∷ fates) [] fates_are statuses = tt
+rejections_are config id (f.Took ∷ fates) (e ∷ es) fates_are statuses = later (rejections config id fates es) (rejections_are config id fates es fates_are statuses)
   where
     later : (ls : List DeadPart) → AreRejections config id ls es → AreRejections config id ls (e ∷ es)
     later [] are = tt
     later (l ∷ ls) are = inr are
-rejections_are config id (f.Rejected status text ∷ fates) (e ∷ es) = inl ((status, text, refl), rejections_are config id fates es)
+rejections_are config id (f.Rejected status text ∷ fates) (e ∷ es) fates_are statuses = inl (
+  record { status = status; text = text; may = record { status_fits = statuses.0; text_fits = fates_are.0 }; is = refl },
+  rejections_are config id fates es fates_are.1 statuses.1,
+)
 
 pub rejections_few : (config : Config) (id : List ℕ) (fates : List Fate) (es : List Ev) → length (rejections config id fates es) ≤ length es
 rejections_few config id [] es = omega arith

@@ -10,7 +10,7 @@ use Rattle.event_flow.specs.Meaning as due
 use Rattle.queue_laws.specs.Kept.{Queue}
 use Rattle.queue_laws.specs.Steps.{marked}
 use Rattle.history_laws.specs.Contents.{Bytes, bytes_at, is_file}
-use Rattle.history_laws.specs.Entries.{Entry, Read, Back}
+use Rattle.history_laws.specs.Entries.{Entry, ParcelAt, Read, Back}
 use Rattle.history_laws.specs.Holdings.{HoldsTold}
 use Rattle.history_laws.specs.Inputs.{AreInputs}
 use Rattle.history_laws.specs.Legal.{rejections, FatesFit}
@@ -196,22 +196,25 @@ module _ (makes : Makes) (listening : Listening) (bytes : Bytes) (places : Place
   plain_fits (place.Foreign number) events plain = absurd plain
   plain_fits place.Dead events plain = absurd plain
 
+  some_none : (at : ParcelAt) → Some at ≡ None → ⊥
+  some_none at e = cc
+
   follow : (x : Step makes listening bytes i) → FollowsAs makes bytes places told i (effect makes listening bytes i x) (GoesOn makes listening bytes i x)
   follow (m.Accepts n c r) =
       told_well (accepting_line listening i n c r) _
-      (t.accepts makes listening bytes places told i stands c.by.input c.event r n c.by.has None (change_input (held_now c.rest) n i.inputs)
+      (t.accepts makes listening bytes places told i stands c.by.input c.event r n c.by.has None (inl c.is_open) (change_input (held_now c.rest) n i.inputs)
       (inputs_same (held_now c.rest) (λ v. refl) n i.inputs) i.takers) refl (t.ways_at makes listening bytes places told i stands c.by.input c.event r)
   follow (m.Accepts_in_doubt n c r) =
       arrives makes bytes places told i (in_doubt i (accepting_line listening i n c r)) ⊥ stands.holds
-      (t.accepts makes listening bytes places told i stands c.by.input c.event r n c.by.has None (change_input (held_now c.rest) n i.inputs)
+      (t.accepts makes listening bytes places told i stands c.by.input c.event r n c.by.has None (inl c.is_open) (change_input (held_now c.rest) n i.inputs)
       (inputs_same (held_now c.rest) (λ v. refl) n i.inputs) i.takers).holds (t.ways_at makes listening bytes places told i stands c.by.input c.event r) (λ never. absurd never)
   follow (m.Accepts_parcel n a r) =
       told_well (accepting_parcel listening i n a r) _
-      (t.accepts makes listening bytes places told i stands a.by.input a.event r n a.by.has (Some a.at) i.inputs refl (change_taker (row_made a.at.number r.row.number) a.at.place a.takers)) refl
+      (t.accepts makes listening bytes places told i stands a.by.input a.event r n a.by.has (Some a.at) (inr (some_none a.at)) i.inputs refl (change_taker (row_made a.at.number r.row.number) a.at.place a.takers)) refl
       (t.ways_at makes listening bytes places told i stands a.by.input a.event r)
   follow (m.Accepts_parcel_in_doubt n a r) =
       arrives makes bytes places told i (in_doubt i (accepting_parcel listening i n a r)) ⊥ stands.holds
-      (t.accepts makes listening bytes places told i stands a.by.input a.event r n a.by.has (Some a.at) i.inputs refl (change_taker (row_made a.at.number r.row.number) a.at.place a.takers)).holds
+      (t.accepts makes listening bytes places told i stands a.by.input a.event r n a.by.has (Some a.at) (inr (some_none a.at)) i.inputs refl (change_taker (row_made a.at.number r.row.number) a.at.place a.takers)).holds
       (t.ways_at makes listening bytes places told i stands a.by.input a.event r) (λ never. absurd never)
   follow (m.Takes_alone n h address listens taken takers takes) = same_but_ends takers
   follow (m.Has_no_room n c) = with_more n c.by c.came _

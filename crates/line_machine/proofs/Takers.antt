@@ -166,7 +166,7 @@ module _ (makes : Makes) (listening : Listening) where
         whole = ap length (same number) ∙ was.whole;
         settled = subst (AreSettled (after makes start now).front) (sym (same number)) (settled_up (after makes start told).front (after makes start now).front less (rows_at makes listening told t number) was.settled);
       }
-      answer_still number NotListening was = same number ∙ was
+      answer_still number NotListening was = (was.0, same number ∙ was.1)
 
   module _ (told : List Entry) (t : TakerView) (is : TakerStands makes listening told t) where
     -- none is made yet of a parcel that comes next
@@ -193,8 +193,8 @@ module _ (makes : Makes) (listening : Listening) where
       none_of : (q : Parcel) → q ≡ p → is_last q ≡ false → rows_at makes listening told t q.number ≡ []
       none_of q e some = ap (rows_at makes listening told t) (number_of q e some) ∙ none_yet
 
-      answer_with : (number : ℕ) (h : Heard) → MayAnswer makes listening told (own_link t) number h → MayAnswer makes listening told (own_link (took p t)) number h
-      answer_with number Assured was = record {
+      answer_with : (number : ℕ) (h : Heard) → number < t.next → MayAnswer makes listening told (own_link t) number h → MayAnswer makes listening told (own_link (took p t)) number h
+      answer_with number Assured less was = record {
         parcel = was.parcel;
         is_taken = in_front was.parcel t.taken (p ∷ []) was.is_taken;
         number_is = was.number_is;
@@ -202,14 +202,18 @@ module _ (makes : Makes) (listening : Listening) where
         whole = was.whole;
         settled = was.settled;
       }
-      answer_with number NotListening was = was
+      answer_with number NotListening less was = (
+        λ q has some same. ⊎_elim (λ (i : IsIn q t.taken). was.0 q i some same)
+            (λ (e : q ≡ p). let one = number_of q e some in let below : q.number < t.next = subst (λ n. n < t.next) (sym same) less in omega (arith, one, below)) (either q has),
+        was.1,
+      )
 
       sound_with : TakerSound makes listening told (own_link (took p t))
       sound_with = record {
         made = λ q has some. ⊎_elim (λ (i : IsIn q t.taken). is.sound.made q i some)
             (λ (e : q ≡ p). subst (λ ws. AreMadeOf listening t.address ws q.events) (sym (none_of q e some)) tt) (either q has);
         known = λ number some. let was = is.sound.known number some in (was.0, in_front was.0 t.taken (p ∷ []) was.1, was.2, was.3);
-        answers = λ a has. answer_with a.number a.answer (is.sound.answers a has);
+        answers = λ a has. answer_with a.number a.answer (is.given_next a has) (is.sound.answers a has);
       }
 
       waiting_still : (w : Waiting) → IsWaiting makes listening told t w → IsWaiting makes listening told (took p t) w
@@ -401,7 +405,8 @@ module _ (makes : Makes) (listening : Listening) where
           made = is.sound.made;
           known = is.sound.known;
           answers = λ a has. ⊎_elim (λ (i : IsIn a t.given). kept_answer a.number a.answer (is.sound.answers a i))
-              (λ (e : a ≡ refusal). subst (λ (x : Answer). MayAnswer makes listening told (own_link (refused t)) x.number x.answer) (sym e) none_yet) (either_refusal a has);
+              (λ (e : a ≡ refusal). subst (λ (x : Answer). MayAnswer makes listening told (own_link (refused t)) x.number x.answer) (sym e)
+              (λ q taken some same. let less = is.taken_next q taken some in omega (arith, less, same), none_yet)) (either_refusal a has);
         };
         waits = λ w has. absurd (no_waiting w has);
         rise = is.rise;
@@ -483,7 +488,7 @@ module _ (makes : Makes) (listening : Listening) where
         where
           apart : number ≡ at.number → ⊥
           apart same = let one = its.1 in omega (arith, less, same, one)
-      answer_now number NotListening less a = rows_there number apart ∙ a
+      answer_now number NotListening less a = (a.0, rows_there number apart ∙ a.1)
         where
           apart : number ≡ at.number → ⊥
           apart same = let one = its.1 in omega (arith, less, same, one)

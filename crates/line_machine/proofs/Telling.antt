@@ -1,5 +1,5 @@
 -- A line stands where its history does behind each entry that delivers nothing.
-use Rattle.std.proofs.Common.{◌≡◌, ◌≢◌, inl, inr, ⊎_elim, ℕ, suc, ◌<◌, ◌+◌, List, [], ◌∷◌, ◌++◌, length, take, Option, Some, None, refl, sym, ap, ap₂, ◌∙◌, subst, arith, append_assoc}
+use Rattle.std.proofs.Common.{◌≡◌, ◌≢◌, ◌⊎◌, inl, inr, ⊎_elim, ℕ, suc, ◌<◌, ◌+◌, true, List, [], ◌∷◌, ◌++◌, length, take, Option, Some, None, refl, sym, ap, ap₂, ◌∙◌, subst, arith, append_assoc}
 use Rattle.std.proofs.lemmas.Option.{same_Some}
 use Rattle.event_tree.specs.Events.{Ev}
 use Rattle.config_tree.specs.declared.tree.Config.{Config}
@@ -58,7 +58,7 @@ module _ (makes : Makes) (listening : Listening) (bytes : Bytes) (places : Place
         of_rolls rolls (inr (inl e)) = subst (IsQueueAt s) (sym e) room_at
         of_rolls rolls (inr (inr never)) = absurd never
 
-    module _ (n : ℕ) (has : input_at n i.inputs ≡ Some v) (parcel : Option ParcelAt) (inputs : List InputView) (same : inputs_of inputs ≡ inputs_of i.inputs) (takers : List TakerView) where
+    module _ (n : ℕ) (has : input_at n i.inputs ≡ Some v) (parcel : Option ParcelAt) (comes : (v.is_open ≡ true) ⊎ (parcel ≢ None)) (inputs : List InputView) (same : inputs_of inputs ≡ inputs_of i.inputs) (takers : List TakerView) where
       abbrev entry : Entry
       entry = Accept n parcel r.row.number r.row.event
 
@@ -68,7 +68,8 @@ module _ (makes : Makes) (listening : Listening) (bytes : Bytes) (places : Place
           (input_of v, is_input n v s.plans i.inputs stands.knows.inputs has, refl)
 
       accepted : Legal_at makes s entry × IsQueueAt (next makes s entry) (with_row r.row r.before)
-      accepted = accepted_is_written makes told r.before r.row n parcel r.row.event stands.holds.legal running room_at r.is r.number refl names
+      accepted = accepted_is_written makes told r.before r.row n parcel r.row.event stands.holds.legal running
+          (record { input = input_of v; is_input = is_input n v s.plans i.inputs stands.knows.inputs has; is_open = comes }) room_at r.is r.number refl names
 
       abbrev with_it : LineView places
       with_it = with_written i inputs takers r.row r.before

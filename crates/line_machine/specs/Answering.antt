@@ -1,6 +1,6 @@
 -- What a line took from links, and answered, against what it told.
-use Rattle.std.specs.Prelude.{◌≡◌, ◌⊎◌, ◌≤◌, ◌<◌, ℕ, false, List, [], ◌++◌, map}
-use Rattle.pipeline_bus.specs.Ends.{no_sending, no_taking}
+use Rattle.std.specs.Prelude.{◌≡◌, ◌⊎◌, ◌≤◌, ◌<◌, ℕ, false, List, [], ◌++◌, map, None}
+use Rattle.pipeline_bus.specs.Ends.{no_taking}
 use Rattle.pipeline_bus.specs.Parcels.{is_last}
 use Rattle.pipeline_bus.specs.declared.parcel.Answer.{Answer}
 use Rattle.pipeline_bus.specs.declared.parcel.Parcel.{Parcel}
@@ -20,7 +20,7 @@ use Rattle.line_machine.specs.Views.{LineView}
 
 -- the line's own part of a link
 abbrev pub own_link : TakerView → Link
-own_link t = record { from = 0; to = 0; address = t.address; place = t.place; sends = no_sending; takes = no_taking; taken = t.taken; given = t.given }
+own_link t = record { from = None; to = 0; address = t.address; place = t.place; takes = no_taking; taken = t.taken; given = t.given }
 
 module _ (makes : Makes) (listening : Listening) where
   abbrev pub rows_at : List Entry → TakerView → ℕ → List Written

@@ -83,9 +83,10 @@ module _ {places : Places} where
     pub input : InputView
     pub has : input_at n i.inputs ≡ Some input
 
-  -- An input of lines holds an event, with what came in this call: the first is accepted next, unless the line was told to stop.
+  -- An input of lines that is open holds an event, with what came in this call: the first is accepted next, unless the line was told to stop.
   pub record Comes (i : LineView places) (n : ℕ) : Type 0 where
     pub by : HasInput i n
+    pub is_open : by.input.is_open ≡ true
     pub running : i.stopped ≡ false
     pub came : List Ev
     pub event : Ev

@@ -3,7 +3,6 @@
 use Rattle.std.specs.Prelude.{◌≡◌, ◌≢◌, ◌⊎◌, ℕ, Bool, ◌+◌, true, false, List, [], ◌∷◌, ◌++◌, length, Some, None, ⊤}
 use Rattle.event_tree.specs.Events.{Ev}
 use Rattle.event_tree.specs.declared.lists.DeadPart.{DeadPart}
-use Rattle.foreign_parts.specs.Delivering.{AreFates}
 use Rattle.foreign_parts.specs.declared.filter.Verdict.{Verdict}
 use Rattle.foreign_parts.specs.declared.output.Fate.{Fate}
 use Rattle.foreign_parts.specs.declared.place.Place.{Place}
@@ -17,7 +16,7 @@ use Rattle.event_flow.specs.Meaning as due
 use Rattle.queue_laws.specs.Kept.{Page, Queue, IsQueue}
 use Rattle.queue_laws.specs.Steps.{marked, IsSpent}
 use Rattle.history_laws.specs.Contents.{Bytes}
-use Rattle.history_laws.specs.Legal.{rejections}
+use Rattle.history_laws.specs.Legal.{rejections, FatesFit}
 use Rattle.history_laws.specs.Links.{Listening}
 use Rattle.history_laws.specs.Lists.{IsIn}
 use Rattle.history_laws.specs.Queues.{next_in}
@@ -71,9 +70,9 @@ module _ (makes : Makes) (listening : Listening) (bytes : Bytes) {places : Place
     Tells : (n : ℕ) (parts : List DeadPart) (rest : List Due) → IsHome i n (due.Letters parts ∷ rest) → AppendsNow i parts → Step i
     Gives : (n : ℕ) (id : List ℕ) (at : Place) (events : List Ev) (rest : List Due) → IsHome i n (due.Events id at events ∷ rest) → IsPlain at → Step i
     Is_taken : (n : ℕ) (id : List ℕ) (number : ℕ) (events : List Ev) (rest : List Due) (h : IsHome i n (due.Events id (place.Foreign number) events ∷ rest)) (fates : List Fate)
-        → AreFates fates events → rejections h.batch.plan.config id fates events ≡ [] → Step i
+        → FatesFit (place.Foreign number) fates events → rejections h.batch.plan.config id fates events ≡ [] → Step i
     Is_rejected : (n : ℕ) (id : List ℕ) (number : ℕ) (events : List Ev) (rest : List Due) (h : IsHome i n (due.Events id (place.Foreign number) events ∷ rest)) (fates : List Fate)
-        → AreFates fates events → rejections h.batch.plan.config id fates events ≢ [] → AppendsNow i (rejections h.batch.plan.config id fates events) → Step i
+        → FatesFit (place.Foreign number) fates events → rejections h.batch.plan.config id fates events ≢ [] → AppendsNow i (rejections h.batch.plan.config id fates events) → Step i
     Sends : (n : ℕ) (id address : List ℕ) (events : List Ev) (rest : List Due) (h : IsHome i n (due.Events id (place.Address address) events ∷ rest)) → h.batch.parcel ≡ None
         → (p : Parcel) → p.events ≡ events → MaySend address p i.senders → Step i
     Hears : (address : List ℕ) (a : Answer) (s : SenderView) → sender_at address i.senders ≡ Some s → IsInTurn s.sends.heard a → Step i
