@@ -18,3 +18,4 @@ pub mod Holding
 pub mod Following
 pub mod Unread
 pub mod Moments
+pub mod InputLists

@@ -100,10 +100,13 @@ AreRejections config id (l ∷ ls) [] = ⊥
 AreRejections config id (l ∷ ls) (e ∷ es) = (IsRejection config id l e × AreRejections config id ls es) ⊎ AreRejections config id (l ∷ ls) es
 
 -- each rejected event has such a status
+abbrev pub HasStatus : Fate → Type 0
+HasStatus f.Took = ⊤
+HasStatus (f.Rejected status text) = status < 2 ^ 16
+
 abbrev pub AreStatuses : List Fate → Type 0
 AreStatuses [] = ⊤
-AreStatuses (f.Took ∷ fates) = AreStatuses fates
-AreStatuses (f.Rejected status text ∷ fates) = (status < 2 ^ 16) × AreStatuses fates
+AreStatuses (x ∷ fates) = HasStatus x × AreStatuses fates
 
 -- at a box each event has its fate, and elsewhere none has one
 abbrev pub FatesFit : Place → List Fate → List Ev → Type 0

@@ -87,7 +87,7 @@ module _ (limits : Limits) (s : Shedding) (parts : List DeadPart) (old new : Hel
 pub rejections_are : (config : Config) (id : List ℕ) (fates : List Fate) (es : List Ev) → AreFates fates es → AreStatuses fates → AreRejections config id (rejections config id fates es) es
 rejections_are config id [] es fates_are statuses = tt
 rejections_are config id (x ∷ fates) [] fates_are statuses = tt
-rejections_are config id (f.Took ∷ fates) (e ∷ es) fates_are statuses = later (rejections config id fates es) (rejections_are config id fates es fates_are statuses)
+rejections_are config id (f.Took ∷ fates) (e ∷ es) fates_are statuses = later (rejections config id fates es) (rejections_are config id fates es fates_are statuses.1)
   where
     later : (ls : List DeadPart) → AreRejections config id ls es → AreRejections config id ls (e ∷ es)
     later [] are = tt
