@@ -1,8 +1,8 @@
 -- Letters that are kept, and letters and fates of rejected events, one after the other.
-use Rattle.std.proofs.Common.{◌≡◌, ◌↔◌, ℕ, zero, suc, ◌<◌, ◌≤◌, List, [], ◌∷◌, ◌++◌, true, false, length, drop, get_or, drop-cons, append_assoc, append-nil, refl, sym, ap, ◌∙◌, subst, arith}
+use Rattle.std.proofs.Common.{◌≡◌, ◌↔◌, ℕ, zero, suc, ◌<◌, ◌≤◌, List, [], ◌∷◌, ◌++◌, true, false, length, take, drop, get_or, drop-cons, append_assoc, append-nil, refl, sym, ap, ◌∙◌, subst, arith}
 use Rattle.std.specs.Prelude.{cond}
 use Rattle.std.proofs.lemmas.Bool.{false≢true, leb-true, leb-false}
-use Rattle.std.proofs.lemmas.List.{drop_all}
+use Rattle.std.proofs.lemmas.List.{drop_all, take_all}
 use Rattle.config_tree.specs.declared.tree.Config.{Config}
 use Rattle.event_tree.specs.Events.{Ev}
 use Rattle.event_tree.specs.declared.lists.DeadPart.{DeadPart}
@@ -10,7 +10,7 @@ use Rattle.foreign_parts.specs.Delivering.{AreFates}
 use Rattle.foreign_parts.specs.declared.output.Fate.{Fate}
 use Rattle.foreign_parts.specs.declared.output.Fate.TheVariants as f
 use Rattle.dead_letters.specs.Appends.{kept_from}
-use Rattle.history_laws.specs.Legal.{rejections}
+use Rattle.history_laws.specs.Legal.{AreStatuses, HasStatus, rejections}
 use Rattle.history_judges.specs.Letters.{begins_at, short}
 
 module _ {X : Type 0} where
@@ -25,15 +25,15 @@ module _ {X : Type 0} where
   drop_one (suc i) (x ∷ xs) = drop_one i xs
 
 module _ {X : Type 0} (places : List ℕ) (letters whole : List X) where
-  kept_gone : (ps : List ℕ) (at : ℕ) (x : X) (xs : List X) → begins_at ps at ≡ true → kept_from ps at (x ∷ xs) ≡ kept_from (drop 1 ps) (suc at) xs
+  pub kept_gone : (ps : List ℕ) (at : ℕ) (x : X) (xs : List X) → begins_at ps at ≡ true → kept_from ps at (x ∷ xs) ≡ kept_from (drop 1 ps) (suc at) xs
   kept_gone [] at x xs is = absurd (cc)
   kept_gone (p ∷ ps) at x xs is = ap (λ b. cond b (kept_from ps (suc at) xs) (x ∷ kept_from (p ∷ ps) (suc at) xs)) is
 
-  kept_stays : (ps : List ℕ) (at : ℕ) (x : X) (xs : List X) → begins_at ps at ≡ false → kept_from ps at (x ∷ xs) ≡ x ∷ kept_from ps (suc at) xs
+  pub kept_stays : (ps : List ℕ) (at : ℕ) (x : X) (xs : List X) → begins_at ps at ≡ false → kept_from ps at (x ∷ xs) ≡ x ∷ kept_from ps (suc at) xs
   kept_stays [] at x xs is = refl
   kept_stays (p ∷ ps) at x xs is = ap (λ b. cond b (kept_from ps (suc at) xs) (x ∷ kept_from (p ∷ ps) (suc at) xs)) is
 
-  kept_none : (ps : List ℕ) (at : ℕ) → kept_from {X = X} ps at [] ≡ []
+  pub kept_none : (ps : List ℕ) (at : ℕ) → kept_from {X = X} ps at [] ≡ []
   kept_none [] at = refl
   kept_none (p ∷ ps) at = refl
 
@@ -103,6 +103,17 @@ module _ (fates : List Fate) (es : List Ev) (same : length fates ≡ length es) 
 pub fates_end : (fates : List Fate) (es : List Ev) (i : ℕ) → length fates ≡ length es → length fates ≤ i → AreFates fates es ↔ AreFates (drop i fates) (drop i es) → AreFates fates es
 fates_end fates es i same all so_far =
     so_far.1 (subst (λ xs. AreFates xs (drop i es)) (sym (drop_all i fates all)) (subst (AreFates []) (sym (drop_all i es (omega (arith, same, all)))) tt))
+
+pub statuses_on : (fates : List Fate) (i j : ℕ) (fate : Fate) → i < length fates → j ≡ suc i → fate ≡ get_or fates i fate → HasStatus fate → AreStatuses (take i fates) → AreStatuses (take j fates)
+statuses_on fates i j fate within j_is is has before = subst (λ n. AreStatuses (take n fates)) (sym j_is) (one_more fates i within is before)
+  where
+    one_more : (xs : List Fate) (n : ℕ) → n < length xs → fate ≡ get_or xs n fate → AreStatuses (take n xs) → AreStatuses (take (suc n) xs)
+    one_more [] n less here so_far = absurd (omega (arith, less))
+    one_more (x ∷ xs) zero less here so_far = (subst HasStatus here has, tt)
+    one_more (x ∷ xs) (suc n) less here so_far = (so_far.0, one_more xs n (omega (arith, less)) here so_far.1)
+
+pub statuses_all : (fates : List Fate) (i : ℕ) → length fates ≤ i → AreStatuses (take i fates) → AreStatuses fates
+statuses_all fates i all before = subst AreStatuses (take_all i fates all) before
 
 -- ---- letters of rejected events
 

@@ -6,5 +6,8 @@ pub mod Orders
 pub mod KeptLetters
 pub mod DueDeliveries
 pub mod FoundRows
+pub mod InputNumbers
+pub mod Choices
+pub mod Reasons
 pub mod Judgements
 pub mod Parts

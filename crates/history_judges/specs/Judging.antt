@@ -4,7 +4,7 @@ use Rattle.event_flow.specs.Meaning.{Makes, Due}
 use Rattle.event_flow.specs.Meaning as due
 use Rattle.queue_laws.specs.Found.{Row}
 use Rattle.history_laws.specs.Entries.{Entry, Accept, Mark, Assure, Read, Back, Shed, Deliver, Letters, Ack, Adopt, Opened}
-use Rattle.history_laws.specs.Legal.{IsRowOf, IsFound, FatesFit, IsBack, MayDeliver, IsShed, MayTellLetters, MayShedBy, ArePlaces, IsRunning, MayComeBack, WasOpened, Legal_at, Legal}
+use Rattle.history_laws.specs.Legal.{IsRowOf, IsFound, FatesFit, IsBack, MayDeliver, IsShed, MayTellLetters, MayShedBy, ArePlaces, IsRunning, MayCome, MayComeBack, WasOpened, Legal_at, Legal}
 use Rattle.history_laws.specs.Lists.{IsIn, Rise}
 use Rattle.history_laws.specs.States.{Plan, Written, Out, Nothing, Limits, State, newest, unread, numbers_of, numbers_found, out_of, start, after}
 use Rattle.history_judges.specs.declared.fault.Illegal.{Illegal}
@@ -59,6 +59,7 @@ module _ (makes : Makes) where
   Wants s e why.NotOut = (batch : ℕ) → wants_out e ≡ Some batch → IsOut s batch
   Wants s e why.NotBack = (batch : ℕ) → wants_back e ≡ Some batch → (left : List Due) × IsBack s batch left
   Wants s (Accept input parcel number event) why.Number = (s.low ≤ number) × (number ≤ s.high)
+  Wants s (Accept input parcel number event) why.Input = MayCome s.plans input parcel
   Wants s (Mark front) why.Number = (s.low ≤ front + 1) × (front + 1 ≤ s.high)
   Wants s (Assure input front) why.Front = front ≡ s.front
   Wants s (Read batch generation numbers) why.Generation = (p : Plan) → newest s.plans ≡ Some p → generation ≡ p.generation

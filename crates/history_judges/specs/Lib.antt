@@ -3,3 +3,4 @@ pub mod Judging
 pub mod Naming
 pub mod Letters
 pub mod Finding
+pub mod Inputs

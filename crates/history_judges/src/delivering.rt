@@ -9,7 +9,7 @@ ghost use Rattle.history_judges.specs.Judging.{Judges};
 ghost use Rattle.history_judges.specs.declared.state.Delivery.TheVariants as delivery;
 
 use crate::equality::{same_events, same_letters, same_place};
-use crate::reason::{Reason, Unjudged};
+use crate::reason::Reason;
 use crate::rejecting::{fates_fit, kept, rejections};
 use crate::shedding::are_below;
 use crate::state::{Between, Delivery, State};
@@ -25,7 +25,7 @@ impl State {
         place: &Place,
         events: &[Event],
         fates: &[Fate],
-    ) -> Result<Option<Reason>, Unjudged>
+    ) -> Result<Option<Reason>, AllocError>
         ensures { IfOk result (λ fault. (makes : Makes) → Judges makes (state_of self.now)
             (Deliver batch place.now events.now fates.now) fault) }
     {

@@ -5,10 +5,10 @@ ghost use Rattle.history_judges.specs.States.{state_of};
 ghost use Rattle.history_judges.specs.Judging.{Judges, Judged};
 
 use crate::meaning::Meaning;
-use crate::reason::{Reason, Unjudged};
+use crate::reason::Reason;
 use crate::state::State;
 use history_book::KeptEntry;
-use std::alloc::Global;
+use std::alloc::{AllocError, Global};
 
 /// An entry that isn't legal: its place among those that were told, from 0 on, and why.
 #[derive(Clone, Copy, Debug, PartialEq, Eq)]
@@ -23,7 +23,7 @@ pub fn first_fault<M: Meaning>(
     alloc: Global,
     meaning: &M,
     entries: &[KeptEntry],
-) -> Result<Option<Illegal>, Unjudged>
+) -> Result<Option<Illegal>, AllocError>
     ensures { IfOk result (Judged M.makes (map kept_of entries.now)) }
 {
     let mut state = State::start(alloc);
@@ -44,16 +44,16 @@ impl State {
         alloc: Global,
         meaning: &M,
         entry: &KeptEntry,
-    ) -> Result<Option<Reason>, Unjudged>
+    ) -> Result<Option<Reason>, AllocError>
         ensures { IfOk result (Judges M.makes (state_of self.now) (kept_of entry.now)) }
     {
         match entry {
             KeptEntry::Accept {
-                input: _input,
-                parcel: _parcel,
+                input,
+                parcel,
                 number,
                 event: _event,
-            } => Ok(self.accept_fault(*number)),
+            } => self.accept_fault(alloc, *input, *parcel, *number),
             KeptEntry::Mark { front } => Ok(self.mark_fault(*front)),
             KeptEntry::Assure {
                 input: _input,

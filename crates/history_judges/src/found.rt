@@ -1,5 +1,5 @@
 // Whether an opening may have found these rows.
-ghost use Rattle.std.specs.Prelude.{◌≡◌, ◌≤◌, ◌<◌, ◌↔◌, ℕ, IsTrue, IfOk, map};
+ghost use Rattle.std.specs.Prelude.{◌≡◌, ◌≤◌, ◌<◌, ◌↔◌, ℕ, List, IsTrue, IfOk, map};
 ghost use Rattle.event_flow.specs.Meaning.{Makes};
 ghost use Rattle.persistent_queue.specs.Unread.{told};
 ghost use Rattle.persistent_queue.specs.declared.page_rows.QueueRow.{QueueRow};
@@ -8,30 +8,30 @@ ghost use Rattle.history_laws.specs.Entries.{Opened};
 ghost use Rattle.history_laws.specs.Lists.{Rise};
 ghost use Rattle.history_judges.specs.States.{state_of};
 ghost use Rattle.history_judges.specs.Judging.{Judges};
-ghost use Rattle.history_judges.specs.Finding.{Some_of, Each_of, IsUnnamed, IsSameRow, IsKept, StaysSettled, HasNoGap};
+ghost use Rattle.history_judges.specs.Finding.{Some_of, Each_of, NamesOne, IsSameRow, IsKept, StaysSettled, HasNoGap};
 
+use crate::named::{Named, with_ids};
 use crate::opening::numbers_found;
-use crate::reason::{Reason, Unjudged};
-use crate::state::{State, Written};
+use crate::reason::Reason;
+use crate::state::State;
 use crate::steps::has;
 use element_code::Origin;
+use event_tree::Text;
 use persistent_queue::QueueRow;
-use std::alloc::Global;
+use std::alloc::{AllocError, Global};
 
 impl State {
     pub(crate) fn opening_fault(
         &self,
         alloc: Global,
         found: &[QueueRow],
-    ) -> Result<Option<Reason>, Unjudged>
+    ) -> Result<Option<Reason>, AllocError>
         ensures { IfOk result (λ fault. (makes : Makes) (limit : ℕ) (policy : Policy)
             → Judges makes (state_of self.now) (Opened (map told found.now) limit policy) fault) }
     {
-        let rows = self.rows.as_slice();
+        let named = with_ids(alloc, self.rows.as_slice())?;
+        let rows = named.as_slice();
         let acknowledged = self.acknowledged.as_slice();
-        if !are_unnamed(found) {
-            return Err(Unjudged::Origin);
-        }
         if !know(rows, found) {
             return Ok(Some(Reason::Unknown));
         }
@@ -49,8 +49,8 @@ impl State {
     }
 }
 
-// Whether each row that was found was written, whatever its input.
-fn know(rows: &[Written], found: &[QueueRow]) -> bool
+// Whether each row that was found was written.
+fn know(rows: &[Named], found: &[QueueRow]) -> bool
     ensures { IsTrue result ↔ Each_of (λ r. Some_of (IsSameRow r) rows.now) found.now }
 {
     for row in found {
@@ -61,7 +61,7 @@ fn know(rows: &[Written], found: &[QueueRow]) -> bool
     true
 }
 
-fn has_row(rows: &[Written], row: &QueueRow) -> bool
+fn has_row(rows: &[Named], row: &QueueRow) -> bool
     ensures { IsTrue result ↔ Some_of (IsSameRow row.now) rows.now }
 {
     for written in rows {
@@ -73,7 +73,7 @@ fn has_row(rows: &[Written], row: &QueueRow) -> bool
 }
 
 // Whether each row that is settled is found or acknowledged.
-fn stay_settled(front: u64, acknowledged: &[u64], found: &[QueueRow], rows: &[Written]) -> bool
+fn stay_settled(front: u64, acknowledged: &[u64], found: &[QueueRow], rows: &[Named]) -> bool
     ensures { IsTrue result ↔ Each_of (StaysSettled front acknowledged.now found.now) rows.now }
 {
     for row in rows {
@@ -84,7 +84,7 @@ fn stay_settled(front: u64, acknowledged: &[u64], found: &[QueueRow], rows: &[Wr
     true
 }
 
-fn stays_settled(front: u64, acknowledged: &[u64], found: &[QueueRow], row: &Written) -> bool
+fn stays_settled(front: u64, acknowledged: &[u64], found: &[QueueRow], row: &Named) -> bool
     ensures { IsTrue result ↔ StaysSettled front acknowledged.now found.now row.now }
 {
     if row.number > front {
@@ -94,7 +94,7 @@ fn stays_settled(front: u64, acknowledged: &[u64], found: &[QueueRow], row: &Wri
 }
 
 // Whether each row before one that was found is found or acknowledged.
-fn have_no_gap(acknowledged: &[u64], found: &[QueueRow], rows: &[Written]) -> bool
+fn have_no_gap(acknowledged: &[u64], found: &[QueueRow], rows: &[Named]) -> bool
     ensures { IsTrue result ↔ Each_of (HasNoGap acknowledged.now found.now) rows.now }
 {
     for row in rows {
@@ -105,7 +105,7 @@ fn have_no_gap(acknowledged: &[u64], found: &[QueueRow], rows: &[Written]) -> bo
     true
 }
 
-fn has_no_gap(acknowledged: &[u64], found: &[QueueRow], row: &Written) -> bool
+fn has_no_gap(acknowledged: &[u64], found: &[QueueRow], row: &Named) -> bool
     ensures { IsTrue result ↔ HasNoGap acknowledged.now found.now row.now }
 {
     if !is_before(found, row.number) {
@@ -114,7 +114,7 @@ fn has_no_gap(acknowledged: &[u64], found: &[QueueRow], row: &Written) -> bool
     is_kept(acknowledged, found, row)
 }
 
-fn is_kept(acknowledged: &[u64], found: &[QueueRow], row: &Written) -> bool
+fn is_kept(acknowledged: &[u64], found: &[QueueRow], row: &Named) -> bool
     ensures { IsTrue result ↔ IsKept acknowledged.now found.now row.now }
 {
     if has(acknowledged, row.number) {
@@ -123,34 +123,37 @@ fn is_kept(acknowledged: &[u64], found: &[QueueRow], row: &Written) -> bool
     is_found(found, row)
 }
 
-fn are_unnamed(found: &[QueueRow]) -> bool
-    ensures { IsTrue result ↔ Each_of IsUnnamed found.now }
-{
-    for row in found {
-        if !is_unnamed(row) {
-            return false;
-        }
-    }
-    true
-}
-
-fn is_unnamed(row: &QueueRow) -> bool
-    ensures { IsTrue result ↔ IsUnnamed row.now }
-{
-    match row.origin {
-        Origin::Unknown => true,
-        Origin::Id(_) => false,
-    }
-}
-
-fn same_row(row: &QueueRow, written: &Written) -> bool
+fn same_row(row: &QueueRow, written: &Named) -> bool
     ensures { IsTrue result ↔ IsSameRow row.now written.now }
 {
-    row.number == written.number && row.event.same(&written.event)
+    row.number == written.number
+        && row.event.same(&written.event)
+        && names(&row.origin, written.ids.as_slice())
+}
+
+// Whether the row names no input, or one of these.
+fn names(origin: &Origin, ids: &[Text]) -> bool
+    ensures { IsTrue result ↔ NamesOne origin.now ids.now }
+{
+    match origin {
+        Origin::Unknown => true,
+        Origin::Id(id) => has_id(ids, id),
+    }
+}
+
+fn has_id(ids: &[Text], id: &Text) -> bool
+    ensures { IsTrue result ↔ Some_of (λ (x : List ℕ). x ≡ id.now) ids.now }
+{
+    for other in ids {
+        if other == id {
+            return true;
+        }
+    }
+    false
 }
 
 // Whether a row is among those that were found.
-fn is_found(found: &[QueueRow], written: &Written) -> bool
+fn is_found(found: &[QueueRow], written: &Named) -> bool
     ensures { IsTrue result ↔ Some_of (λ r. IsSameRow r written.now) found.now }
 {
     for row in found {

@@ -9,8 +9,9 @@ ghost use Rattle.history_laws.specs.Lists.{AreBelow};
 ghost use Rattle.history_judges.specs.States.{state_of, between_of, delivery_of};
 ghost use Rattle.history_judges.specs.Judging.{Judges};
 
+use crate::choosing::are_chosen;
 use crate::equality::same_letters;
-use crate::reason::{Reason, Unjudged};
+use crate::reason::Reason;
 use crate::rejecting::kept;
 use crate::shedding::are_below;
 use crate::state::{Between, Delivery, State};
@@ -27,7 +28,7 @@ impl State {
         alloc: Global,
         batch: u64,
         letters: &[DeadPart],
-    ) -> Result<Option<Reason>, Unjudged>
+    ) -> Result<Option<Reason>, AllocError>
         ensures { IfOk result (λ fault. (makes : Makes)
             → Judges makes (state_of self.now) (Letters batch letters.now) fault) }
     {
@@ -70,22 +71,22 @@ fn shed_before(
     }
 }
 
-// Whether letters are those that are due next, but for those that were shed. Letters of events that a box rejects next
-// aren't judged.
+// Whether letters are those that are due next, or of some events of the next delivery, which a box rejects: but for those
+// that were shed.
 fn are_next(
     alloc: Global,
     config: &Config,
     newer: &[usize],
     letters: &[DeadPart],
     next: &Delivery,
-) -> Result<bool, Unjudged>
+) -> Result<bool, AllocError>
     ensures { IfOk result (λ are. (rest : List Due) → IsTrue are
         ↔ spec.AreNextLetters config.now newer.now letters.now (delivery_of next.now ∷ rest)) }
 {
     match next {
-        Delivery::Letters(due) => Ok(are_due(alloc, newer, letters, due.as_slice())?),
-        Delivery::Events(_, place, _) => match place {
-            Place::Foreign(_) => Err(Unjudged::Letters),
+        Delivery::Letters(due) => are_due(alloc, newer, letters, due.as_slice()),
+        Delivery::Events(id, place, events) => match place {
+            Place::Foreign(_) => are_chosen(alloc, config, id, newer, letters, events.as_slice()),
             Place::Stdout => Ok(false),
             Place::File(_) => Ok(false),
             Place::Address(_) => Ok(false),

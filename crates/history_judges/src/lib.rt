@@ -2,7 +2,7 @@
 //!
 //! - [`state_after`] says where a pipeline stands after entries, and [`State::tell`] where it stands after one more.
 //! - [`first_fault`] names the first entry of a history that isn't legal, and the part of its rule that doesn't hold
-//!   there ([`Reason`]); [`State::fault`] says the same of one entry. What it doesn't judge yet is [`Unjudged`].
+//!   there ([`Reason`]); [`State::fault`] says the same of one entry.
 //! - [`Meaning`] is what a judge has to be told of configurations: what is due of a batch.
 //!
 //! The definitions of entries, of where a pipeline stands after some, and of which histories are legal stand in
@@ -11,13 +11,16 @@
 
 mod after;
 mod batches;
+mod choosing;
 mod delivering;
 mod equality;
 mod fault;
 mod found;
+mod inputs;
 pub mod laws;
 mod letters;
 mod meaning;
+mod named;
 mod naming;
 mod opening;
 mod reason;
@@ -30,5 +33,5 @@ mod steps;
 pub use after::state_after;
 pub use fault::{Illegal, first_fault};
 pub use meaning::{Meaning, Meant};
-pub use reason::{Reason, Unjudged};
+pub use reason::Reason;
 pub use state::{Between, Delivery, Limits, Out, Plan, State, Written};

@@ -1,6 +1,3 @@
-use std::alloc::AllocError;
-use thiserror::Error;
-
 /// Why an entry isn't legal: the part of its rule that doesn't hold.
 #[derive(Clone, Copy, Debug, PartialEq, Eq)]
 pub enum Reason {
@@ -12,6 +9,8 @@ pub enum Reason {
     Unfinished,
     /// The number isn't one that may come next.
     Number,
+    /// There is no input of this number, or it is closed and the event came in no parcel.
+    Input,
     /// The front isn't the one up to which rows are settled.
     Front,
     /// The generation isn't that of the newest configuration, or not the next one.
@@ -56,29 +55,4 @@ pub enum Reason {
     Lost,
     /// A row before one that was found is neither found nor acknowledged.
     Gap,
-}
-
-/// Why an entry isn't judged.
-#[derive(Clone, Copy, Debug, PartialEq, Eq, Error)]
-pub enum Unjudged {
-    /// Memory ran out, or the meaning of a configuration isn't known for these events.
-    #[error("out of memory")]
-    Memory,
-    /// Letters of events that a box rejects next, of which some were shed, or whose reasons have no status of 16 bits.
-    #[error("letters of rejected events that aren't judged")]
-    Letters,
-    /// An opening found a row that names its input.
-    #[error("a row was found that names its input")]
-    Origin,
-}
-
-impl From<AllocError> for Unjudged {
-    ghost use Rattle.std.specs.Prelude.{◌≡◌};
-    ghost use Rattle.history_judges.specs.declared.reason.Unjudged.TheVariants.{Memory};
-
-    ghost from_gives = { λ _ fault. fault ≡ Memory };
-
-    fn from(_error: AllocError) -> Unjudged {
-        Unjudged::Memory
-    }
 }

@@ -78,7 +78,7 @@ pub(crate) fn fates_fit(place: &Place, fates: &[Fate], events: &[Event]) -> bool
 }
 
 fn are_fates(fates: &[Fate], events: &[Event]) -> bool
-    ensures { IsTrue result ↔ AreFates fates.now events.now }
+    ensures { IsTrue result ↔ (AreFates fates.now events.now × spec.AreStatuses fates.now) }
 {
     if !same_length(fates, events) {
         return false;
@@ -98,11 +98,15 @@ fn same_length(fates: &[Fate], events: &[Event]) -> bool
 }
 
 fn is_short(fate: &Fate) -> bool
-    ensures { result ≡ short fate.now }
+    ensures short { result ≡ short fate.now }
+    ensures status { spec.HasStatus fate.now }
 {
     match fate {
         Fate::Took => true,
-        Fate::Rejected(_, text) => text.len() <= 65536,
+        Fate::Rejected(status, text) => {
+            let _status = *status;
+            text.len() <= 65536
+        }
     }
 }
 
@@ -126,7 +130,8 @@ pub(crate) fn kept(
     Ok(kept)
 }
 
-fn is_place(places: &[usize], next: usize, at: usize) -> bool
+/// Whether the next of these places is this one.
+pub(crate) fn is_place(places: &[usize], next: usize, at: usize) -> bool
     ensures { result ≡ begins_at (drop next places.now) at }
 {
     match places.get(next) {

@@ -6,19 +6,22 @@ ghost use Rattle.config_tree.specs.declared.tree.Config.{Config};
 ghost use Rattle.foreign_parts.specs.declared.filter.Verdict.{Verdict};
 ghost use Rattle.event_flow.specs.Meaning.{Makes};
 ghost use Rattle.event_flow.specs.Places.{Draws};
-ghost use Rattle.history_laws.specs.Entries.{Entry, ParcelAt, Accept, Mark, Assure, Read, Back, Ack, Purge, Adopt};
+ghost use Rattle.history_book.specs.Entries.{parcel_of};
+ghost use Rattle.history_laws.specs.Entries.{Entry, Accept, Mark, Assure, Read, Back, Ack, Purge, Adopt};
 ghost use Rattle.history_laws.specs.Legal.{WasOpened};
 ghost use Rattle.history_laws.specs.States.{Plan, Nothing, newest};
 ghost use Rattle.history_judges.specs.States.{state_of, batch_of, plan_of};
 ghost use Rattle.history_judges.specs.Judging.{Wants, Judges, RunningJudged, IsOutBack, AreFirst, wants_back};
 
 use crate::batches::numbers_in;
+use crate::inputs::may_come;
 use crate::meaning::{Meaning, Meant};
-use crate::reason::{Reason, Unjudged};
+use crate::reason::Reason;
 use crate::state::{Between, Out, State};
 use crate::steps::has;
 use config_tree::Config;
 use foreign_parts::Verdict;
+use history_book::ParcelAt;
 use std::alloc::{AllocError, Global};
 
 impl State {
@@ -55,18 +58,27 @@ impl State {
         None
     }
 
-    pub(crate) fn accept_fault(&self, number: u64) -> Option<Reason>
-        ensures { (makes : Makes) (input : ℕ) (parcel : Option ParcelAt) (event : Ev)
-            → Judges makes (state_of self.now) (Accept input parcel number event) result }
+    pub(crate) fn accept_fault(
+        &self,
+        alloc: Global,
+        input: usize,
+        parcel: Option<ParcelAt>,
+        number: u64,
+    ) -> Result<Option<Reason>, AllocError>
+        ensures { IfOk result (λ fault. (makes : Makes) (event : Ev)
+            → Judges makes (state_of self.now) (Accept input (parcel_of parcel) number event) fault) }
     {
         if let Some(reason) = self.running_fault() {
-            return Some(reason);
+            return Ok(Some(reason));
         }
         let comes = number > self.last && number - 1 <= self.highest;
         if !comes {
-            return Some(Reason::Number);
+            return Ok(Some(Reason::Number));
         }
-        None
+        if !may_come(alloc, self.plans.as_slice(), input, parcel)? {
+            return Ok(Some(Reason::Input));
+        }
+        Ok(None)
     }
 
     pub(crate) fn mark_fault(&self, front: u64) -> Option<Reason>
@@ -107,7 +119,7 @@ impl State {
         batch: u64,
         generation: u64,
         numbers: &[u64],
-    ) -> Result<Option<Reason>, Unjudged>
+    ) -> Result<Option<Reason>, AllocError>
         ensures { IfOk result (λ fault. (makes : Makes)
             → Judges makes (state_of self.now) (Read batch generation numbers.now) fault) }
     {
@@ -155,7 +167,7 @@ impl State {
         meaning: &M,
         batch: u64,
         verdicts: &[Verdict],
-    ) -> Result<Option<Reason>, Unjudged>
+    ) -> Result<Option<Reason>, AllocError>
         ensures { IfOk result (Judges M.makes (state_of self.now) (Back batch verdicts.now)) }
     {
         if let Some(reason) = self.running_fault() {

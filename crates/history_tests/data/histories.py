@@ -20,7 +20,7 @@ def ints(text):
 
 class Pipeline:
     def __init__(self):
-        self.policy, self.plan = None, None
+        self.policy, self.plan, self.inputs = None, None, []
         self.rows, self.front, self.acked = [], 0, set()
         self.read, self.used, self.out = set(), set(), {}
         self.low = self.high = 1
@@ -43,7 +43,7 @@ class Pipeline:
         self.rows = [row for row in self.rows if row[0] <= top]
         self.acked = {n for n in self.acked if n <= top and n not in numbers}
         self.read, self.used, self.out = set(), set(), {}
-        self.low, self.plan, self.policy = top + 1, None, kind
+        self.low, self.plan, self.inputs, self.policy = top + 1, None, [], kind
 
     def adopt(self, kind, words):
         generation, name = int(words[0]), words[1]
@@ -52,11 +52,22 @@ class Pipeline:
             want(name != self.plan[1], "Same")
             want(generation == self.plan[0] + 1, "Generation")
         self.plan = (generation, name)
+        self.number(name)
+
+    def number(self, name):
+        # a configuration has one input, whose name is its whole statement; an input is its number, that and whether it
+        # is open
+        kept = [n for n, other, is_open in self.inputs if is_open and other == name]
+        number = kept[0] if kept else len(self.inputs)
+        self.inputs = [(number, name, True)] + [(n, other, False) for n, other, _ in self.inputs if n != number]
 
     def accept(self, kind, words):
         number = int(words[0])
         self.runs()
         want(self.low <= number <= self.high, "Number")
+        by = int(words[2]) if len(words) > 2 else 0
+        comes = lambda is_open: is_open or words[3:] == ["parcel"]
+        want(any(n == by and comes(is_open) for n, _, is_open in self.inputs), "Input")
         self.rows.append((number, words[1]))
         self.low = self.high = number + 1
 

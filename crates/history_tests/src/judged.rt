@@ -6,7 +6,7 @@ use config_tree::{Config, Plugin, Settings};
 use element_code::Origin;
 use event_tree::{DeadList, DeadPart, Event, Events, Path, Text, Value};
 use foreign_parts::{Place, Verdict};
-use history_book::KeptEntry;
+use history_book::{KeptEntry, ParcelAt};
 use history_judges::first_fault;
 use persistent_queue::QueueRow;
 use plain_data::Items;
@@ -21,12 +21,10 @@ pub fn add_judged(to: &mut String, row: &str) -> Result<(), AllocError> {
     let alloc = *to.allocator();
     let (name, told) = row.split_once(':').unwrap_or((row, ""));
     let entries = entries_of(alloc, told)?;
-    match first_fault(alloc, &NoOutputs, entries.as_slice()) {
-        Ok(None) => write!(to, "{name}: legal")?,
-        Ok(Some(fault)) => write!(to, "{name}: {} {:?}", fault.place, fault.reason)?,
-        Err(unjudged) => write!(to, "{name}: {unjudged}")?,
+    match first_fault(alloc, &NoOutputs, entries.as_slice())? {
+        None => write!(to, "{name}: legal"),
+        Some(fault) => write!(to, "{name}: {} {:?}", fault.place, fault.reason),
     }
-    Ok(())
 }
 
 fn entries_of(alloc: Global, told: &str) -> Result<Items<KeptEntry>, AllocError> {
@@ -156,14 +154,27 @@ fn adopt(alloc: Global, text: &str) -> Result<KeptEntry, AllocError> {
     })
 }
 
+// `NUMBER TEXT`, and behind it `INPUT`, and `parcel` where the event came in one.
 fn accept(alloc: Global, text: &str) -> Result<KeptEntry, AllocError> {
-    let (number, message) = first_number(text);
+    let (number, rest) = first_number(text);
+    let (message, rest) = first_word(rest);
+    let (input, way) = first_word(rest);
     Ok(KeptEntry::Accept {
-        input: 0,
-        parcel: None,
+        input: input.parse().unwrap_or(0),
+        parcel: parcel_of(way),
         number,
         event: event_of(alloc, message)?,
     })
+}
+
+fn parcel_of(way: &str) -> Option<ParcelAt> {
+    if way == "parcel" {
+        return Some(ParcelAt {
+            place: 0,
+            number: 1,
+        });
+    }
+    None
 }
 
 fn read(alloc: Global, text: &str) -> Result<KeptEntry, AllocError> {

@@ -1,14 +1,15 @@
 use Rattle.std.proofs.Common.{map, sym, subst}
 use Rattle.std.proofs.lemmas.Result.{IfOk-weaker}
 use Rattle.persistent_queue.specs.Unread.{told}
-use Rattle.history_book.specs.Entries.{kept_of, parcel_of}
+use Rattle.history_book.specs.Entries.{kept_of}
 use Rattle.history_laws.specs.Entries.{Read, Shed, Deliver, Letters, Opened}
 use Rattle.history_judges.specs.Judging.{Judges}
 use Rattle.history_judges.specs.States.{state_of}
 use Rattle.history_judges.proofs.state.State.fault.Goals as goal
 
 pub returns-in-Accept : goal.returns-in-Accept
-returns-in-Accept g c = subst (λ x. Judges g.M.Meaning.makes (state_of c.args.self.now) (kept_of x) c.accept_fault.result) (sym c.in-Accept.is) (c.accept_fault.ensures g.M.Meaning.makes c.in-Accept._input (parcel_of c.in-Accept._parcel) c.in-Accept._event)
+returns-in-Accept g c =
+    IfOk-weaker c.accept_fault.result _ _ (λ f e. subst (λ x. Judges g.M.Meaning.makes (state_of c.args.self.now) (kept_of x) f) (sym c.in-Accept.is) (e g.M.Meaning.makes c.in-Accept._event)) c.accept_fault.ensures
 
 pub returns-in-Mark : goal.returns-in-Mark
 returns-in-Mark g c = subst (λ x. Judges g.M.Meaning.makes (state_of c.args.self.now) (kept_of x) c.mark_fault.result) (sym c.in-Mark.is) (c.mark_fault.ensures g.M.Meaning.makes)
