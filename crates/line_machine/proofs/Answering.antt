@@ -1,15 +1,17 @@
 -- What a line took from links and answered stands beside what it told, behind each step.
-use Rattle.std.proofs.Common.{◌≡◌, inl, inr, ⊎_elim, ℕ, zero, suc, ◌<◌, ◌≤◌, ◌==◌, ◌&&◌, Bool, true, false, List, [], ◌∷◌, ◌++◌, map, Some, if◌then◌else◌, refl, sym, ap, ◌∙◌, subst, arith, append-nil}
+use Rattle.std.proofs.Common.{◌≡◌, inl, inr, ⊎_elim, ℕ, zero, suc, ◌<◌, ◌≤◌, ◌==◌, ◌&&◌, Bool, true, false, List, [], ◌∷◌, ◌++◌, map, Option, Some, if◌then◌else◌, refl, sym, ap, ◌∙◌, subst, arith, append-nil}
 use Rattle.std.proofs.lemmas.Bool.{cases_Bool, eqb-true}
 use Rattle.std.proofs.lemmas.Option.{same_Some}
 use Rattle.event_tree.specs.declared.lists.DeadPart.{DeadPart}
 use Rattle.pipeline_bus.specs.declared.parcel.Heard.{Heard}
 use Rattle.pipeline_bus.specs.declared.parcel.Heard.TheVariants.{Assured, NotListening}
+use Rattle.pipeline_bus.specs.declared.parcel.Parcel.{Parcel}
 use Rattle.event_flow.specs.Meaning.{Makes}
 use Rattle.dead_letters.specs.Appends.{kept_from}
 use Rattle.foreign_parts.specs.declared.place.Place.TheVariants as place
 use Rattle.history_laws.specs.Contents.{Bytes}
 use Rattle.history_laws.specs.Entries.{Entry, ParcelAt, Accept, Mark, Deliver, Letters}
+use Rattle.history_laws.specs.Inputs.{Input}
 use Rattle.history_laws.specs.Links.{Listening, IsMadeOf, MayAnswer, rows_of}
 use Rattle.history_laws.specs.Legal.{rejections}
 use Rattle.history_laws.specs.Lists.{IsIn, Rise}
@@ -23,7 +25,7 @@ use Rattle.line_machine.specs.Openings.{opening}
 use Rattle.line_machine.specs.Stands.{Stands}
 use Rattle.line_machine.specs.Steps as m
 use Rattle.line_machine.specs.Effects.{shed_told, letters_told}
-use Rattle.line_machine.specs.Finds.{SameTakers, AreNew, IsRowFor, Arrives}
+use Rattle.line_machine.specs.Finds.{AreNew, IsEndBehind, AreEndsBehind, ends_served, IsRowFor, Arrives}
 use Rattle.line_machine.specs.Steps.{Step, effect, GoesOn}
 use Rattle.line_machine.specs.Views.{LineView, input_of}
 use Rattle.line_machine.proofs.Inputs.{is_input}
@@ -73,18 +75,19 @@ module _ (makes : Makes) (listening : Listening) where
   }
 
   -- parcels are taken
-  taken_stand : (told : List Entry) (address : List ℕ) (xs : List Taken) (old new : List TakerView) (next_place : ℕ) → Takes address xs old new → LinksStand makes listening told old next_place → LinksStand makes listening told new next_place
-  taken_stand told address [] old new next_place same is = subst (λ ts. LinksStand makes listening told ts next_place) (sym same) is
-  taken_stand told address (x ∷ xs) old new next_place takes is =
-      taken_stand told address xs (change_taker (took x.parcel) x.place old) new next_place takes.1
+  taken_stand : (told : List Entry) (only : Option (List ℕ)) (n : ℕ) (xs : List Taken) (old new : List TakerView) (next_place : ℕ) → Takes only n xs old new → LinksStand makes listening told old next_place
+      → LinksStand makes listening told new next_place
+  taken_stand told only n [] old new next_place same is = subst (λ ts. LinksStand makes listening told ts next_place) (sym same) is
+  taken_stand told only n (x ∷ xs) old new next_place takes is =
+      taken_stand told only n xs (change_taker (took x.parcel) x.place old) new next_place takes.1
       (one_changed told old (took x.parcel) x.place next_place (λ t. refl) is
       (λ t has found.
       let one = same_Some takes.0.taker t (sym takes.0.has ∙ found) in
       took_stands makes listening told t (is.each t has) x.parcel (λ some. takes.0.next some ∙ ap (λ (u : TakerView). u.next) one)))
 
-  -- ends where an input listens, or not any more
-  listening_stands : (told : List Entry) (t : TakerView) (listens : Bool) → TakerStands makes listening told t → TakerStands makes listening told (record t { listens = listens })
-  listening_stands told t listens is = record {
+  -- an end whose input is closed
+  closed_stands : (told : List Entry) (t : TakerView) (lost : List Parcel) → TakerStands makes listening told t → TakerStands makes listening told (record t { listens = false; lost = lost })
+  closed_stands told t lost is = record {
     sound = record { made = is.sound.made; known = is.sound.known; answers = λ a has. answer a.number a.answer (is.sound.answers a has) };
     waits = λ w has.
         let was = is.waits w has in
@@ -98,31 +101,41 @@ module _ (makes : Makes) (listening : Listening) where
     unique = is.unique;
   }
     where
-      answer : (number : ℕ) (h : Heard) → MayAnswer makes listening told (own_link t) number h → MayAnswer makes listening told (own_link (record t { listens = listens })) number h
+      answer : (number : ℕ) (h : Heard) → MayAnswer makes listening told (own_link t) number h → MayAnswer makes listening told (own_link (record t { listens = false; lost = lost })) number h
       answer number Assured was = record { parcel = was.parcel; is_taken = was.is_taken; number_is = was.number_is; some = was.some; whole = was.whole; settled = was.settled }
       answer number NotListening was = was
 
 module _ (makes : Makes) (listening : Listening) (bytes : Bytes) (places : Places) where
-  same_each : (told : List Entry) (old new : List TakerView) → SameTakers old new → ((t : TakerView) → IsIn t old → TakerStands makes listening told t)
+  end_behind : (told : List Entry) (inputs : List Input) (t u : TakerView) → IsEndBehind inputs t u → TakerStands makes listening told t → TakerStands makes listening told u
+  end_behind told inputs t u (inl open_now) is = subst (TakerStands makes listening told) (sym open_now.1) is
+  end_behind told inputs t u (inr (inl still_closed)) is = subst (TakerStands makes listening told) (sym still_closed.2) is
+  end_behind told inputs t u (inr (inr closed)) is = subst (TakerStands makes listening told) (sym closed.4) (closed_stands makes listening told t closed.2 is)
+
+  ends_behind : (told : List Entry) (inputs : List Input) (old new : List TakerView) → AreEndsBehind inputs old new → ((t : TakerView) → IsIn t old → TakerStands makes listening told t)
       → (t : TakerView) → IsIn t new → TakerStands makes listening told t
-  same_each told [] new same each t has = absurd (subst (IsIn t) same has)
-  same_each told (x ∷ old) new same each t has = of_parts (same_each told old same.1 same.3 (λ u j. each u (inr j)) t) (subst (IsIn t) same.2 has)
+  ends_behind told inputs [] new same each t has = absurd (subst (IsIn t) same has)
+  ends_behind told inputs (x ∷ old) new same each t has = of_parts (ends_behind told inputs old same.1 same.4 (λ u j. each u (inr j)) t) (subst (IsIn t) same.2 has)
     where
-      of_parts : (IsIn t same.1 → TakerStands makes listening told t) → IsIn t (record x { listens = same.0 } ∷ same.1) → TakerStands makes listening told t
-      of_parts rest (inl e) = subst (TakerStands makes listening told) (sym e) (listening_stands makes listening told x same.0 (each x (inl refl)))
+      of_parts : (IsIn t same.1 → TakerStands makes listening told t) → IsIn t (same.0 ∷ same.1) → TakerStands makes listening told t
+      of_parts rest (inl e) = subst (TakerStands makes listening told) (sym e) (end_behind told inputs x same.0 same.3 (each x (inl refl)))
       of_parts rest (inr i) = rest i
 
   -- the places are the same
-  same_place : (old new : List TakerView) → SameTakers old new → (u : TakerView) → IsIn u new → (t : TakerView) × IsIn t old × (u.place ≡ t.place)
-  same_place [] new same u has = absurd (subst (IsIn u) same has)
-  same_place (x ∷ old) new same u has = of_parts (same_place old same.1 same.3 u) (subst (IsIn u) same.2 has)
+  place_behind : (inputs : List Input) (t u : TakerView) → IsEndBehind inputs t u → u.place ≡ t.place
+  place_behind inputs t u (inl open_now) = ap (λ (x : TakerView). x.place) open_now.1
+  place_behind inputs t u (inr (inl still_closed)) = ap (λ (x : TakerView). x.place) still_closed.2
+  place_behind inputs t u (inr (inr closed)) = ap (λ (x : TakerView). x.place) closed.4
+
+  same_place : (inputs : List Input) (old new : List TakerView) → AreEndsBehind inputs old new → (u : TakerView) → IsIn u new → (t : TakerView) × IsIn t old × (u.place ≡ t.place)
+  same_place inputs [] new same u has = absurd (subst (IsIn u) same has)
+  same_place inputs (x ∷ old) new same u has = of_parts (same_place inputs old same.1 same.4 u) (subst (IsIn u) same.2 has)
     where
-      of_parts : (IsIn u same.1 → (t : TakerView) × IsIn t old × (u.place ≡ t.place)) → IsIn u (record x { listens = same.0 } ∷ same.1) → (t : TakerView) × IsIn t (x ∷ old) × (u.place ≡ t.place)
-      of_parts rest (inl e) = (x, inl refl, ap (λ (y : TakerView). y.place) e)
+      of_parts : (IsIn u same.1 → (t : TakerView) × IsIn t old × (u.place ≡ t.place)) → IsIn u (same.0 ∷ same.1) → (t : TakerView) × IsIn t (x ∷ old) × (u.place ≡ t.place)
+      of_parts rest (inl e) = (x, inl refl, ap (λ (y : TakerView). y.place) e ∙ place_behind inputs x same.0 same.3)
       of_parts rest (inr i) = let r = rest i in (r.0, inr r.1, r.2)
 
   -- new ends stand, since no row names them
-  new_stands : (told : List Entry) (t : TakerView) → (t.taken ≡ []) × (t.given ≡ []) × (t.waits ≡ []) → ((number : ℕ) → rows_at makes listening told t number ≡ []) → TakerStands makes listening told t
+  new_stands : (told : List Entry) (t : TakerView) → (t.taken ≡ []) × (t.given ≡ []) × (t.waits ≡ []) × (t.lost ≡ []) → ((number : ℕ) → rows_at makes listening told t number ≡ []) → TakerStands makes listening told t
   new_stands told t none no_rows = record {
     sound = record {
       made = λ p has some. absurd (subst (IsIn p) none.0 has);
@@ -184,7 +197,7 @@ module _ (makes : Makes) (listening : Listening) (bytes : Bytes) (places : Place
       row = written s n r.row.number r.row.event
 
       taken_is : LinksStand makes listening told a.takers i.next_place
-      taken_is = taken_stand makes listening told a.address a.taken i.takers a.takers i.next_place a.takes is
+      taken_is = taken_stand makes listening told (ends_served i) n a.taken i.takers a.takers i.next_place a.takes is
 
       front_is : (after makes start (told ++ entry ∷ [])).front ≡ s.front
       front_is = ap (λ (x : State). x.front) (after_both makes start told (entry ∷ []))
@@ -238,21 +251,10 @@ module _ (makes : Makes) (listening : Listening) (bytes : Bytes) (places : Place
     answers_stand (m.Accepts_in_doubt n c r) on = absurd on
     answers_stand (m.Accepts_parcel n a r) on = accepted_stands n a r
     answers_stand (m.Accepts_parcel_in_doubt n a r) on = absurd on
-    answers_stand (m.Takes_alone n h address listens taken takers takes) on = quiet_still makes listening told takers i.next_place (taken_stand makes listening told address taken i.takers takers i.next_place takes is)
-    answers_stand (m.Has_no_room n c) on = quiet_still makes listening told i.takers i.next_place is
-    answers_stand (m.Has_no_number n c) on = quiet_still makes listening told i.takers i.next_place is
-    answers_stand (m.Holds_none n h none) on = quiet_still makes listening told i.takers i.next_place is
-    answers_stand (m.Is_at_its_end n h none) on = quiet_still makes listening told i.takers i.next_place is
-    answers_stand (m.Fails_to_come n h came) on = quiet_still makes listening told i.takers i.next_place is
-    answers_stand (m.Has_no_memory n h came) on = quiet_still makes listening told i.takers i.next_place is
+    answers_stand (m.Takes_alone n h address listens taken takers takes) on = quiet_still makes listening told takers i.next_place (taken_stand makes listening told (ends_served i) n taken i.takers takers i.next_place takes is)
     answers_stand (m.Reads t k) on = still makes listening told _ i.takers i.next_place tt tt is
     answers_stand (m.Works t k verdicts uses) on = still makes listening told _ i.takers i.next_place tt tt is
-    answers_stand (m.Has_none_unread none) on = quiet_still makes listening told i.takers i.next_place is
-    answers_stand (m.Has_no_kit none) on = quiet_still makes listening told i.takers i.next_place is
-    answers_stand m.Fails_to_read on = absurd on
-    answers_stand (m.Keeps_a_batch t) on = quiet_still makes listening told i.takers i.next_place is
     answers_stand (m.Collects n a verdicts uses) on = still makes listening told _ i.takers i.next_place tt tt is
-    answers_stand (m.Loses_a_result n a) on = quiet_still makes listening told i.takers i.next_place is
     answers_stand (m.Tells n parts rest h a) on =
         let none = shed_none n a.shed.older a.shed.newer (Letters n (kept_from a.shed.newer 0 parts) ∷ []) tt tt in
         still makes listening told (letters_told n a.shed parts) i.takers i.next_place none.0 none.1 is
@@ -262,44 +264,33 @@ module _ (makes : Makes) (listening : Listening) (bytes : Bytes) (places : Place
         let letters = kept_from a.shed.newer 0 (rejections h.batch.plan.config id fates events) in
         let none = letters_none n a.shed.older a.shed.newer letters (Deliver n (place.Foreign number) events fates ∷ []) tt tt in
         still makes listening told (letters_told n a.shed (rejections h.batch.plan.config id fates events) ++ Deliver n (place.Foreign number) events fates ∷ []) i.takers i.next_place none.0 none.1 is
-    answers_stand (m.Sends n id address events rest h none p may_be may) on = quiet_still makes listening told i.takers i.next_place is
-    answers_stand (m.Hears address a x has turn) on = quiet_still makes listening told i.takers i.next_place is
-    answers_stand (m.Is_not_heard n id address events rest h number sent was) on = quiet_still makes listening told i.takers i.next_place is
-    answers_stand (m.Waits n id address events rest h) on = quiet_still makes listening told i.takers i.next_place is
-    answers_stand (m.Waits_for_a_box n id number events rest h) on = quiet_still makes listening told i.takers i.next_place is
-    answers_stand (m.Sends_last address p last may) on = quiet_still makes listening told i.takers i.next_place is
     answers_stand (m.Is_heard n id address events rest h number sent was) on = still makes listening told _ i.takers i.next_place tt tt is
-    answers_stand (m.Has_delivered_all n h) on = quiet_still makes listening told i.takers i.next_place is
-    answers_stand (m.Fails_to_deliver n left h) on = absurd on
+    answers_stand (m.Fails_to_deliver n left h f why printed out given took) on = absurd on
     answers_stand (m.Acknowledges_it n h queue a) on = still makes listening told _ i.takers i.next_place tt tt is
     answers_stand (m.Marks front last marks) on =
         carried_on makes listening told (Mark front ∷ []) i.takers i.next_place (λ at. mark_same makes at told front)
         (let settled = stands.holds.queue.settled in let recorded = stands.holds.queue.recorded in let same = ap (λ (x : State). x.front) (after_both makes start told (Mark front ∷ [])) in omega (arith, settled, recorded, last, same)) is
     answers_stand (m.Fails_to_mark marks) on = absurd on
     answers_stand (m.Assures n front h marks) on = still makes listening told _ i.takers i.next_place tt tt is
-    answers_stand (m.Fails_to_assure n h) on = absurd on
+    answers_stand (m.Fails_to_assure n front h marks) on = absurd on
     answers_stand (m.Purges h) on = still makes listening told _ i.takers i.next_place tt tt is
-    answers_stand (m.Has_none_spent none) on = quiet_still makes listening told i.takers i.next_place is
     answers_stand (m.Fails_to_purge h) on = absurd on
     answers_stand (m.Answers place t has may) on = quiet_still makes listening told _ i.next_place (one_changed makes listening told i.takers (assured may.oldest.number may.rest) place i.next_place (λ u. refl) is
         (λ u found has_it.
         subst (λ v. TakerStands makes listening told (assured may.oldest.number may.rest v)) (same_Some t u (sym has ∙ has_it))
         (assured_stands makes listening told t (is.each t (taker_in place t i.takers has).0) i.mark may stands.knows.mark)))
-    answers_stand (m.Refuses place t has lost none) on = quiet_still makes listening told _ i.next_place (one_changed makes listening told i.takers refused place i.next_place (λ u. refl) is
+    answers_stand (m.Refuses place t has may) on = quiet_still makes listening told _ i.next_place (one_changed makes listening told i.takers (refused may.rest) place i.next_place (λ u. refl) is
         (λ u found has_it.
-        subst (λ v. TakerStands makes listening told (refused v)) (same_Some t u (sym has ∙ has_it)) (refused_stands makes listening told t (is.each t (taker_in place t i.takers has).0) none)))
-    answers_stand (m.Has_no_answer place) on = quiet_still makes listening told i.takers i.next_place is
-    answers_stand (m.Connects takers next_place are senders unsent) on = quiet_still makes listening told _ next_place (with_new told i.takers i.takers takers i.next_place next_place is is.each is.below are)
-    answers_stand (m.Releases place t has lost none) on = quiet_still makes listening told _ i.next_place (released told place i.takers i.next_place is)
-    answers_stand m.Has_no_release on = quiet_still makes listening told i.takers i.next_place is
-    answers_stand m.Makes_room on = quiet_still makes listening told i.takers i.next_place is
-    answers_stand (m.Stops drains) on = quiet_still makes listening told i.takers i.next_place is
-    answers_stand (m.Goes_on_with place) on = quiet_still makes listening told i.takers i.next_place is
-    answers_stand (m.Is_skipped act cannot) on = quiet_still makes listening told i.takers i.next_place is
+        subst (λ v. TakerStands makes listening told (refused may.rest v)) (same_Some t u (sym has ∙ has_it))
+        (refused_stands makes listening told t (is.each t (taker_in place t i.takers has).0) may.rest may.none)))
+    answers_stand (m.Connects takers next_place are listen senders unused) on = quiet_still makes listening told _ next_place (with_new told i.takers i.takers takers i.next_place next_place is is.each is.below are)
+    answers_stand (m.Releases place t has free) on = quiet_still makes listening told _ i.next_place (released told place i.takers i.next_place is)
     answers_stand (m.Adopts c) on =
         still makes listening told _ (c.takers ++ c.new_takers) c.next_place tt tt
-        (with_new told i.takers c.takers c.new_takers i.next_place c.next_place is (same_each told i.takers c.takers c.goes_on is.each)
-        (λ t has. let was = same_place i.takers c.takers c.goes_on t has in let less = is.below was.0 was.1 in let same = was.2 in omega (arith, less, same)) c.new)
+        (with_new told i.takers c.takers c.new_takers i.next_place c.next_place is (ends_behind told c.inputs i.takers c.takers c.goes_on is.each)
+        (λ t has. let was = same_place c.inputs i.takers c.takers c.goes_on t has in let less = is.below was.0 was.1 in let same = was.2 in omega (arith, less, same)) c.new)
+    answers_stand (m.Fails_at_once x fails) on = absurd on
+    answers_stand x on = quiet_still makes listening told i.takers i.next_place is
 
 pub answers_all_stand : (makes : Makes) (listening : Listening) (bytes : Bytes) (places : Places) → AnswersStand makes listening bytes places
 answers_all_stand makes listening bytes places told i x stands is on = answers_stand makes listening bytes places told i stands is x on

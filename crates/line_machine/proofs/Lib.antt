@@ -1,4 +1,11 @@
+pub mod Since
 pub mod Inputs
+pub mod Covering
+pub mod Coming
+pub mod Serving
+pub mod Numbering
+pub mod Boxes
+pub mod Outputs
 pub mod Batches
 pub mod Shed
 pub mod Accounted
@@ -12,5 +19,9 @@ pub mod Rows
 pub mod Takers
 pub mod Answering
 pub mod Recording
+pub mod BatchLists
+pub mod Senders
+pub mod Doing
 pub mod Settling
 pub mod Sending
+pub mod Lines

@@ -1,12 +1,12 @@
 -- A line that was opened stands where its history does, and so behind any steps.
-use Rattle.std.proofs.Common.{◌≡◌, inl, ℕ, ◌<◌, List, [], ◌∷◌, ◌++◌, map, Some, None, refl, sym, ap, ap₂, ◌∙◌, subst, append-nil, append_assoc}
+use Rattle.std.proofs.Common.{◌≡◌, inl, ℕ, ◌<◌, List, [], ◌∷◌, ◌++◌, Some, None, refl, sym, ap, ap₂, ◌∙◌, subst, append-nil, append_assoc}
 use Rattle.store_trait.specs.Images.{Image}
 use Rattle.event_flow.specs.Meaning.{Makes}
 use Rattle.queue_laws.specs.Found.{Row}
 use Rattle.history_laws.specs.Contents.{Bytes}
 use Rattle.history_laws.specs.Entries.{Entry, Adopt, Opened}
 use Rattle.history_laws.specs.Holdings.{Follows, HoldsTold}
-use Rattle.history_laws.specs.Inputs.{Input, Renumbered, named_from}
+use Rattle.history_laws.specs.Inputs.{Renumbered, named_from}
 use Rattle.history_laws.specs.Legal.{Legal_at}
 use Rattle.history_laws.specs.Links.{Listening}
 use Rattle.history_laws.specs.Lists.{IsIn}
@@ -19,16 +19,12 @@ use Rattle.history_laws.proofs.Moments.{following_stands, opening_stands}
 use Rattle.history_laws.proofs.Unread.{found_come_next}
 use Rattle.line_machine.specs.Openings.{IsOpenedLine, opening, OpenedLineStands, Stays, Goes, RunsStand}
 use Rattle.line_machine.specs.Stands.{AreBatchesOf, Knows, Stands}
-use Rattle.line_machine.specs.Effects.{begun}
+use Rattle.line_machine.proofs.Inputs.{begun_are}
 use Rattle.line_machine.specs.Steps.{effect}
 use Rattle.line_machine.specs.Views.{Batch, LineView, inputs_of}
 use Rattle.line_machine.proofs.Steps.{steps_follow}
 
 module _ (makes : Makes) (listening : Listening) (bytes : Bytes) (places : Places) where
-  begun_are : (xs : List Input) → inputs_of (map (begun) xs) ≡ xs
-  begun_are [] = refl
-  begun_are (x ∷ xs) = ap (λ l. x ∷ l) (begun_are xs)
-
   module _ (told : List Entry) (image : Image) (sound : LineSound makes bytes places told image) (i : LineView places) (is : IsOpenedLine makes listening bytes places told image sound i) where
     abbrev opened : Entry
     opened = Opened sound.rows.rows i.limits.limit i.limits.policy

@@ -1,10 +1,9 @@
 -- What a line sent to addresses was due, behind each step.
-use Rattle.std.proofs.Common.{◌≡◌, ◌⊎◌, inl, inr, ⊎_elim, ℕ, zero, suc, Bool, true, false, List, [], ◌∷◌, ◌++◌, Some, if◌then◌else◌, refl, sym, ap, ◌∙◌, subst, append-nil, append_assoc}
+use Rattle.std.proofs.Common.{◌≡◌, ◌⊎◌, inl, inr, ⊎_elim, ℕ, Bool, true, false, List, [], ◌∷◌, ◌++◌, Some, if◌then◌else◌, refl, sym, ap, ◌∙◌, subst, append-nil, append_assoc}
 use Rattle.std.specs.Prelude.{bytes_eq}
 use Rattle.std.proofs.lemmas.Option.{same_Some}
 use Rattle.std.proofs.lemmas.Slice.Eq.{bytes_eq-Decides}
 use Rattle.event_tree.specs.Events.{Ev}
-use Rattle.event_tree.specs.declared.lists.DeadPart.{DeadPart}
 use Rattle.pipeline_bus.specs.Parcels.{is_last, numbered, HasNextNumber}
 use Rattle.pipeline_bus.specs.declared.parcel.Answer.{Answer}
 use Rattle.pipeline_bus.specs.declared.parcel.Parcel.{Parcel}
@@ -12,9 +11,8 @@ use Rattle.pipeline_bus.proofs.Numbers.{numbered_more}
 use Rattle.foreign_parts.specs.declared.place.Place.TheVariants as place
 use Rattle.event_flow.specs.Meaning.{Makes, Due}
 use Rattle.event_flow.specs.Meaning as due
-use Rattle.dead_letters.specs.Appends.{kept_from}
 use Rattle.history_laws.specs.Contents.{Bytes}
-use Rattle.history_laws.specs.Entries.{Entry, Accept, Mark, Assure, Read, Back, Shed, Deliver, Letters, Ack, Purge, Adopt, Opened}
+use Rattle.history_laws.specs.Entries.{Entry, Deliver}
 use Rattle.history_laws.specs.Legal.{rejections}
 use Rattle.history_laws.specs.Links.{Listening, WasNext}
 use Rattle.history_laws.specs.Lists.{IsIn}
@@ -23,9 +21,9 @@ use Rattle.history_laws.specs.States.{start, after}
 use Rattle.history_laws.specs.Steps.{NoOpening}
 use Rattle.history_laws.proofs.Lists.{in_either}
 use Rattle.history_laws.proofs.Outs.{out_in}
-use Rattle.line_machine.specs.Effects.{shed_told, letters_told}
+use Rattle.line_machine.specs.Effects.{letters_told}
 use Rattle.line_machine.specs.Ends.{SenderView, MaySend, sender_at, change_sender, with_sent, with_heard}
-use Rattle.line_machine.specs.Finds.{IsHome}
+use Rattle.line_machine.specs.Finds.{AreUnused, IsHome}
 use Rattle.line_machine.specs.Sending.{SenderStands, SendersStand, ParcelsWereDue, OpenedParcelsWereDue}
 use Rattle.line_machine.specs.Openings.{opening}
 use Rattle.line_machine.specs.Stands.{Stands}
@@ -33,33 +31,7 @@ use Rattle.line_machine.specs.Steps as m
 use Rattle.line_machine.specs.Steps.{Step, effect, GoesOn}
 use Rattle.line_machine.specs.Views.{LineView}
 use Rattle.line_machine.proofs.Batches.{beside}
-
--- ---- no opening
-
-both_unopened : (told more : List Entry) → NoOpening told → NoOpening more → NoOpening (told ++ more)
-both_unopened [] more none rest = rest
-both_unopened (Accept input parcel number event ∷ told) more none rest = both_unopened told more none rest
-both_unopened (Mark front ∷ told) more none rest = both_unopened told more none rest
-both_unopened (Assure input front ∷ told) more none rest = both_unopened told more none rest
-both_unopened (Read batch generation numbers ∷ told) more none rest = both_unopened told more none rest
-both_unopened (Back batch verdicts ∷ told) more none rest = both_unopened told more none rest
-both_unopened (Shed batch older newer ∷ told) more none rest = both_unopened told more none rest
-both_unopened (Deliver batch at events fates ∷ told) more none rest = both_unopened told more none rest
-both_unopened (Letters batch letters ∷ told) more none rest = both_unopened told more none rest
-both_unopened (Ack batch ∷ told) more none rest = both_unopened told more none rest
-both_unopened (Purge page ∷ told) more none rest = both_unopened told more none rest
-both_unopened (Adopt generation config draws ∷ told) more none rest = both_unopened told more none rest
-both_unopened (Opened rows limit policy ∷ told) more none rest = absurd none
-
-shed_unopened : (n older : ℕ) (newer : List ℕ) (rest : List Entry) → NoOpening rest → NoOpening (shed_told n older newer ++ rest)
-shed_unopened n zero [] rest none = none
-shed_unopened n zero (x ∷ newer) rest none = none
-shed_unopened n (suc older) newer rest none = none
-
-letters_unopened : (n older : ℕ) (newer : List ℕ) (letters : List DeadPart) (rest : List Entry) → NoOpening rest → NoOpening ((shed_told n older newer ++ Letters n letters ∷ []) ++ rest)
-letters_unopened n zero [] letters rest none = none
-letters_unopened n zero (x ∷ newer) letters rest none = none
-letters_unopened n (suc older) newer letters rest none = none
+use Rattle.line_machine.proofs.Since.{both_unopened, unopened}
 
 -- ---- ends that send
 
@@ -110,9 +82,9 @@ module _ (makes : Makes) where
   quiet_still : (told : List Entry) (ss : List SenderView) → SendersStand makes told ss → SendersStand makes (told ++ []) ss
   quiet_still told ss are = still told [] ss tt are
 
-  with_none : (told : List Entry) (old new : List SenderView) → SendersStand makes told old → ((s : SenderView) → IsIn s new → s.sends.sent ≡ []) → SendersStand makes told (old ++ new)
+  with_none : (told : List Entry) (old new : List SenderView) → SendersStand makes told old → AreUnused new → SendersStand makes told (old ++ new)
   with_none told old new are none s has = ⊎_elim (λ (i : IsIn s old). are s i)
-      (λ (i : IsIn s new). record { in_turn = subst (λ ps. numbered 0 ps ≡ true) (sym (none s i)) start_numbered; due = λ p sent some. absurd (subst (IsIn p) (none s i) sent) }) (in_either s old new has)
+      (λ (i : IsIn s new). record { in_turn = subst (λ ps. numbered 0 ps ≡ true) (sym (none s i).0) start_numbered; due = λ p sent some. absurd (subst (IsIn p) (none s i).0 sent) }) (in_either s old new has)
 
 module _ (makes : Makes) (listening : Listening) (bytes : Bytes) (places : Places) (told : List Entry) (i : LineView places) (stands : Stands makes bytes places told i) (are : SendersStand makes told i.senders) where
   -- a parcel is sent whose events, if it has any, are due now
@@ -165,68 +137,31 @@ module _ (makes : Makes) (listening : Listening) (bytes : Bytes) (places : Place
       differs e = cc
 
   pub parcels_due : (x : Step makes listening bytes i) → GoesOn makes listening bytes i x → SendersStand makes (told ++ (effect makes listening bytes i x).told) (effect makes listening bytes i x).line.senders
-  parcels_due (m.Accepts n c r) on = still makes told _ i.senders tt are
   parcels_due (m.Accepts_in_doubt n c r) on = absurd on
-  parcels_due (m.Accepts_parcel n a r) on = still makes told _ i.senders tt are
   parcels_due (m.Accepts_parcel_in_doubt n a r) on = absurd on
-  parcels_due (m.Takes_alone n h address listens taken takers takes) on = quiet_still makes told i.senders are
-  parcels_due (m.Has_no_room n c) on = quiet_still makes told i.senders are
-  parcels_due (m.Has_no_number n c) on = quiet_still makes told i.senders are
-  parcels_due (m.Holds_none n h none) on = quiet_still makes told i.senders are
-  parcels_due (m.Is_at_its_end n h none) on = quiet_still makes told i.senders are
-  parcels_due (m.Fails_to_come n h came) on = quiet_still makes told i.senders are
-  parcels_due (m.Has_no_memory n h came) on = quiet_still makes told i.senders are
-  parcels_due (m.Reads t k) on = still makes told _ i.senders tt are
-  parcels_due (m.Works t k verdicts uses) on = still makes told _ i.senders tt are
-  parcels_due (m.Has_none_unread none) on = quiet_still makes told i.senders are
-  parcels_due (m.Has_no_kit none) on = quiet_still makes told i.senders are
-  parcels_due m.Fails_to_read on = absurd on
-  parcels_due (m.Keeps_a_batch t) on = quiet_still makes told i.senders are
-  parcels_due (m.Collects n a verdicts uses) on = still makes told _ i.senders tt are
-  parcels_due (m.Loses_a_result n a) on = quiet_still makes told i.senders are
   parcels_due (m.Tells n parts rest h a) on =
-      still makes told (letters_told n a.shed parts) i.senders (shed_unopened n a.shed.older a.shed.newer (Letters n (kept_from a.shed.newer 0 parts) ∷ []) tt) are
-  parcels_due (m.Gives n id at events rest h plain) on = still makes told _ i.senders tt are
-  parcels_due (m.Is_taken n id number events rest h fates fit none) on = still makes told _ i.senders tt are
+      still makes told (letters_told n a.shed parts) i.senders (unopened makes listening bytes i (m.Tells n parts rest h a)) are
   parcels_due (m.Is_rejected n id number events rest h fates fit some a) on =
-      let letters = kept_from a.shed.newer 0 (rejections h.batch.plan.config id fates events) in
       still makes told (letters_told n a.shed (rejections h.batch.plan.config id fates events) ++ Deliver n (place.Foreign number) events fates ∷ []) i.senders
-      (letters_unopened n a.shed.older a.shed.newer letters (Deliver n (place.Foreign number) events fates ∷ []) tt) are
-  parcels_due (m.Sends n id address events rest h none p is may) on =
+      (unopened makes listening bytes i (m.Is_rejected n id number events rest h fates fit some a)) are
+  parcels_due (m.Sends n id address events rest h none p is some may) on =
       quiet_still makes told (change_sender (with_sent p) address i.senders)
       (sent_more address p may (λ some. subst (WasNext makes address told) (sym is) (due_now n id address events rest h)))
-  parcels_due (m.Hears address a s has turn) on = quiet_still makes told (change_sender (with_heard a) address i.senders) (heard_more address a)
-  parcels_due (m.Is_heard n id address events rest h number sent was) on = still makes told _ i.senders tt are
-  parcels_due (m.Is_not_heard n id address events rest h number sent was) on = quiet_still makes told i.senders are
-  parcels_due (m.Waits n id address events rest h) on = quiet_still makes told i.senders are
-  parcels_due (m.Waits_for_a_box n id number events rest h) on = quiet_still makes told i.senders are
-  parcels_due (m.Sends_last address p last may) on =
+  parcels_due (m.Hears address a s has turn waits) on = quiet_still makes told (change_sender (with_heard a) address i.senders) (heard_more address a)
+  parcels_due (m.Sends_last address p last may ends) on =
       quiet_still makes told (change_sender (with_sent p) address i.senders) (sent_more address p may (λ some. last_none p p.events address last some))
-  parcels_due (m.Has_delivered_all n h) on = quiet_still makes told i.senders are
-  parcels_due (m.Fails_to_deliver n left h) on = absurd on
-  parcels_due (m.Acknowledges_it n h queue a) on = still makes told _ i.senders tt are
-  parcels_due (m.Marks front last is) on = still makes told _ i.senders tt are
+  parcels_due (m.Fails_to_deliver n left h f why printed out given took) on = absurd on
   parcels_due (m.Fails_to_mark is) on = absurd on
-  parcels_due (m.Assures n front h is) on = still makes told _ i.senders tt are
-  parcels_due (m.Fails_to_assure n h) on = absurd on
-  parcels_due (m.Purges h) on = still makes told _ i.senders tt are
-  parcels_due (m.Has_none_spent none) on = quiet_still makes told i.senders are
+  parcels_due (m.Fails_to_assure n front h marks) on = absurd on
   parcels_due (m.Fails_to_purge h) on = absurd on
-  parcels_due (m.Answers place t has may) on = quiet_still makes told i.senders are
-  parcels_due (m.Refuses place t has lost none) on = quiet_still makes told i.senders are
-  parcels_due (m.Has_no_answer place) on = quiet_still makes told i.senders are
-  parcels_due (m.Adopts c) on = still makes told _ (i.senders ++ c.new_senders) tt (with_none makes told i.senders c.new_senders are c.unsent)
-  parcels_due (m.Connects takers next_place new senders unsent) on = quiet_still makes told (i.senders ++ senders) (with_none makes told i.senders senders are unsent)
-  parcels_due (m.Releases place t has lost none) on = quiet_still makes told i.senders are
-  parcels_due m.Has_no_release on = quiet_still makes told i.senders are
-  parcels_due m.Makes_room on = quiet_still makes told i.senders are
-  parcels_due (m.Stops drains) on = quiet_still makes told i.senders are
-  parcels_due (m.Goes_on_with place) on = quiet_still makes told i.senders are
-  parcels_due (m.Is_skipped act cannot) on = quiet_still makes told i.senders are
+  parcels_due (m.Adopts c) on = still makes told _ (i.senders ++ c.new_senders) tt (with_none makes told i.senders c.new_senders are c.unused)
+  parcels_due (m.Connects takers next_place new listen senders unused) on = quiet_still makes told (i.senders ++ senders) (with_none makes told i.senders senders are unused)
+  parcels_due (m.Fails_at_once x fails) on = absurd on
+  parcels_due x on = still makes told _ i.senders (unopened makes listening bytes i x) are
 
 pub parcels_were_due : (makes : Makes) (listening : Listening) (bytes : Bytes) (places : Places) → ParcelsWereDue makes listening bytes places
 parcels_were_due makes listening bytes places told i x stands are on = parcels_due makes listening bytes places told i stands are x on
 
 pub opened_parcels_were_due : (makes : Makes) (listening : Listening) (bytes : Bytes) (places : Places) → OpenedParcelsWereDue makes listening bytes places
 opened_parcels_were_due makes listening bytes places told image sound i is =
-    with_none makes (told ++ opening makes listening bytes places told image sound i) [] i.senders (λ s has. absurd has) is.unsent
+    with_none makes (told ++ opening makes listening bytes places told image sound i) [] i.senders (λ s has. absurd has) is.unused

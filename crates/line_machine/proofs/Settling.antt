@@ -1,5 +1,5 @@
 -- Each step keeps what is recorded; and a line at rest is done.
-use Rattle.std.proofs.Common.{◌≡◌, ◌⊎◌, inl, inr, ⊎_elim, ℕ, zero, suc, ◌≤◌, ◌+◌, ◌&&◌, not, nat_le, Bool, true, false, List, [], ◌∷◌, ◌++◌, Option, Some, None, refl, sym, ap, ◌∙◌, subst, arith}
+use Rattle.std.proofs.Common.{◌≡◌, ◌⊎◌, inl, inr, ⊎_elim, ℕ, zero, suc, ◌≤◌, ◌+◌, ◌&&◌, not, nat_le, Bool, true, false, List, [], ◌∷◌, ◌++◌, map, Option, Some, None, refl, sym, ap, ◌∙◌, subst, arith}
 use Rattle.std.specs.Prelude.{⊤}
 use Rattle.std.proofs.lemmas.Bool.{cases_Bool}
 use Rattle.std.proofs.lemmas.Option.{same_Some}
@@ -8,6 +8,7 @@ use Rattle.event_tree.specs.Events.{Ev}
 use Rattle.pipeline_bus.specs.declared.parcel.Answer.{Answer}
 use Rattle.pipeline_bus.specs.declared.parcel.Parcel.{Parcel}
 use Rattle.foreign_parts.specs.declared.place.Place.TheVariants as place
+use Rattle.store_trait.specs.Images.{Image}
 use Rattle.event_flow.specs.Meaning.{Makes, Due}
 use Rattle.event_flow.specs.Meaning as due
 use Rattle.dead_letters.specs.Appends.{kept_from}
@@ -15,7 +16,9 @@ use Rattle.queue_laws.specs.Found.{Row, row_of}
 use Rattle.queue_laws.specs.Kept.{Queue, all_rows, Rising}
 use Rattle.queue_laws.specs.Steps.{marked, with_row, rolled}
 use Rattle.history_laws.specs.Contents.{Bytes}
+use Rattle.history_laws.specs.Deeds.{Deed, told_of}
 use Rattle.history_laws.specs.Entries.{Entry, ParcelAt, Accept, Mark, Assure, Read, Back, Shed, Deliver, Letters, Ack, Purge, Adopt, Opened}
+use Rattle.history_laws.specs.Holdings.{StopLeaves}
 use Rattle.history_laws.specs.Legal.{rejections}
 use Rattle.history_laws.specs.Links.{Listening}
 use Rattle.history_laws.specs.Lists.{IsIn}
@@ -30,15 +33,18 @@ use Rattle.history_laws.proofs.Opening.{among_in, in_among}
 use Rattle.history_laws.proofs.Unread.{numbers_same}
 use Rattle.line_machine.specs.Answering.{LinksStand}
 use Rattle.line_machine.specs.Effects.{shed_told, letters_told}
-use Rattle.line_machine.specs.Finds.{IsRowFor}
+use Rattle.line_machine.specs.Doing.{IsSent, DoesLegally}
+use Rattle.line_machine.specs.Coming.{WasAssured, InputsStand}
+use Rattle.line_machine.specs.Finds.{IsRowFor, HasEnded}
 use Rattle.line_machine.specs.Openings.{opening}
 use Rattle.line_machine.specs.Recorded.{AreRecorded, IsRecorded}
-use Rattle.line_machine.specs.Resting.{Settles, IsAtRest, IsDone, IsAtStop, IsStopped, RestIsDone, StopIsStopped, StepsSettle, OpenedLineSettles}
+use Rattle.line_machine.specs.Resting.{RowsAreAssured, TakenAreAnswered, SentAreAnswered, RestIsDone, StopIsStopped}
+use Rattle.line_machine.specs.Settling.{Settles, StepsSettle, OpenedLineSettles}
 use Rattle.line_machine.specs.Ends.{Waiting, TakerView}
 use Rattle.line_machine.specs.Stands.{AreBatchesOf, Stands}
 use Rattle.line_machine.specs.Steps as m
 use Rattle.line_machine.specs.Steps.{Step, effect, GoesOn}
-use Rattle.line_machine.specs.Views.{Batch, InputView, LineView}
+use Rattle.line_machine.specs.Views.{Batch, Incoming, RowAt, InputView, LineView}
 use Rattle.line_machine.proofs.Accounted.{IsOut, all_accounted, start_accounted}
 use Rattle.line_machine.proofs.Batches.{beside}
 use Rattle.line_machine.proofs.Recording.{acked_without, all_spent, nothing_kept, marked_recorded, recorded_without}
@@ -151,25 +157,13 @@ module _ (makes : Makes) (listening : Listening) (bytes : Bytes) (places : Place
   -- ---- the steps
 
   pub settle : (x : Step makes listening bytes i) → GoesOn makes listening bytes i x → Settles (after makes start (told ++ (effect makes listening bytes i x).told)) (effect makes listening bytes i x).line
-  settle (m.Accepts n c r) on = record { there = row_there c.by.input c.event r n None; recorded = λ covered. absurd (true_false covered); last = λ covered. absurd (true_false covered) }
+  settle (m.Accepts n c r) on = record { there = row_there c.by.input c.first.event r n None; recorded = λ covered. absurd (true_false covered); last = λ covered. absurd (true_false covered) }
   settle (m.Accepts_in_doubt n c r) on = absurd on
   settle (m.Accepts_parcel n a r) on = record { there = row_there a.by.input a.event r n (Some a.at); recorded = λ covered. absurd (true_false covered); last = λ covered. absurd (true_false covered) }
   settle (m.Accepts_parcel_in_doubt n a r) on = absurd on
-  settle (m.Takes_alone n h address listens taken takers takes) on = quiet_same _ refl refl refl
-  settle (m.Has_no_room n c) on = quiet_same _ refl refl refl
-  settle (m.Has_no_number n c) on = quiet_same _ refl refl refl
-  settle (m.Holds_none n h none) on = quiet_same _ refl refl refl
-  settle (m.Is_at_its_end n h none) on = quiet_same _ refl refl refl
-  settle (m.Fails_to_come n h came) on = quiet_same _ refl refl refl
-  settle (m.Has_no_memory n h came) on = quiet_same _ refl refl refl
   settle (m.Reads t k) on = same _ _ tt refl refl refl
   settle (m.Works t k verdicts uses) on = same _ _ tt refl refl refl
-  settle (m.Has_none_unread none) on = quiet_same _ refl refl refl
-  settle (m.Has_no_kit none) on = quiet_same _ refl refl refl
-  settle m.Fails_to_read on = absurd on
-  settle (m.Keeps_a_batch t) on = quiet_same _ refl refl refl
   settle (m.Collects n a verdicts uses) on = same _ _ tt refl refl refl
-  settle (m.Loses_a_result n a) on = quiet_same _ refl refl refl
   settle (m.Tells n parts rest h a) on = same (letters_told n a.shed parts) _ (shed_none n a.shed.older a.shed.newer (Letters n (kept_from a.shed.newer 0 parts) ∷ []) tt) refl refl refl
   settle (m.Gives n id at events rest h plain) on = same _ _ tt refl refl refl
   settle (m.Is_taken n id number events rest h fates are none) on = same _ _ tt refl refl refl
@@ -177,15 +171,8 @@ module _ (makes : Makes) (listening : Listening) (bytes : Bytes) (places : Place
       let letters = kept_from a.shed.newer 0 (rejections h.batch.plan.config id fates events) in
       same (letters_told n a.shed (rejections h.batch.plan.config id fates events) ++ Deliver n (place.Foreign number) events fates ∷ []) _
       (letters_none n a.shed.older a.shed.newer letters (Deliver n (place.Foreign number) events fates ∷ []) tt) refl refl refl
-  settle (m.Sends n id address events rest h none p may_be may) on = quiet_same _ refl refl refl
-  settle (m.Hears address a x has turn) on = quiet_same _ refl refl refl
   settle (m.Is_heard n id address events rest h number sent was) on = same _ _ tt refl refl refl
-  settle (m.Is_not_heard n id address events rest h number sent was) on = quiet_same _ refl refl refl
-  settle (m.Waits n id address events rest h) on = quiet_same _ refl refl refl
-  settle (m.Waits_for_a_box n id number events rest h) on = quiet_same _ refl refl refl
-  settle (m.Sends_last address p last may) on = quiet_same _ refl refl refl
-  settle (m.Has_delivered_all n h) on = quiet_same _ refl refl refl
-  settle (m.Fails_to_deliver n left h) on = absurd on
+  settle (m.Fails_to_deliver n left h f why printed out given took) on = absurd on
   settle (m.Acknowledges_it n h new a) on = record { there = acked_there; recorded = λ covered. absurd (true_false covered); last = λ covered. absurd (true_false covered) }
     where
       numbers_are : numbers_found h.batch.rows ≡ numbers_out (out_of n s.out)
@@ -205,7 +192,7 @@ module _ (makes : Makes) (listening : Listening) (bytes : Bytes) (places : Place
   }
   settle (m.Fails_to_mark marks) on = absurd on
   settle (m.Assures n front h marks) on = same _ _ tt refl refl refl
-  settle (m.Fails_to_assure n h) on = absurd on
+  settle (m.Fails_to_assure n front h marks) on = absurd on
   settle (m.Purges h) on = record {
     there = λ r has acked. acked_without h.page h.behind queue.top 0 0 h.before (subst (λ l. Rising 0 0 l queue.top) h.tails stands.holds.queue.is) r has
         (subst (λ l. IsIn r.number (acknowledged_in l queue.top)) h.tails
@@ -215,19 +202,10 @@ module _ (makes : Makes) (listening : Listening) (bytes : Bytes) (places : Place
         record { tails = recorded_without h.before h.behind h.page (subst AreRecorded h.tails all.tails); top = all.top; all = all.all };
     last = λ covered front marks. is.last covered front marks;
   }
-  settle (m.Has_none_spent none) on = quiet_same _ refl refl refl
   settle (m.Fails_to_purge h) on = absurd on
-  settle (m.Answers place t has may) on = quiet_same _ refl refl refl
-  settle (m.Refuses place t has lost none) on = quiet_same _ refl refl refl
-  settle (m.Has_no_answer place) on = quiet_same _ refl refl refl
   settle (m.Adopts c) on = same _ _ tt refl refl refl
-  settle (m.Connects takers next_place are senders unsent) on = quiet_same _ refl refl refl
-  settle (m.Releases place t has lost none) on = quiet_same _ refl refl refl
-  settle m.Has_no_release on = quiet_same _ refl refl refl
-  settle m.Makes_room on = quiet_same _ refl refl refl
-  settle (m.Stops drains) on = quiet_same _ refl refl refl
-  settle (m.Goes_on_with place) on = quiet_same _ refl refl refl
-  settle (m.Is_skipped act cannot) on = quiet_same _ refl refl refl
+  settle (m.Fails_at_once x fails) on = absurd on
+  settle x on = quiet_same _ refl refl refl
 
 pub steps_settle : (makes : Makes) (listening : Listening) (bytes : Bytes) (places : Places) → StepsSettle makes listening bytes places
 steps_settle makes listening bytes places told i x stands is on = settle makes listening bytes places told i stands is x on
@@ -304,42 +282,51 @@ module _ (makes : Makes) (listening : Listening) (bytes : Bytes) (places : Place
       (cases_Bool (is_among w.number s.read)))
       (cases_Bool (is_among w.number s.acknowledged))
 
-  -- behind a mark that covers all, no row has a number above its front
-  all_up_to : Settles (after makes start told) i → i.uncovered ≡ false → (front : ℕ) → i.mark ≡ Some front → (w : Written) → IsIn w (after makes start told).rows → w.number ≤ front
-  all_up_to is covered front marks w known =
-      let below = (all_sane makes start told stands.holds.legal start_sane).numbered.below w known in
-      let low = stands.holds.queue.low in
-      let last = is.last covered front marks in
-      omega (arith, below, low, last)
-
-  pub rest_done : Settles (after makes start told) i → LinksStand makes listening told i.takers i.next_place → IsAtRest i → IsDone makes listening bytes places told i
-  rest_done is links rest = record {
-    rows = all_acked rest.batches rest.unread;
-    out = none_out i.batches (after makes start told).out stands.knows.batches rest.batches;
-    found = λ image left.
-        let recorded = is.recorded rest.covered in
-        nothing_kept i.holds.queue 0 0 i.holds.queue.tails left.queue.held.rows left.queue.held.next stands.holds.queue.is recorded.tails recorded.top
-        (all_spent 0 0 i.holds.queue.tails i.holds.queue.top stands.holds.queue.is recorded.tails recorded.top there) left.queue.kept;
-    inputs = rest.inputs;
-    assured = λ v has open_now front marks w known. let least = rest.assured v has open_now front marks in let most = all_up_to is rest.covered front marks w known in omega (arith, least, most);
-    answered = λ t has p taken some. by_account t (rest.answered t has) p ((links.each t has).accounted p taken some);
-  }
+  -- nothing is found where all is acknowledged, and that is recorded
+  none_found : Settles (after makes start told) i → i.uncovered ≡ false → i.batches ≡ [] → i.kept ++ i.unread ≡ [] → (image : Image) → (left : StopLeaves makes bytes places told i.holds image) → left.queue.held.rows ≡ []
+  none_found is covered batches none image left =
+      let recorded = is.recorded covered in
+      nothing_kept i.holds.queue 0 0 i.holds.queue.tails left.queue.held.rows left.queue.held.next stands.holds.queue.is recorded.tails recorded.top
+      (all_spent 0 0 i.holds.queue.tails i.holds.queue.top stands.holds.queue.is recorded.tails recorded.top there) left.queue.kept
     where
       there : (r : Row) → IsIn r (all_rows i.holds.queue.tails i.holds.queue.top) → IsIn r.number (acknowledged_in i.holds.queue.tails i.holds.queue.top)
       there r has =
           let known = stands.holds.queue.known r has in
-          is.there r has (subst (λ n. IsIn n (after makes start told).acknowledged) (sym known.2.number) (all_acked rest.batches rest.unread known.0 known.1))
+          is.there r has (subst (λ n. IsIn n (after makes start told).acknowledged) (sym known.2.number) (all_acked batches none known.0 known.1))
 
-  pub stop_stopped : Settles (after makes start told) i → LinksStand makes listening told i.takers i.next_place → IsAtStop i → IsStopped makes listening bytes places told i
-  stop_stopped is links stop = record {
-    marked = λ front marks w known. let most = all_up_to is stop.covered front marks w known in let same = stands.knows.mark front marks in omega (arith, most, same);
-    assured = λ v has open_now front marks w known. let least = stop.assured v has open_now front marks in let most = all_up_to is stop.covered front marks w known in omega (arith, least, most);
-    rows = λ drains. let drained = stop.drained drains in all_acked drained.0 drained.1;
-    answered = λ drains t has p taken some. by_account t ((stop.drained drains).2 t has) p ((links.each t has).accounted p taken some);
-  }
+  -- inputs were told of all rows of which none is left
+  all_assured : (came : ℕ → List Incoming) → InputsStand listening told came i → ((v : InputView) → IsIn v i.inputs → v.rows ≡ []) → RowsAreAssured listening told i
+  all_assured came are none v has opens lines r known =
+      ⊎_elim (λ (was : WasAssured told v.number r.number). was)
+      (λ (kept : IsIn r.number (map (λ (x : RowAt). x.number) v.rows)). absurd (subst (λ rs. IsIn r.number (map (λ (x : RowAt). x.number) rs)) (none v has) kept))
+      ((are.each v has opens lines).known r known)
+
+  -- and parcels have their answers where none waits, and no batch waits for one
+  sent_answered : (deeds : List Deed) → DoesLegally makes deeds i.batches i.senders → i.batches ≡ [] → SentAreAnswered i
+  sent_answered deeds are none address s at p sent some =
+      ⊎_elim (λ (a : (a : Answer) × IsIn a s.sends.heard × (a.number ≡ p.number)). a)
+      (λ (b : (b : Batch) × IsIn b i.batches × IsSent b address p.number). absurd (nowhere b.0 i.batches none b.1)) (are.heard address s at p sent some)
+
+  taken_answered : LinksStand makes listening told i.takers i.next_place → HasEnded listening i → TakenAreAnswered i
+  taken_answered links ended t has served p taken some = by_account t (ended.answered t has served).0 p ((links.each t has).accounted p taken some)
 
 pub rest_is_done : (makes : Makes) (listening : Listening) (bytes : Bytes) (places : Places) → RestIsDone makes listening bytes places
-rest_is_done makes listening bytes places told i stands is links rest = rest_done makes listening bytes places told i stands is links rest
+rest_is_done makes listening bytes places deeds came i line rest = record {
+  rows = all_acked makes listening bytes places (told_of deeds) i line.stands rest.ended.batches rest.ended.unread;
+  out = none_out i.batches (after makes start (told_of deeds)).out line.stands.knows.batches rest.ended.batches;
+  found = none_found makes listening bytes places (told_of deeds) i line.stands line.settles rest.covered rest.ended.batches rest.ended.unread;
+  inputs = rest.ended.inputs;
+  assured = all_assured makes listening bytes places (told_of deeds) i line.stands came line.inputs rest.assured;
+  taken = taken_answered makes listening bytes places (told_of deeds) i line.stands line.links rest.ended;
+  sent = sent_answered makes listening bytes places (told_of deeds) i line.stands deeds line.senders rest.ended.batches;
+}
 
 pub stop_is_stopped : (makes : Makes) (listening : Listening) (bytes : Bytes) (places : Places) → StopIsStopped makes listening bytes places
-stop_is_stopped makes listening bytes places told i stands is links stop = stop_stopped makes listening bytes places told i stands is links stop
+stop_is_stopped makes listening bytes places deeds came i line stop = record {
+  marked = λ n has. let covered = (line.rows n has).1 stop.covered in let front = line.stands.knows.mark covered.0 covered.1 in let most = covered.2 in omega (arith, front, most);
+  assured = all_assured makes listening bytes places (told_of deeds) i line.stands came line.inputs stop.assured;
+  rows = λ drains. let ended = stop.drained drains in all_acked makes listening bytes places (told_of deeds) i line.stands ended.batches ended.unread;
+  recorded = λ drains. let ended = stop.drained drains in none_found makes listening bytes places (told_of deeds) i line.stands line.settles stop.covered ended.batches ended.unread;
+  taken = λ drains. taken_answered makes listening bytes places (told_of deeds) i line.stands line.links (stop.drained drains);
+  sent = λ drains. sent_answered makes listening bytes places (told_of deeds) i line.stands deeds line.senders (stop.drained drains).batches;
+}

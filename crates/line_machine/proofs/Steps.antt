@@ -1,7 +1,8 @@
 -- Each step of the machine leaves the line where its history does.
-use Rattle.std.proofs.Common.{◌≡◌, inl, inr, Bool, true, ℕ, List, [], ◌∷◌, ◌++◌, length, Some, None, refl, sym, ap, subst, append-nil, append_assoc}
+use Rattle.std.proofs.Common.{◌≡◌, ◌∙◌, inl, inr, Bool, true, ℕ, List, [], ◌∷◌, ◌++◌, length, Some, None, refl, sym, ap, subst, append-nil, append_assoc}
 use Rattle.std.specs.Prelude.{⊤}
 use Rattle.event_tree.specs.Events.{Ev}
+use Rattle.store_trait.specs.Images.{Image}
 use Rattle.foreign_parts.specs.declared.filter.Verdict.{Verdict}
 use Rattle.foreign_parts.specs.declared.place.Place.{Place}
 use Rattle.foreign_parts.specs.declared.place.Place.TheVariants as place
@@ -11,7 +12,7 @@ use Rattle.queue_laws.specs.Kept.{Queue}
 use Rattle.queue_laws.specs.Steps.{marked}
 use Rattle.history_laws.specs.Contents.{Bytes, bytes_at, is_file}
 use Rattle.history_laws.specs.Entries.{Entry, ParcelAt, Read, Back}
-use Rattle.history_laws.specs.Holdings.{HoldsTold}
+use Rattle.history_laws.specs.Holdings.{HoldsTold, StopLeaves}
 use Rattle.history_laws.specs.Inputs.{AreInputs}
 use Rattle.history_laws.specs.Legal.{rejections, FatesFit}
 use Rattle.history_laws.specs.Links.{Listening}
@@ -19,14 +20,16 @@ use Rattle.history_laws.specs.Lists.{IsIn}
 use Rattle.history_laws.specs.Queues.{IsQueueAt, AreRowsOf}
 use Rattle.history_laws.specs.Sound.{Places}
 use Rattle.history_laws.specs.States.{Out, State, numbers_found, start, unread, after}
-use Rattle.line_machine.specs.Effects.{Effect, quiet, nothing, in_doubt, in_part, holds_more, held_now, ended_now, without_kit, in_parcel, new_batch, with_batch, back_with, home_with, reading, working, collecting, losing, telling, giving, boxing, rejecting, hearing, acknowledging, marking, assuring, purging, adopting, accepting_line, accepting_parcel}
+use Rattle.line_machine.specs.Effects.{Effect, MayLeave, Before, On_the_way, Behind, with_queue, quiet, nothing, in_doubt, in_part, holds_more, held_now, accepted_now, ended_now, without_kit, in_parcel, new_batch, with_batch, back_with, home_with, reading, working, collecting, losing, telling, giving, boxing, rejecting, hearing, failing, acknowledging, marking, assuring, failing_to_assure, purging, adopting, accepting_line, accepting_parcel}
 use Rattle.line_machine.specs.Finds.{IsPlain, HasInput, TakesRows, Uses, without_page}
 use Rattle.line_machine.specs.Ends.{TakerView, SenderView, without_taker, change_sender, with_sent, with_heard, change_taker, row_made, assured, refused}
+use Rattle.line_machine.specs.declared.calls.Call.{Call}
+use Rattle.line_machine.specs.Answers.{IsPart, Parts, None_before, First}
 use Rattle.line_machine.specs.Laws.{FollowsAs, StepsFollow, CallsFollow}
 use Rattle.line_machine.specs.Stands.{IsBatchOf, Knows, Stands}
 use Rattle.line_machine.specs.Steps as m
 use Rattle.line_machine.specs.Steps.{Step, effect, GoesOn}
-use Rattle.line_machine.specs.Views.{Kit, InputView, Batch, LineView, input_of, change_input, change_batch}
+use Rattle.line_machine.specs.Views.{Kit, Incoming, InputView, Batch, LineView, input_of, change_input, change_batch}
 use Rattle.line_machine.proofs.Arrives.{arrives, arrives_quietly}
 use Rattle.line_machine.proofs.Batches.{changed_one, changed_below, last_found, last_changed}
 use Rattle.line_machine.proofs.Deliveries.{gives, tells, rejects}
@@ -52,7 +55,7 @@ module _ (makes : Makes) (listening : Listening) (bytes : Bytes) (places : Place
   }
 
   -- more is held there
-  with_more : (n : ℕ) (h : HasInput i n) (came : List Ev) (well : Type 0) → FollowsAs makes bytes places told i (holds_more i n h came) well
+  with_more : (n : ℕ) (h : HasInput i n) (came : List Incoming) (well : Type 0) → FollowsAs makes bytes places told i (holds_more i n h came) well
   with_more n h came well =
       arrives_quietly makes bytes places told i (holds_more i n h came) well stands refl refl (λ q has. absurd has)
       (λ w. (refl, with_input (held_now (h.input.held ++ came)) (λ v. refl) n))
@@ -202,12 +205,12 @@ module _ (makes : Makes) (listening : Listening) (bytes : Bytes) (places : Place
   follow : (x : Step makes listening bytes i) → FollowsAs makes bytes places told i (effect makes listening bytes i x) (GoesOn makes listening bytes i x)
   follow (m.Accepts n c r) =
       told_well (accepting_line listening i n c r) _
-      (t.accepts makes listening bytes places told i stands c.by.input c.event r n c.by.has None (inl c.is_open) (change_input (held_now c.rest) n i.inputs)
-      (inputs_same (held_now c.rest) (λ v. refl) n i.inputs) i.takers) refl (t.ways_at makes listening bytes places told i stands c.by.input c.event r)
+      (t.accepts makes listening bytes places told i stands c.by.input c.first.event r n c.by.has None (inl c.reads.is_open) (change_input (accepted_now c.rest (record { number = r.row.number; at = c.first.at })) n i.inputs)
+      (inputs_same (accepted_now c.rest (record { number = r.row.number; at = c.first.at })) (λ v. refl) n i.inputs) i.takers) refl (t.ways_at makes listening bytes places told i stands c.by.input c.first.event r)
   follow (m.Accepts_in_doubt n c r) =
       arrives makes bytes places told i (in_doubt i (accepting_line listening i n c r)) ⊥ stands.holds
-      (t.accepts makes listening bytes places told i stands c.by.input c.event r n c.by.has None (inl c.is_open) (change_input (held_now c.rest) n i.inputs)
-      (inputs_same (held_now c.rest) (λ v. refl) n i.inputs) i.takers).holds (t.ways_at makes listening bytes places told i stands c.by.input c.event r) (λ never. absurd never)
+      (t.accepts makes listening bytes places told i stands c.by.input c.first.event r n c.by.has None (inl c.reads.is_open) (change_input (accepted_now c.rest (record { number = r.row.number; at = c.first.at })) n i.inputs)
+      (inputs_same (accepted_now c.rest (record { number = r.row.number; at = c.first.at })) (λ v. refl) n i.inputs) i.takers).holds (t.ways_at makes listening bytes places told i stands c.by.input c.first.event r) (λ never. absurd never)
   follow (m.Accepts_parcel n a r) =
       told_well (accepting_parcel listening i n a r) _
       (t.accepts makes listening bytes places told i stands a.by.input a.event r n a.by.has (Some a.at) (inr (some_none a.at)) i.inputs refl (change_taker (row_made a.at.number r.row.number) a.at.place a.takers)) refl
@@ -219,16 +222,12 @@ module _ (makes : Makes) (listening : Listening) (bytes : Bytes) (places : Place
   follow (m.Takes_alone n h address listens taken takers takes) = same_but_ends takers
   follow (m.Has_no_room n c) = with_more n c.by c.came _
   follow (m.Has_no_number n c) = with_more n c.by c.came _
-  follow (m.Holds_none n h none) = as_it_was (nothing i) _ refl refl refl none_on_the_way
-  follow (m.Is_at_its_end n h none) =
+  follow (m.Is_at_its_end n h opens lines none) =
       arrives_quietly makes bytes places told i (quiet i (record i { inputs = change_input ended_now n i.inputs })) _ stands refl refl none_on_the_way (λ w. (refl, with_input ended_now (λ v. refl) n))
-  follow (m.Fails_to_come n h came) = with_more n h came _
-  follow (m.Has_no_memory n h came) = with_more n h came _
+  follow (m.Fails_to_come n h reads came) = with_more n h came _
+  follow (m.Has_no_memory n h reads came) = with_more n h came _
   follow (m.Reads r k) = told_well (reading i r k) _ (t.reads_it makes listening bytes places told i stands r (Some k.kit) (k.front ++ k.back)) refl none_on_the_way
   follow (m.Works r k verdicts uses) = told_well (working makes i r verdicts) _ (works r verdicts uses) refl none_on_the_way
-  follow (m.Has_none_unread none) = as_it_was (nothing i) _ refl refl refl none_on_the_way
-  follow (m.Has_no_kit none) = as_it_was (nothing i) _ refl refl refl none_on_the_way
-  follow m.Fails_to_read = as_it_was (nothing i) _ refl refl refl none_on_the_way
   follow (m.Keeps_a_batch r) =
       arrives_quietly makes bytes places told i (quiet i (record i { kept = r.rows; unread = r.rest })) _ stands refl refl none_on_the_way (λ w. (refl, kept_batch r))
   follow (m.Collects n a verdicts uses) =
@@ -247,17 +246,14 @@ module _ (makes : Makes) (listening : Listening) (bytes : Bytes) (places : Place
   follow (m.Is_rejected n id number events rest h fates are some a) =
       told_well (rejecting i n number events fates rest (rejections h.batch.plan.config id fates events) a) _
       (rejects makes listening bytes places told i stands n id number events rest h fates are some a.new a.shed.older a.shed.newer a.appends) refl none_on_the_way
-  follow (m.Sends n id address events rest h none p is may) = parcel_changed n (in_parcel (Some p.number)) (λ b o is. record { number = is.number; plan = is.plan; rows = is.rows; verdicts = is.verdicts; left = is.left }) (λ b. refl) (change_sender (with_sent p) address i.senders)
-  follow (m.Hears address a s has turn) = parcel_changed_none (change_sender (with_heard a) address i.senders)
+  follow (m.Sends n id address events rest h none p is some may) = parcel_changed n (in_parcel (Some p.number)) (λ b o is. record { number = is.number; plan = is.plan; rows = is.rows; verdicts = is.verdicts; left = is.left }) (λ b. refl) (change_sender (with_sent p) address i.senders)
+  follow (m.Hears address a s has turn waits) = parcel_changed_none (change_sender (with_heard a) address i.senders)
   follow (m.Is_not_heard n id address events rest h number is was) = parcel_changed n (in_parcel None) (λ b o is. record { number = is.number; plan = is.plan; rows = is.rows; verdicts = is.verdicts; left = is.left }) (λ b. refl) i.senders
-  follow (m.Waits n id address events rest h) = as_it_was (nothing i) _ refl refl refl none_on_the_way
-  follow (m.Waits_for_a_box n id number events rest h) = as_it_was (nothing i) _ refl refl refl none_on_the_way
-  follow (m.Sends_last address p last may) = parcel_changed_none (change_sender (with_sent p) address i.senders)
+  follow (m.Sends_last address p last may ends) = parcel_changed_none (change_sender (with_sent p) address i.senders)
   follow (m.Is_heard n id address events rest h number is was) =
       told_well (hearing i n address events rest) _
       (gives makes listening bytes places told i stands n id (place.Address address) events [] rest h refl refl i.holds.content (λ file m. sym (append-nil (i.holds.content file m)))) refl none_on_the_way
-  follow (m.Has_delivered_all n h) = as_it_was (nothing i) _ refl refl refl none_on_the_way
-  follow (m.Fails_to_deliver n left h) = as_it_was (nothing i) _ refl refl refl none_on_the_way
+  follow (m.Fails_to_deliver n left h f why printed out given took) = as_it_was (failing i printed given) _ refl refl refl none_on_the_way
   follow (m.Acknowledges_it n h queue a) =
       told_well (acknowledging i n queue (length h.batch.rows)) _ (t.acknowledges makes listening bytes places told i stands n h queue a) refl none_on_the_way
   follow (m.Marks front last is) =
@@ -265,29 +261,52 @@ module _ (makes : Makes) (listening : Listening) (bytes : Bytes) (places : Place
       (λ q has. one_on_the_way (marked i.holds.queue) q (t.marked_at makes listening bytes places told i stands is) has)
   follow (m.Fails_to_mark is) =
       as_it_was (in_part i (marked i.holds.queue)) _ refl refl refl (λ q has. one_on_the_way (marked i.holds.queue) q (t.marked_at makes listening bytes places told i stands is) has)
-  follow (m.Assures n front h is) = told_well (assuring i n front) _ (t.assures makes listening bytes places told i stands n front is) refl none_on_the_way
-  follow (m.Fails_to_assure n h) = as_it_was (nothing i) _ refl refl refl none_on_the_way
+  follow (m.Assures n front h is) = told_well (assuring i n h front) _ (t.assures makes listening bytes places told i stands n front is) refl none_on_the_way
+  follow (m.Fails_to_assure n front h marks) = as_it_was (failing_to_assure i n h front) _ refl refl refl none_on_the_way
   follow (m.Purges h) =
       told_well (purging i h) _ (t.purges makes listening bytes places told i stands h) refl
       (λ q has. one_on_the_way (without_page i.holds.queue h) q (t.purged_at makes listening bytes places told i stands h) has)
-  follow (m.Has_none_spent none) = as_it_was (nothing i) _ refl refl refl none_on_the_way
   follow (m.Fails_to_purge h) =
       as_it_was (in_part i (without_page i.holds.queue h)) _ refl refl refl (λ q has. one_on_the_way (without_page i.holds.queue h) q (t.purged_at makes listening bytes places told i stands h) has)
   follow (m.Answers place t has may) = same_but_ends (change_taker (assured may.oldest.number may.rest) place i.takers)
-  follow (m.Refuses place t has lost none) = same_but_ends (change_taker refused place i.takers)
-  follow (m.Has_no_answer place) = as_it_was (nothing i) _ refl refl refl none_on_the_way
-  follow (m.Connects takers next_place are senders unsent) = both_ends (i.takers ++ takers) next_place (i.senders ++ senders)
-  follow (m.Releases place t has lost none) = same_but_ends (without_taker place i.takers)
-  follow m.Has_no_release = as_it_was (nothing i) _ refl refl refl none_on_the_way
-  follow m.Makes_room = as_it_was (nothing i) _ refl refl refl none_on_the_way
+  follow (m.Refuses place t has may) = same_but_ends (change_taker (refused may.rest) place i.takers)
+  follow (m.Connects takers next_place are listen senders unused) = both_ends (i.takers ++ takers) next_place (i.senders ++ senders)
+  follow (m.Releases place t has free) = same_but_ends (without_taker place i.takers)
   follow (m.Stops drains) = arrives_quietly makes bytes places told i (quiet i (record i { stopped = true; drains = drains })) _ stands refl refl none_on_the_way (λ w. (refl, stopped_knows true drains i.going))
-  follow (m.Goes_on_with place) = arrives_quietly makes bytes places told i (quiet i (record i { going = place ∷ i.going })) _ stands refl refl none_on_the_way (λ w. (refl, stopped_knows i.stopped i.drains (place ∷ i.going)))
-  follow (m.Is_skipped act cannot) = as_it_was (nothing i) _ refl refl refl none_on_the_way
-  follow (m.Adopts c) = told_well (adopting i c) _ (t.adopts makes listening bytes places told i stands c) refl none_on_the_way
+  follow (m.Goes_on_with place t has) = arrives_quietly makes bytes places told i (quiet i (record i { going = place ∷ i.going })) _ stands refl refl none_on_the_way (λ w. (refl, stopped_knows i.stopped i.drains (place ∷ i.going)))
+  follow (m.Adopts c) = told_well (adopting listening i c) _ (t.adopts makes listening bytes places told i stands c) refl none_on_the_way
+  follow (m.Leaves_all x leaves) = as_it_was (nothing i) _ refl refl refl none_on_the_way
+  follow (m.Fails_at_once x fails) = as_it_was (nothing i) _ refl refl refl none_on_the_way
 
 pub steps_follow : (makes : Makes) (listening : Listening) (bytes : Bytes) (places : Places) → StepsFollow makes bytes places listening
 steps_follow makes listening bytes places told i x stands = follow makes listening bytes places told i stands x
 
+-- ---- calls of several steps
+
+module _ (makes : Makes) (listening : Listening) (bytes : Bytes) (places : Places) (told : List Entry) where
+  -- a step before the last leaves the line where its history is, and its places as they are
+  part_stands : (x : Call) (i : LineView places) (s : Step makes listening bytes i) → IsPart makes listening bytes i s x → Stands makes bytes places told i
+      → Stands makes bytes places (told ++ []) (effect makes listening bytes i s).line × ((effect makes listening bytes i s).line.holds ≡ i.holds)
+  part_stands x i (m.Sends n id address events rest h none p is some may) part stands =
+      ((follow makes listening bytes places told i stands (m.Sends n id address events rest h none p is some may)).stands tt, refl)
+  part_stands x i (m.Hears address a s has turn waits) part stands = ((follow makes listening bytes places told i stands (m.Hears address a s has turn waits)).stands tt, refl)
+  part_stands x i (m.Sends_last address p last may ends) part stands = ((follow makes listening bytes places told i stands (m.Sends_last address p last may ends)).stands tt, refl)
+  part_stands x i s part stands = absurd part
+
+  parts_stand : (x : Call) (i j : LineView places) → Parts makes listening bytes x i j → Stands makes bytes places told i → Stands makes bytes places told j × (j.holds ≡ i.holds)
+  parts_stand x i j (None_before _) stands = (stands, refl)
+  parts_stand x i j (First _ _ s part parts) stands =
+      let first = part_stands x i s part stands in
+      let rest = parts_stand x (effect makes listening bytes i s).line j parts (subst (λ l. Stands makes bytes places l (effect makes listening bytes i s).line) (append-nil told) first.0) in
+      (rest.0, rest.1 ∙ first.1)
+
+  may_leave : (i j : LineView places) (e : Effect places) (image : Image) → j.holds ≡ i.holds → MayLeave makes bytes places told i e image → MayLeave makes bytes places told j e image
+  may_leave i j e image same (Before left) = Before (subst (λ h. StopLeaves makes bytes places told h image) (sym same) left)
+  may_leave i j e image same (On_the_way q has left) = On_the_way q has (subst (λ h. StopLeaves makes bytes places told (with_queue q h) image) (sym same) left)
+  may_leave i j e image same (Behind left) = Behind left
+
 pub calls_follow : (makes : Makes) (listening : Listening) (bytes : Bytes) (places : Places) → CallsFollow makes bytes places listening
 calls_follow makes listening bytes places told i x e stands did =
-    subst (λ y. FollowsAs makes bytes places told i y (GoesOn makes listening bytes i did.step)) (sym did.effect_is) (follow makes listening bytes places told i stands did.step)
+    let parts = parts_stand makes listening bytes places told x i did.line did.before stands in
+    let last = subst (λ y. FollowsAs makes bytes places told did.line y (GoesOn makes listening bytes did.line did.step)) (sym did.effect_is) (follow makes listening bytes places told did.line parts.0 did.step) in
+    record { legal = last.legal; holds = last.holds; images = λ image left. last.images image (may_leave makes listening bytes places told i did.line e image parts.1 left); stands = last.stands }

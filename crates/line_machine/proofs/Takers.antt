@@ -76,6 +76,16 @@ taker_in place t (x ∷ ts) has = by_test (taker_in place t ts) (place == x.plac
         (inl (sym same), sym (ap (λ (y : TakerView). y.place) same) ∙ sym (eqb-true place x.place test))
     by_test rest false test is = let more = rest is in (inr more.0, more.1)
 
+-- one that is there is found by its place, where they are apart
+pub taker_found : (t : TakerView) (ts : List TakerView) → AreApart ts → IsIn t ts → taker_at t.place ts ≡ Some t
+taker_found t [] apart has = absurd has
+taker_found t (x ∷ ts) apart (inl e) = ap (λ (b : Bool). if b then Some x else taker_at t.place ts) (eq-eqb t.place x.place (ap (λ (y : TakerView). y.place) e)) ∙ ap Some (sym e)
+taker_found t (x ∷ ts) apart (inr i) = by_test (t.place == x.place) refl (taker_found t ts apart.1 i)
+  where
+    by_test : (b : Bool) → (t.place == x.place) ≡ b → taker_at t.place ts ≡ Some t → (if b then Some x else taker_at t.place ts) ≡ Some t
+    by_test true test rest = absurd (apart.0 t i (eqb-true t.place x.place test))
+    by_test false test rest = rest
+
 -- ---- lists of parcels that wait
 
 module _ (f : Waiting → Waiting) (keeps : (w : Waiting) → (f w).number ≡ w.number) (n : ℕ) where
@@ -385,27 +395,27 @@ module _ (makes : Makes) (listening : Listening) where
           rise_zero from (n ∷ ns) rise = (omega arith, rise.1)
 
     -- a parcel that wasn't taken is refused
-    module _ (none : t.waits ≡ []) where
+    module _ (rest : List Parcel) (none : t.waits ≡ []) where
       abbrev refusal : Answer
       refusal = record { number = t.next; answer = NotListening }
 
       either_refusal : (a : Answer) → IsIn a (t.given ++ refusal ∷ []) → IsIn a t.given ⊎ (a ≡ refusal)
       either_refusal a has = ⊎_elim (λ (i : IsIn a t.given). inl i) (λ (i : IsIn a (refusal ∷ [])). ⊎_elim (λ (e : a ≡ refusal). inr e) (λ (never : ⊥). absurd never) i) (in_either a t.given (refusal ∷ []) has)
 
-      kept_answer : (number : ℕ) (h : Heard) → MayAnswer makes listening told (own_link t) number h → MayAnswer makes listening told (own_link (refused t)) number h
+      kept_answer : (number : ℕ) (h : Heard) → MayAnswer makes listening told (own_link t) number h → MayAnswer makes listening told (own_link (refused rest t)) number h
       kept_answer number Assured was = record { parcel = was.parcel; is_taken = was.is_taken; number_is = was.number_is; some = was.some; whole = was.whole; settled = was.settled }
       kept_answer number NotListening was = was
 
       no_waiting : (w : Waiting) → IsIn w t.waits → ⊥
       no_waiting w has = subst (IsIn w) none has
 
-      pub refused_stands : TakerStands makes listening told (refused t)
+      pub refused_stands : TakerStands makes listening told (refused rest t)
       refused_stands = record {
         sound = record {
           made = is.sound.made;
           known = is.sound.known;
           answers = λ a has. ⊎_elim (λ (i : IsIn a t.given). kept_answer a.number a.answer (is.sound.answers a i))
-              (λ (e : a ≡ refusal). subst (λ (x : Answer). MayAnswer makes listening told (own_link (refused t)) x.number x.answer) (sym e)
+              (λ (e : a ≡ refusal). subst (λ (x : Answer). MayAnswer makes listening told (own_link (refused rest t)) x.number x.answer) (sym e)
               (λ q taken some same. let less = is.taken_next q taken some in omega (arith, less, same), none_yet)) (either_refusal a has);
         };
         waits = λ w has. absurd (no_waiting w has);

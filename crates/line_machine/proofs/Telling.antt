@@ -292,12 +292,12 @@ module _ (makes : Makes) (listening : Listening) (bytes : Bytes) (places : Place
       let same = same_Some p i.plan e in
       (λ c. differs (c ∙ ap (λ (x : Plan). x.config) same), next_is ∙ ap (λ (x : Plan). x.generation + 1) (sym same))
 
-  module _ (c : Changes i) where
-    pub adopts : Stands makes bytes places (told ++ Adopt c.plan.generation c.plan.config c.plan.draws ∷ []) (adopted i c)
+  module _ (c : Changes listening i) where
+    pub adopts : Stands makes bytes places (told ++ Adopt c.plan.generation c.plan.config c.plan.draws ∷ []) (adopted listening i c)
     adopts =
         let e = Adopt c.plan.generation c.plan.config c.plan.draws in
         let legal : Legal_at makes s e = (opened_by s.limits stands.knows.limits, stands.knows.between, may_adopt c.plan.generation c.plan.config c.differs c.generation s.plans stands.knows.running) in
-        one_entry makes bytes places told e i (adopted i c) stands legal
+        one_entry makes bytes places told e i (adopted listening i c) stands legal
         (record { queue = others_leave_it makes s i.holds.queue e tt stands.holds.queue; files = λ file m. refl; dead = refl }) (record {
           running = refl;
           between = stands.knows.between;

@@ -1,73 +1,49 @@
 -- Which call a step is, and what it answers.
-use Rattle.std.specs.Prelude.{◌≡◌, ◌⊎◌, ℕ, ◌<◌, Bool, true, false, List, length, Some, None, Ok, Err}
-use Rattle.plain_data.specs.declared.text.Text.{Text}
+use Rattle.std.specs.Prelude.{◌≡◌, ◌⊎◌, ℕ, Bool, true, false, List, Option, Some, Result, Ok, Err}
 use Rattle.pipeline_bus.specs.declared.parcel.Heard.TheVariants.{Assured, NotListening}
-use Rattle.store_disk.specs.declared.faults.Damage.{Damage}
 use Rattle.event_flow.specs.Meaning.{Makes}
 use Rattle.history_laws.specs.Contents.{Bytes}
 use Rattle.history_laws.specs.Links.{Listening}
-use Rattle.history_laws.specs.Lists.{IsIn}
 use Rattle.history_laws.specs.Sound.{Places}
 use Rattle.line_machine.specs.declared.calls.Accepted.TheVariants as accepted
 use Rattle.line_machine.specs.declared.calls.Call.{Call}
 use Rattle.line_machine.specs.declared.calls.Call.TheVariants as call
+use Rattle.line_machine.specs.declared.calls.Delivered.{Delivered}
 use Rattle.line_machine.specs.declared.calls.Delivered.TheVariants as delivered
 use Rattle.line_machine.specs.declared.calls.LineFault.{LineFault}
 use Rattle.line_machine.specs.declared.calls.LineFault.TheVariants as fault
 use Rattle.line_machine.specs.declared.calls.ReadOut.TheVariants as read
 use Rattle.line_machine.specs.Effects.{Effect}
-use Rattle.line_machine.specs.Ends.{Waiting, TakerView}
+use Rattle.line_machine.specs.Ends.{TakerView, IsPartlyAccepted, AreEnded}
+use Rattle.line_machine.specs.Finds.{ends_served}
 use Rattle.line_machine.specs.Steps as m
 use Rattle.line_machine.specs.Steps.{Step, effect}
 use Rattle.line_machine.specs.Views.{LineView}
 
--- a parcel that was taken at this address is not wholly accepted
-pub record IsPartlyAccepted (address : List ℕ) (ts : List TakerView) : Type 0 where
-  pub taker : TakerView
-  pub has : IsIn taker ts
-  pub address_is : taker.address ≡ address
-  pub waiting : Waiting
-  pub waits : IsIn waiting taker.waits
-  pub part : length waiting.rows < length waiting.events
-
--- an accept that takes what lay in the rings and writes no row: where no event is left there is none yet, or the end; where one is, there was no room for it
-abbrev pub TakesAnswer : ℕ → List ℕ → List TakerView → Call → Type 0
-TakesAnswer n address ts c =
-    ((IsPartlyAccepted address ts → ⊥) × ((c ≡ call.Accept n (Ok accepted.NotYet)) ⊎ (c ≡ call.Accept n (Ok accepted.Ended))))
-    ⊎ (IsPartlyAccepted address ts × ((c ≡ call.Accept n (Ok accepted.Full)) ⊎ (c ≡ call.Accept n (Err fault.NumbersSpent))))
+-- An accept that takes what lay in the rings and writes no row. Where no event is left there is none yet; or, of an open input, the end, where a parcel without events
+-- came last at each of its ends. Where one is left, there was no room for it.
+abbrev pub TakesAnswer : Option (List ℕ) → ℕ → Bool → List TakerView → Call → Type 0
+TakesAnswer only n is_open ts c =
+    ((IsPartlyAccepted only n ts → ⊥) × (is_open ≡ true) × AreEnded only n ts × (c ≡ call.Accept n (Ok accepted.Ended)))
+    ⊎ ((IsPartlyAccepted only n ts → ⊥) × ((is_open ≡ true) × AreEnded only n ts → ⊥) × (c ≡ call.Accept n (Ok accepted.NotYet)))
+    ⊎ (IsPartlyAccepted only n ts × ((c ≡ call.Accept n (Ok accepted.Full)) ⊎ (c ≡ call.Accept n (Err fault.NumbersSpent))))
     ⊎ (c ≡ call.Accept n (Err fault.Memory))
 
--- a file of the line is damaged, or a call of its store failed
-abbrev pub IsFileFault : LineFault → Type 0
-IsFileFault f = (f ≡ fault.Store) ⊎ ((damage : Damage) × (f ≡ fault.Damaged damage))
-
--- why a poll failed: that of its input, or, at its first call, of its position file
-abbrev pub IsPollFault : ℕ → LineFault → Type 0
-IsPollFault n f = (f ≡ fault.Input n) ⊎ IsFileFault f
-
--- why a delivery failed: its output, the files of the line, the limit of the dead letters, or memory
-abbrev pub IsDeliveryFault : LineFault → Type 0
-IsDeliveryFault f =
-    ((id : Text) × (f ≡ fault.Output id)) ⊎ IsFileFault f ⊎ ((size : ℕ) × (added : ℕ) × (limit : ℕ) × (f ≡ fault.DeadFull size added limit)) ⊎ (f ≡ fault.Memory)
-
 module _ (makes : Makes) (listening : Listening) (bytes : Bytes) {places : Places} where
+  -- the last step of the call with this answer
   abbrev pub IsCall : (i : LineView places) → Step makes listening bytes i → Call → Type 0
   IsCall i (m.Accepts n c r) x = x ≡ call.Accept n (Ok (accepted.Row r.row.number))
   IsCall i (m.Accepts_in_doubt n c r) x = x ≡ call.Accept n (Err fault.Store)
   IsCall i (m.Accepts_parcel n a r) x = x ≡ call.Accept n (Ok (accepted.Row r.row.number))
   IsCall i (m.Accepts_parcel_in_doubt n a r) x = x ≡ call.Accept n (Err fault.Store)
-  IsCall i (m.Takes_alone n h address listens taken takers takes) x = TakesAnswer n address takers x
+  IsCall i (m.Takes_alone n h address listens taken takers takes) x = TakesAnswer (ends_served i) n h.input.is_open takers x
   IsCall i (m.Has_no_room n c) x = x ≡ call.Accept n (Ok accepted.Full)
   IsCall i (m.Has_no_number n c) x = x ≡ call.Accept n (Err fault.NumbersSpent)
-  IsCall i (m.Holds_none n h none) x = x ≡ call.Accept n (Ok accepted.NotYet)
-  IsCall i (m.Is_at_its_end n h none) x = x ≡ call.Accept n (Ok accepted.Ended)
-  IsCall i (m.Fails_to_come n h came) x = (f : LineFault) × IsPollFault n f × (x ≡ call.Accept n (Err f))
-  IsCall i (m.Has_no_memory n h came) x = x ≡ call.Accept n (Err fault.Memory)
+  IsCall i (m.Is_at_its_end n h opens lines none) x = x ≡ call.Accept n (Ok accepted.Ended)
+  IsCall i (m.Fails_to_come n h reads came) x = x ≡ call.Accept n (Err (fault.Input n))
+  IsCall i (m.Has_no_memory n h reads came) x = x ≡ call.Accept n (Err fault.Memory)
   IsCall i (m.Reads t k) x = x ≡ call.Read (Ok (read.Given i.next_batch))
   IsCall i (m.Works t k verdicts uses) x = x ≡ call.Read (Ok (read.Given i.next_batch))
-  IsCall i (m.Has_none_unread none) x = x ≡ call.Read (Ok read.Nothing)
-  IsCall i (m.Has_no_kit none) x = x ≡ call.Read (Ok read.NoKit)
-  IsCall i m.Fails_to_read x = (f : LineFault) × IsFileFault f × (x ≡ call.Read (Err f))
   IsCall i (m.Keeps_a_batch t) x = x ≡ call.Read (Err fault.Memory)
   IsCall i (m.Collects n a verdicts uses) x = x ≡ call.Collect n true
   IsCall i (m.Loses_a_result n a) x = x ≡ call.Collect n false
@@ -75,37 +51,45 @@ module _ (makes : Makes) (listening : Listening) (bytes : Bytes) {places : Place
   IsCall i (m.Gives n id at events rest h plain) x = x ≡ call.Deliver n (Ok delivered.Told)
   IsCall i (m.Is_taken n id number events rest h fates are none) x = x ≡ call.Deliver n (Ok delivered.Told)
   IsCall i (m.Is_rejected n id number events rest h fates are some a) x = x ≡ call.Deliver n (Ok delivered.Told)
-  IsCall i (m.Sends n id address events rest h none p is may) x = (x ≡ call.Deliver n (Ok delivered.Waiting)) ⊎ (x ≡ call.Deliver n (Ok delivered.Told))
-  IsCall i (m.Hears address a s has turn) x = (n : ℕ) × ((x ≡ call.Deliver n (Ok delivered.Waiting)) ⊎ (x ≡ call.Deliver n (Ok delivered.Told)))
+  IsCall i (m.Sends n id address events rest h none p is some may) x = ⊥
+  IsCall i (m.Hears address a s has turn waits) x = ⊥
   IsCall i (m.Is_heard n id address events rest h number is was) x = x ≡ call.Deliver n (Ok delivered.Told)
   IsCall i (m.Is_not_heard n id address events rest h number is was) x = x ≡ call.Deliver n (Ok delivered.Waiting)
-  IsCall i (m.Waits n id address events rest h) x = x ≡ call.Deliver n (Ok delivered.Waiting)
-  IsCall i (m.Waits_for_a_box n id number events rest h) x = x ≡ call.Deliver n (Ok delivered.Later)
-  IsCall i (m.Sends_last address p last may) x = (all : Bool) × (x ≡ call.PushLast all)
-  IsCall i (m.Has_delivered_all n h) x = x ≡ call.Deliver n (Ok delivered.Finished)
-  IsCall i (m.Fails_to_deliver n left h) x = (f : LineFault) × IsDeliveryFault f × (x ≡ call.Deliver n (Err f))
+  IsCall i (m.Fails_to_deliver n left h f is printed out given took) x = x ≡ call.Deliver n (Err f)
   IsCall i (m.Acknowledges_it n h queue a) x = x ≡ call.Acknowledge n
   IsCall i (m.Marks front last is) x = x ≡ call.Mark (Ok front)
   IsCall i (m.Fails_to_mark is) x = x ≡ call.Mark (Err fault.Store)
   IsCall i (m.Assures n front h is) x = x ≡ call.Assure n (Ok front)
-  IsCall i (m.Fails_to_assure n h) x = x ≡ call.Assure n (Err fault.Store)
+  IsCall i (m.Fails_to_assure n front h is) x = x ≡ call.Assure n (Err fault.Store)
   IsCall i (m.Purges h) x = x ≡ call.Purge (Ok (Some h.page.number))
-  IsCall i (m.Has_none_spent none) x = x ≡ call.Purge (Ok None)
   IsCall i (m.Fails_to_purge h) x = x ≡ call.Purge (Err fault.Store)
   IsCall i (m.Answers place t has may) x = x ≡ call.AnswerLink place (Some (record { number = may.oldest.number; answer = Assured }))
-  IsCall i (m.Refuses place t has lost none) x = x ≡ call.AnswerLink place (Some (record { number = t.next; answer = NotListening }))
-  IsCall i (m.Has_no_answer place) x = x ≡ call.AnswerLink place None
+  IsCall i (m.Refuses place t has may) x = x ≡ call.AnswerLink place (Some (record { number = t.next; answer = NotListening }))
+  IsCall i (m.Sends_last address p last may is) x = ⊥
   IsCall i (m.Adopts c) x = x ≡ call.Adopt
-  IsCall i (m.Connects takers next_place are senders unsent) x = x ≡ call.Connect
-  IsCall i (m.Releases place t has lost none) x = x ≡ call.Release true
-  IsCall i m.Has_no_release x = x ≡ call.Release false
-  IsCall i m.Makes_room x = (enough : Bool) × (x ≡ call.Room enough)
+  IsCall i (m.Connects takers next_place are listen senders unused) x = x ≡ call.Connect
+  IsCall i (m.Releases place t has free) x = x ≡ call.Release true
   IsCall i (m.Stops drains) x = x ≡ call.Stop drains
-  IsCall i (m.Goes_on_with place) x = x ≡ call.GoOn place
-  IsCall i (m.Is_skipped act cannot) x = x ≡ call.Skipped act
+  IsCall i (m.Goes_on_with place t has) x = x ≡ call.GoOn place
+  IsCall i (m.Leaves_all y leaves) x = x ≡ y
+  IsCall i (m.Fails_at_once y fails) x = x ≡ y
 
-  -- the call with this answer made this of the line
+  -- A step that a call makes before its last: in the delivery of a batch its parcel is sent, and answers are heard; and last parcels are sent one by one.
+  abbrev pub IsPart : (i : LineView places) → Step makes listening bytes i → Call → Type 0
+  IsPart i (m.Sends n id address events rest h none p is some may) x = (answer : Result Delivered LineFault) × (x ≡ call.Deliver n answer)
+  IsPart i (m.Hears address a s has turn waits) x = (n : ℕ) × (answer : Result Delivered LineFault) × (x ≡ call.Deliver n answer)
+  IsPart i (m.Sends_last address p last may is) x = (all : Bool) × (x ≡ call.PushLast all)
+  IsPart i s x = ⊥
+
+  -- the line behind such steps
+  pub data Parts (x : Call) : LineView places → LineView places → Type 0 where
+    None_before : (i : LineView places) → Parts x i i
+    First : (i j : LineView places) (s : Step makes listening bytes i) → IsPart i s x → Parts x (effect makes listening bytes i s).line j → Parts x i j
+
+  -- The call with this answer made this of the line, by its last step; those before it tell nothing, and leave its places as they are.
   pub record Did (x : Call) (i : LineView places) (e : Effect places) : Type 0 where
-    pub step : Step makes listening bytes i
-    pub is_call : IsCall i step x
-    pub effect_is : e ≡ effect makes listening bytes i step
+    pub line : LineView places
+    pub before : Parts x i line
+    pub step : Step makes listening bytes line
+    pub is_call : IsCall line step x
+    pub effect_is : e ≡ effect makes listening bytes line step

@@ -1,9 +1,11 @@
 -- What a step makes of a line, and what leaves it.
-use Rattle.std.specs.Prelude.{ℕ, zero, suc, ◌+◌, ◌==◌, true, false, List, [], ◌∷◌, ◌++◌, map, Option, Some, None, if◌then◌else◌}
+use Rattle.std.specs.Prelude.{ℕ, zero, suc, ◌+◌, ◌==◌, ◌||◌, nat_lt, not, Bool, true, false, List, [], ◌∷◌, ◌++◌, map, Option, Some, None, bytes_eq, if◌then◌else◌}
+use Rattle.std.specs.List.{filter, list_any}
 use Rattle.event_tree.specs.Events.{Ev}
 use Rattle.event_tree.specs.declared.lists.DeadPart.{DeadPart}
 use Rattle.config_tree.specs.declared.tree.Config.{Config}
 use Rattle.store_trait.specs.Images.{Image}
+use Rattle.foreign_parts.specs.Delivering.{taken}
 use Rattle.foreign_parts.specs.declared.filter.Verdict.{Verdict}
 use Rattle.foreign_parts.specs.declared.output.Fate.{Fate}
 use Rattle.foreign_parts.specs.declared.place.Place.{Place}
@@ -27,15 +29,16 @@ use Rattle.history_laws.specs.Sound.{Places}
 use Rattle.history_laws.specs.States.{Plan, numbers_found}
 use Rattle.line_machine.specs.Ends.{TakerView, change_taker, row_made}
 use Rattle.line_machine.specs.Finds.{HasInput, Comes, IsAway, TakesKit, TakesRows, AppendsNow, Changes, HasSpent, without_page, IsRowFor, Arrives}
-use Rattle.line_machine.specs.Views.{Kit, InputView, Batch, LineView, input_at, change_input, change_batch, without_batch, events_in}
+use Rattle.line_machine.specs.Views.{Kit, Box, FileAt, Incoming, RowAt, Given, InputView, Batch, LineView, input_at, change_input, change_batch, without_batch, events_in}
 
 -- events that came to an input, by its number
 pub record Came : Type 0 where
   pub input : ℕ
-  pub events : List Ev
+  pub events : List Incoming
 
 -- The line behind the step; what it told; the queues that its folder may hold on the way, before anything of that is so; what its places hold once it is
--- so; the events that came to an input; what was given to stdout; and the kits that were closed.
+-- so; the events that came to an input; what was given to stdout, and to boxes; the places of watched files that were recorded; and the kits, and the boxes of
+-- outputs, that were closed.
 pub record Effect (places : Places) : Type 0 where
   pub line : LineView places
   pub told : List Entry
@@ -43,19 +46,46 @@ pub record Effect (places : Places) : Type 0 where
   pub behind : Holdings places
   pub came : List Came
   pub printed : List ℕ
+  pub given : List Given
+  pub recorded : List FileAt
   pub closed : List Kit
+  pub closed_boxes : List Box
 
 -- ---- parts of a line
 
 -- what an input holds
-abbrev pub held_now : List Ev → InputView → InputView
+abbrev pub held_now : List Incoming → InputView → InputView
 held_now held v = record v { held = held }
+
+-- an event of it was accepted as this row, and these are left
+abbrev pub accepted_now : List Incoming → RowAt → InputView → InputView
+accepted_now rest r v = record v { held = rest; rows = v.rows ++ r ∷ [] }
 
 abbrev pub ended_now : InputView → InputView
 ended_now v = record v { ended = true }
 
+-- of the rows up to this number it was told
+abbrev pub rows_above : ℕ → List RowAt → List RowAt
+rows_above front rows = filter (λ (r : RowAt). nat_lt front r.number) rows
+
+abbrev pub rows_up_to : ℕ → List RowAt → List RowAt
+rows_up_to front rows = filter (λ (r : RowAt). not (nat_lt front r.number)) rows
+
 abbrev pub assured_now : ℕ → InputView → InputView
-assured_now front v = record v { assured = front }
+assured_now front v = record v { rows = rows_above front v.rows }
+
+-- of each file the place behind the last of these rows
+abbrev pub is_of_file : List ℕ → Option FileAt → Bool
+is_of_file path None = false
+is_of_file path (Some f) = bytes_eq path f.path
+
+abbrev pub unless_later : List RowAt → Option FileAt → List FileAt
+unless_later later None = []
+unless_later later (Some f) = if list_any (λ (r : RowAt). is_of_file f.path r.at) later then [] else f ∷ []
+
+abbrev pub last_places : List RowAt → List FileAt
+last_places [] = []
+last_places (r ∷ rows) = unless_later rows r.at ++ last_places rows
 
 -- of a batch that is back one delivery less is left
 abbrev pub one_less : List Due → Batch → Batch
@@ -74,12 +104,34 @@ home_with generation kit kits = if kit.generation == generation then kits ++ kit
 abbrev pub closed_of : ℕ → Kit → List Kit
 closed_of generation kit = if kit.generation == generation then [] else kit ∷ []
 
+-- the boxes to which the outputs of a configuration deliver
+abbrev pub boxes_of : Plan → List Box
+boxes_of plan = map (λ (d : List ℕ × ℕ). record { generation = plan.generation; number = d.1 }) plan.draws
+
+-- a box is wanted while its generation is the newest, or a batch of it is out
+abbrev pub is_wanted : ℕ → List Batch → Box → Bool
+is_wanted newest batches x = (x.generation == newest) || list_any (λ (b : Batch). x.generation == b.plan.generation) batches
+
+abbrev pub wanted : ℕ → List Batch → List Box → List Box
+wanted newest batches boxes = filter (is_wanted newest batches) boxes
+
+abbrev pub unwanted : ℕ → List Batch → List Box → List Box
+unwanted newest batches boxes = filter (λ x. not (is_wanted newest batches x)) boxes
+
 -- an input that begins, and one that goes on: it keeps what it holds, unless it is closed
 abbrev pub begun : Input → InputView
-begun x = record { number = x.number; statement = x.statement; id = x.id; is_open = x.is_open; held = []; ended = false; assured = 0 }
+begun x = record { number = x.number; statement = x.statement; id = x.id; is_open = x.is_open; held = []; ended = false; rows = [] }
 
 abbrev pub gone_on : Input → InputView → InputView
-gone_on x v = record { number = x.number; statement = x.statement; id = x.id; is_open = x.is_open; held = if x.is_open then v.held else []; ended = v.ended; assured = v.assured }
+gone_on x v = record {
+  number = x.number;
+  statement = x.statement;
+  id = x.id;
+  is_open = x.is_open;
+  held = if x.is_open then v.held else [];
+  ended = v.ended;
+  rows = if x.is_open then v.rows else [];
+}
 
 abbrev pub view_of : Input → Option InputView → InputView
 view_of x None = begun x
@@ -100,6 +152,10 @@ shed_told batch (suc older) newer = Shed batch (suc older) newer ∷ []
 abbrev pub letters_told : ℕ → Shedding → List DeadPart → List Entry
 letters_told batch shed parts = shed_told batch shed.older shed.newer ++ Letters batch (kept_from shed.newer 0 parts) ∷ []
 
+-- what a box took of a delivery
+abbrev pub box_took : ℕ → List Ev → List Fate → List Given
+box_took number events fates = record { box = number; events = taken fates events } ∷ []
+
 module _ {places : Places} where
   abbrev pub with_queue : Queue → Holdings places → Holdings places
   with_queue q h = record h { queue = q }
@@ -113,7 +169,18 @@ module _ {places : Places} where
 
   -- The line alone may be another: nothing is told, and its places hold what they held.
   abbrev pub quiet : LineView places → LineView places → Effect places
-  quiet i now = record { line = now; told = []; ways = []; behind = i.holds; came = []; printed = []; closed = [] }
+  quiet i now = record {
+    line = now;
+    told = [];
+    ways = [];
+    behind = i.holds;
+    came = [];
+    printed = [];
+    given = [];
+    recorded = [];
+    closed = [];
+    closed_boxes = [];
+  }
 
   abbrev pub nothing : LineView places → Effect places
   nothing i = quiet i i
@@ -129,7 +196,7 @@ module _ {places : Places} where
   -- ---- accepting
 
   -- what came to an input, and is held there
-  abbrev pub holds_more : (i : LineView places) → (n : ℕ) → HasInput i n → List Ev → Effect places
+  abbrev pub holds_more : (i : LineView places) → (n : ℕ) → HasInput i n → List Incoming → Effect places
   holds_more i n h came = record (quiet i (record i { inputs = change_input (held_now (h.input.held ++ came)) n i.inputs })) { came = record { input = n; events = came } ∷ [] }
 
   -- a row joins the queue, which had room for it; inputs and ends are these then
@@ -177,21 +244,34 @@ module _ {places : Places} where
 
   -- a box took all events, or rejected some, whose letters are appended before the delivery is told
   abbrev pub boxing : LineView places → (n number : ℕ) → List Ev → List Fate → List Due → Effect places
-  boxing i n number events fates rest = tells i (delivered n rest i) (Deliver n (place.Foreign number) events fates ∷ [])
+  boxing i n number events fates rest = record (tells i (delivered n rest i) (Deliver n (place.Foreign number) events fates ∷ [])) { given = box_took number events fates }
 
   abbrev pub rejecting : (i : LineView places) → (n number : ℕ) → List Ev → List Fate → List Due → (parts : List DeadPart) → AppendsNow i parts → Effect places
   rejecting i n number events fates rest parts a =
-      tells i (record (delivered n rest i) { holds = with_dead a.new i.holds }) (letters_told n a.shed parts ++ Deliver n (place.Foreign number) events fates ∷ [])
+      record (tells i (record (delivered n rest i) { holds = with_dead a.new i.holds }) (letters_told n a.shed parts ++ Deliver n (place.Foreign number) events fates ∷ [])) {
+        given = box_took number events fates;
+      }
 
   -- the events of a parcel stand with the listener of its address
   abbrev pub hearing : LineView places → ℕ → List ℕ → List Ev → List Due → Effect places
   hearing i n address events rest = tells i (delivered n rest i) (Deliver n (place.Address address) events [] ∷ [])
 
+  -- it failed, and something of it was given all the same
+  abbrev pub failing : LineView places → List ℕ → List Given → Effect places
+  failing i printed given = record (quiet i i) { printed = printed; given = given }
+
   -- ---- acknowledgements, marks and pages that go
 
   abbrev pub acknowledging : LineView places → ℕ → Queue → ℕ → Effect places
-  acknowledging i n queue rows =
-      tells i (record i { holds = with_queue queue i.holds; batches = without_batch n i.batches; uncovered = true; acknowledged = i.acknowledged + rows }) (Ack n ∷ [])
+  acknowledging i n queue rows = record (tells i (record i {
+    holds = with_queue queue i.holds;
+    batches = without_batch n i.batches;
+    boxes = wanted i.plan.generation (without_batch n i.batches) i.boxes;
+    uncovered = true;
+    acknowledged = i.acknowledged + rows;
+  }) (Ack n ∷ [])) {
+    closed_boxes = unwanted i.plan.generation (without_batch n i.batches) i.boxes;
+  }
 
   abbrev pub with_mark : ℕ → LineView places → LineView places
   with_mark front i = record i { holds = with_queue (marked i.holds.queue) i.holds; mark = Some front; uncovered = false; written = 0; acknowledged = 0 }
@@ -199,8 +279,13 @@ module _ {places : Places} where
   abbrev pub marking : LineView places → ℕ → Effect places
   marking i front = record (tells i (with_mark front i) (Mark front ∷ [])) { ways = marked i.holds.queue ∷ [] }
 
-  abbrev pub assuring : LineView places → ℕ → ℕ → Effect places
-  assuring i n front = tells i (record i { inputs = change_input (assured_now front) n i.inputs }) (Assure n front ∷ [])
+  -- of a watched file the place behind the last row of which the input is told is recorded
+  abbrev pub assuring : (i : LineView places) → (n : ℕ) → HasInput i n → ℕ → Effect places
+  assuring i n h front =
+      record (tells i (record i { inputs = change_input (assured_now front) n i.inputs }) (Assure n front ∷ [])) { recorded = last_places (rows_up_to front h.input.rows) }
+
+  abbrev pub failing_to_assure : (i : LineView places) → (n : ℕ) → HasInput i n → ℕ → Effect places
+  failing_to_assure i n h front = record (quiet i i) { recorded = last_places (rows_up_to front h.input.rows) }
 
   abbrev pub purging : (i : LineView places) → HasSpent i.holds.queue → Effect places
   purging i h = record (tells i (record i { holds = with_queue (without_page i.holds.queue h) i.holds }) (Purge h.page.number ∷ [])) { ways = without_page i.holds.queue h ∷ [] }
@@ -208,14 +293,6 @@ module _ {places : Places} where
   -- a part of it may be so
   abbrev pub in_part : LineView places → Queue → Effect places
   in_part i queue = record (quiet i i) { ways = queue ∷ [] }
-
-  -- ---- a configuration is adopted
-
-  abbrev pub adopted : (i : LineView places) → Changes i → LineView places
-  adopted i c = record i { plan = c.plan; kits = c.kits; inputs = map (carried i.inputs) c.inputs; takers = c.takers ++ c.new_takers; next_place = c.next_place; senders = i.senders ++ c.new_senders }
-
-  abbrev pub adopting : (i : LineView places) → Changes i → Effect places
-  adopting i c = record (tells i (adopted i c) (Adopt c.plan.generation c.plan.config c.plan.draws ∷ [])) { closed = i.kits }
 
 module _ (makes : Makes) where
   -- what is due of a batch of these rows
@@ -240,12 +317,35 @@ module _ (makes : Makes) where
         }
 
 module _ (listening : Listening) {places : Places} where
+  -- ---- a configuration is adopted
+
+  abbrev pub adopted : (i : LineView places) → Changes listening i → LineView places
+  adopted i c = record i {
+    plan = c.plan;
+    kits = c.kits;
+    boxes = wanted c.plan.generation i.batches i.boxes ++ boxes_of c.plan;
+    inputs = map (carried i.inputs) c.inputs;
+    takers = c.takers ++ c.new_takers;
+    next_place = c.next_place;
+    senders = i.senders ++ c.new_senders;
+  }
+
+  abbrev pub adopting : (i : LineView places) → Changes listening i → Effect places
+  adopting i c = record (tells i (adopted i c) (Adopt c.plan.generation c.plan.config c.plan.draws ∷ [])) {
+    closed = i.kits;
+    closed_boxes = unwanted c.plan.generation i.batches i.boxes;
+  }
+
+  -- ---- an event is accepted
+
   abbrev pub accepting : (i : LineView places) (n : ℕ) (v : InputView) (event : Ev) → Option ParcelAt → IsRowFor listening i v event → List InputView → List TakerView → List Came → Effect places
   accepting i n v event parcel r inputs takers came =
       record (tells i (with_written i inputs takers r.row r.before) (Accept n parcel r.row.number r.row.event ∷ [])) { ways = r.ways; came = came }
 
-  abbrev pub accepting_line : (i : LineView places) (n : ℕ) (c : Comes i n) → IsRowFor listening i c.by.input c.event → Effect places
-  accepting_line i n c r = accepting i n c.by.input c.event None r (change_input (held_now c.rest) n i.inputs) i.takers (record { input = n; events = c.came } ∷ [])
+  abbrev pub accepting_line : (i : LineView places) (n : ℕ) (c : Comes listening i n) → IsRowFor listening i c.by.input c.first.event → Effect places
+  accepting_line i n c r =
+      accepting i n c.by.input c.first.event None r (change_input (accepted_now c.rest (record { number = r.row.number; at = c.first.at })) n i.inputs) i.takers
+      (record { input = n; events = c.came } ∷ [])
 
   abbrev pub accepting_parcel : (i : LineView places) (n : ℕ) (a : Arrives listening i n) → IsRowFor listening i a.by.input a.event → Effect places
   accepting_parcel i n a r = accepting i n a.by.input a.event (Some a.at) r i.inputs (change_taker (row_made a.at.number r.row.number) a.at.place a.takers) []

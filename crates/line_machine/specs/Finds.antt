@@ -1,13 +1,22 @@
 -- What a step of a line finds before it: an event that comes, rows and a kit for a batch, a batch that is out, a page that is spent, a configuration.
-use Rattle.std.specs.Prelude.{◌≡◌, ◌≢◌, ◌⊎◌, ◌≤◌, ◌<◌, ◌+◌, ℕ, Bool, true, false, List, [], ◌∷◌, ◌++◌, length, Some, None, ⊤}
+use Rattle.std.specs.Prelude.{◌≡◌, ◌≢◌, ◌⊎◌, ◌≤◌, ◌<◌, ◌+◌, ℕ, suc, true, false, List, [], ◌∷◌, ◌++◌, length, map, Option, Some, None, if◌then◌else◌, ⊤}
+use Rattle.std.specs.List.{sum}
 use Rattle.event_tree.specs.Events.{Ev}
 use Rattle.event_tree.specs.declared.lists.DeadPart.{DeadPart}
 use Rattle.element_code.specs.declared.row.Origin.TheVariants.{Id}
+use Rattle.settings_lines.specs.declared.settings.Policy.TheVariants.{Hold}
+use Rattle.foreign_parts.specs.Delivering.{AreFates, taken as taken_by}
 use Rattle.foreign_parts.specs.declared.filter.Verdict.{Verdict}
+use Rattle.foreign_parts.specs.declared.output.Fate.{Fate}
 use Rattle.foreign_parts.specs.declared.place.Place.{Place}
 use Rattle.foreign_parts.specs.declared.place.Place.TheVariants as place
+use Rattle.pipeline_bus.specs.Parcels.{is_last, ends_with_last}
+use Rattle.pipeline_bus.specs.declared.parcel.Parcel.{Parcel}
 use Rattle.event_flow.specs.Meaning.{Makes, Due, UsesExactly}
+use Rattle.event_flow.specs.Meaning as due
+use Rattle.dead_letters.specs.Appends.{size_of}
 use Rattle.dead_letters.specs.Found.{Held}
+use Rattle.dead_letters.specs.declared.letter.DeadLetter.{DeadLetter}
 use Rattle.dead_letters.specs.declared.shedding.Shedding.{Shedding}
 use Rattle.queue_page.specs.declared.row.PageRow.{PageRow}
 use Rattle.queue_laws.specs.Found.{Row}
@@ -15,16 +24,19 @@ use Rattle.queue_laws.specs.Kept.{Page, Queue, IsQueue}
 use Rattle.queue_laws.specs.Steps.{marked, with_row, rolled, CanRoll, IsSpent, with_tails}
 use Rattle.persistent_queue.specs.Taking.{batch_bytes}
 use Rattle.persistent_queue.specs.Unread.{taken}
-use Rattle.history_laws.specs.Contents.{Appended}
+use Rattle.history_laws.specs.Contents.{Bytes, Appended, part_of, bytes_at, is_stdout}
 use Rattle.history_laws.specs.Entries.{ParcelAt}
 use Rattle.history_laws.specs.Inputs.{Input, Renumbered, named_from}
+use Rattle.history_laws.specs.Legal.{rejections, FatesFit}
 use Rattle.history_laws.specs.Links.{Listening}
 use Rattle.history_laws.specs.Lists.{IsIn}
 use Rattle.history_laws.specs.Queues.{acknowledged_in, next_in, AcknowledgesMore}
 use Rattle.history_laws.specs.Sound.{Places}
 use Rattle.history_laws.specs.States.{Plan}
-use Rattle.line_machine.specs.Ends.{TakerView, SenderView, AreApart, Taken, Takes, HasNext}
-use Rattle.line_machine.specs.Views.{Kit, InputView, Batch, LineView, inputs_of, input_at, batch_of, events_in}
+use Rattle.line_machine.specs.declared.calls.LineFault.{LineFault}
+use Rattle.line_machine.specs.declared.calls.LineFault.TheVariants as fault
+use Rattle.line_machine.specs.Ends.{TakerView, SenderView, AreApart, IsUnused, Taken, Takes, HasNext, IsServed, IsPartlyAccepted, AreEnded}
+use Rattle.line_machine.specs.Views.{Kit, Incoming, InputView, Batch, Given, LineView, inputs_of, input_at, batch_of, events_in}
 
 -- a place whose deliveries need no answer: stdout, a file, or one that keeps nothing
 abbrev pub IsPlain : Place → Type 0
@@ -65,17 +77,62 @@ without_page q h = with_tails (h.before ++ h.behind) q
 
 -- ---- ends of links
 
--- At the end of a link an input may listen, or not any more.
-abbrev pub SameTakers : List TakerView → List TakerView → Type 0
-SameTakers [] new = new ≡ []
-SameTakers (t ∷ ts) new = (listens : Bool) × (rest : List TakerView) × (new ≡ record t { listens = listens } ∷ rest) × SameTakers ts rest
+-- parcels with events, which are the next from this number on
+abbrev pub AreNextParcels : ℕ → List Parcel → Type 0
+AreNextParcels n [] = ⊤
+AreNextParcels n (p ∷ ps) = (is_last p ≡ false) × (p.number ≡ n) × AreNextParcels (suc n) ps
+
+-- among these inputs the one of this number is open
+abbrev pub IsOpenAmong : List Input → ℕ → Type 0
+IsOpenAmong inputs n = (x : Input) × IsIn x inputs × (x.number ≡ n) × (x.is_open ≡ true)
+
+-- An end, and what it is behind the adoption of a configuration with these inputs: the same, where its input is open; where that is closed, it listens no more, and the
+-- parcels with events that lie in its ring are lost.
+abbrev pub IsEndBehind : List Input → TakerView → TakerView → Type 0
+IsEndBehind inputs t u =
+    (IsOpenAmong inputs t.input × (u ≡ t))
+    ⊎ ((IsOpenAmong inputs t.input → ⊥) × (t.listens ≡ false) × (u ≡ t))
+    ⊎ ((IsOpenAmong inputs t.input → ⊥) × (t.listens ≡ true) × (lost : List Parcel) × AreNextParcels t.next lost × (u ≡ record t { listens = false; lost = lost }))
+
+abbrev pub AreEndsBehind : List Input → List TakerView → List TakerView → Type 0
+AreEndsBehind inputs [] new = new ≡ []
+AreEndsBehind inputs (t ∷ ts) new = (u : TakerView) × (rest : List TakerView) × (new ≡ u ∷ rest) × IsEndBehind inputs t u × AreEndsBehind inputs ts rest
 
 -- ends with places of their own, from this one on, through which nothing went yet
 pub record AreNew (old new : List TakerView) (from to : ℕ) : Type 0 where
-  pub unused : (t : TakerView) → IsIn t new → (t.taken ≡ []) × (t.given ≡ []) × (t.waits ≡ [])
+  pub unused : (t : TakerView) → IsIn t new → (t.taken ≡ []) × (t.given ≡ []) × (t.waits ≡ []) × (t.lost ≡ [])
   pub apart : AreApart (old ++ new)
   pub places : (t : TakerView) → IsIn t new → (from ≤ t.place) × (t.place < to)
   pub rise : from ≤ to
+
+-- the end is one of an input among these that is open and listens on its address
+pub record IsEndOf (listening : Listening) (inputs : List Input) (t : TakerView) : Type 0 where
+  pub listens : t.listens ≡ true
+  pub input : Input
+  pub has : IsIn input inputs
+  pub number_is : input.number ≡ t.input
+  pub is_open : input.is_open ≡ true
+  pub address_is : listening.address input.statement ≡ Some t.address
+
+abbrev pub AreEndsOf : Listening → List Input → List TakerView → Type 0
+AreEndsOf listening inputs ts = (t : TakerView) → IsIn t ts → IsEndOf listening inputs t
+
+-- ends that send, through which nothing went yet
+abbrev pub AreUnused : List SenderView → Type 0
+AreUnused ss = (s : SenderView) → IsIn s ss → IsUnused s
+
+-- ---- deliveries that fail
+
+-- what the box of the next delivery took of it before that failed: nothing, or of its first events those that it didn't reject
+abbrev pub BoxTook : List Due → List Given → Type 0
+BoxTook (due.Events id (place.Foreign number) es ∷ rest) given =
+    (given ≡ [])
+    ⊎ ((front : List Ev) × (back : List Ev) × (fates : List Fate) × (es ≡ front ++ back) × AreFates fates front × (given ≡ record { box = number; events = taken_by fates front } ∷ []))
+BoxTook left given = given ≡ []
+
+-- what stdout took of it: a first part of its bytes
+abbrev pub StdoutTook : Bytes → Batch → List Due → List ℕ → Type 0
+StdoutTook bytes b left printed = (back : List ℕ) × (bytes_at bytes is_stdout b.plan.config left ≡ printed ++ back)
 
 module _ {places : Places} where
   -- the input that the line has by this number
@@ -83,15 +140,9 @@ module _ {places : Places} where
     pub input : InputView
     pub has : input_at n i.inputs ≡ Some input
 
-  -- An input of lines that is open holds an event, with what came in this call: the first is accepted next, unless the line was told to stop.
-  pub record Comes (i : LineView places) (n : ℕ) : Type 0 where
-    pub by : HasInput i n
-    pub is_open : by.input.is_open ≡ true
-    pub running : i.stopped ≡ false
-    pub came : List Ev
-    pub event : Ev
-    pub rest : List Ev
-    pub next : by.input.held ++ came ≡ event ∷ rest
+  -- the ends from which parcels are taken: all, and once the line was told to stop those alone with which it goes on
+  abbrev pub ends_served : LineView places → Option (List ℕ)
+  ends_served i = if i.stopped then Some i.going else None
 
   -- ---- batches
 
@@ -134,24 +185,25 @@ module _ {places : Places} where
     pub new : Held
     pub appends : Appended i.limits shed parts i.holds.dead new
 
-  -- ---- a configuration
+  -- Letters are held back: by the policy `hold` nothing is shed, and with them the limit is passed.
+  pub record AreHeldBack (i : LineView places) (parts : List DeadPart) (f : LineFault) : Type 0 where
+    pub letters : List DeadLetter
+    pub parts_are : map part_of letters ≡ parts
+    pub policy : i.limits.policy ≡ Hold
+    pub over : i.limits.limit < sum (map length i.holds.dead.segments) + sum (map size_of letters)
+    pub fault_is : f ≡ fault.DeadFull (sum (map length i.holds.dead.segments)) (sum (map size_of letters)) i.limits.limit
 
-  -- Another configuration comes with the next generation and its own kits; its inputs are those that go on, new ones, and those that are closed.
-  pub record Changes (i : LineView places) : Type 0 where
-    pub plan : Plan
-    pub kits : List Kit
-    pub differs : plan.config ≢ i.plan.config
-    pub generation : plan.generation ≡ i.plan.generation + 1
-    pub made_of : (k : Kit) → IsIn k kits → k.generation ≡ plan.generation
-    pub inputs : List Input
-    pub renumbered : Renumbered (length (inputs_of i.inputs)) (inputs_of i.inputs) (named_from 1 plan.config.inputs) inputs
-    pub takers : List TakerView
-    pub goes_on : SameTakers i.takers takers
-    pub new_takers : List TakerView
-    pub next_place : ℕ
-    pub new : AreNew takers new_takers i.next_place next_place
-    pub new_senders : List SenderView
-    pub unsent : (s : SenderView) → IsIn s new_senders → s.sends.sent ≡ []
+  -- why the next delivery of a batch fails so that the line takes no further call
+  abbrev pub FailsSo : LineView places → Batch → List Due → LineFault → Type 0
+  FailsSo i b [] f = f ≡ fault.Memory
+  FailsSo i b (due.Letters parts ∷ rest) f = (f ≡ fault.Store) ⊎ AreHeldBack i parts f ⊎ (f ≡ fault.Memory)
+  FailsSo i b (due.Events id place.Stdout es ∷ rest) f = (f ≡ fault.Output id) ⊎ (f ≡ fault.Memory)
+  FailsSo i b (due.Events id (place.File path) es ∷ rest) f = (f ≡ fault.Store) ⊎ (f ≡ fault.Memory)
+  FailsSo i b (due.Events id (place.Foreign number) es ∷ rest) f =
+      (f ≡ fault.Output id) ⊎ ((fates : List Fate) × FatesFit (place.Foreign number) fates es × ((f ≡ fault.Store) ⊎ AreHeldBack i (rejections b.plan.config id fates es) f)) ⊎ (f ≡ fault.Memory)
+  FailsSo i b (due.Events id (place.Address address) es ∷ rest) f = f ≡ fault.Memory
+  FailsSo i b (due.Events id place.Discard es ∷ rest) f = f ≡ fault.Memory
+  FailsSo i b (due.Events id place.Dead es ∷ rest) f = f ≡ fault.Memory
 
 module _ (makes : Makes) where
   -- the filters of the batch's configuration use exactly these verdicts
@@ -159,6 +211,21 @@ module _ (makes : Makes) where
   Uses b verdicts = UsesExactly makes b.plan.config b.plan.draws (events_in b.rows) verdicts
 
 module _ (listening : Listening) {places : Places} where
+  -- an input that listens on no address is open, and the line wasn't told to stop: its source is read
+  pub record IsRead (i : LineView places) (v : InputView) : Type 0 where
+    pub is_open : v.is_open ≡ true
+    pub no_address : listening.address v.statement ≡ None
+    pub running : i.stopped ≡ false
+
+  -- Such an input holds an event, with what came in this call: the first is accepted next.
+  pub record Comes (i : LineView places) (n : ℕ) : Type 0 where
+    pub by : HasInput i n
+    pub reads : IsRead i by.input
+    pub came : List Incoming
+    pub first : Incoming
+    pub rest : List Incoming
+    pub next : by.input.held ++ came ≡ first ∷ rest
+
   -- The row of an event that an input accepts: it has the next number, names the input, and has the event as the settings of that make it.
   pub record IsRowFor (i : LineView places) (v : InputView) (event : Ev) : Type 0 where
     pub before : Queue
@@ -177,8 +244,47 @@ module _ (listening : Listening) {places : Places} where
     pub listens : listening.address by.input.statement ≡ Some address
     pub taken : List Taken
     pub takers : List TakerView
-    pub takes : Takes address taken i.takers takers
+    pub takes : Takes (ends_served i) n taken i.takers takers
     pub at : ParcelAt
-    pub goes_on : i.stopped ≡ true → IsIn at.place i.going
     pub event : Ev
-    pub next : HasNext at address event takers
+    pub next : HasNext (ends_served i) n at address event takers
+
+  -- ---- the end of a line
+
+  -- An open input is at its end: one that listens on an address holds no event, and a parcel without events came last at each of its ends; another one holds none and
+  -- nothing comes any more, or the line was told to stop.
+  abbrev pub IsAtEnd : LineView places → InputView → Type 0
+  IsAtEnd i v =
+      ((address : List ℕ) × (listening.address v.statement ≡ Some address) × (IsPartlyAccepted (ends_served i) v.number i.takers → ⊥) × AreEnded (ends_served i) v.number i.takers)
+      ⊎ ((listening.address v.statement ≡ None) × ((i.stopped ≡ true) ⊎ ((v.ended ≡ true) × (v.held ≡ []))))
+
+  -- Nothing comes from the line to others any more: its inputs are at their ends, its rows are acknowledged, and the parcels that it took are answered.
+  pub record HasEnded (i : LineView places) : Type 0 where
+    pub inputs : (v : InputView) → IsIn v i.inputs → v.is_open ≡ true → IsAtEnd i v
+    pub batches : i.batches ≡ []
+    pub unread : i.kept ++ i.unread ≡ []
+    pub answered : (t : TakerView) → IsIn t i.takers → IsServed (ends_served i) t.place → (t.waits ≡ []) × (t.lost ≡ [])
+
+  -- so a last parcel is due at each end that sends and hasn't sent one last
+  abbrev pub IsLastDue : LineView places → SenderView → Type 0
+  IsLastDue i s = HasEnded i × (ends_with_last s.sends.sent ≡ false)
+
+  -- ---- a configuration
+
+  -- Another configuration comes with the next generation and its own kits; its inputs are those that go on, new ones, and those that are closed.
+  pub record Changes (i : LineView places) : Type 0 where
+    pub plan : Plan
+    pub kits : List Kit
+    pub differs : plan.config ≢ i.plan.config
+    pub generation : plan.generation ≡ i.plan.generation + 1
+    pub made_of : (k : Kit) → IsIn k kits → k.generation ≡ plan.generation
+    pub inputs : List Input
+    pub renumbered : Renumbered (length (inputs_of i.inputs)) (inputs_of i.inputs) (named_from 1 plan.config.inputs) inputs
+    pub takers : List TakerView
+    pub goes_on : AreEndsBehind inputs i.takers takers
+    pub new_takers : List TakerView
+    pub next_place : ℕ
+    pub new : AreNew takers new_takers i.next_place next_place
+    pub listen : AreEndsOf listening inputs new_takers
+    pub new_senders : List SenderView
+    pub unused : AreUnused new_senders

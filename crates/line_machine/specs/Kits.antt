@@ -1,5 +1,5 @@
 -- Where a line's kits are: at home, out with one batch, or closed.
-use Rattle.std.specs.Prelude.{◌≡◌, ℕ, ◌+◌, Bool, List, [], ◌∷◌, ◌++◌, Option, Some, None, if◌then◌else◌}
+use Rattle.std.specs.Prelude.{◌≡◌, ℕ, ◌+◌, List, [], ◌∷◌, ◌++◌, Option, Some, None}
 use Rattle.store_trait.specs.Images.{Image}
 use Rattle.event_flow.specs.Meaning.{Makes}
 use Rattle.history_laws.specs.Contents.{Bytes}
@@ -11,13 +11,10 @@ use Rattle.line_machine.specs.Openings.{IsOpenedLine}
 use Rattle.line_machine.specs.Steps.{Step, Adopts, effect}
 use Rattle.line_machine.specs.Views.{Kit, Batch, LineView}
 
-abbrev pub one_if : Bool → ℕ
-one_if b = if b then 1 else 0
-
--- how many of these kits are such
-abbrev pub count : (Kit → Bool) → List Kit → ℕ
-count p [] = 0
-count p (k ∷ ks) = one_if (p k) + count p ks
+-- what all of these weigh, by any weights: so many as are such, or how often a number stands in them
+abbrev pub weigh : {X : Type 0} → (X → ℕ) → List X → ℕ
+weigh w [] = 0
+weigh w (x ∷ xs) = w x + weigh w xs
 
 abbrev pub kit_out : Option Kit → List Kit
 kit_out None = []
@@ -33,10 +30,10 @@ module _ {places : Places} where
   abbrev pub kits_of : LineView places → List Kit
   kits_of i = i.kits ++ kits_out i.batches
 
-  -- each kit at home is of the newest generation, and each that is out of that of its batch
+  -- each kit at home is of the newest generation, and each that is out of that of its batch, which isn't back
   pub record AreOfTheirs (i : LineView places) : Type 0 where
     pub home : (k : Kit) → IsIn k i.kits → k.generation ≡ i.plan.generation
-    pub out : (b : Batch) → IsIn b i.batches → (k : Kit) → b.kit ≡ Some k → k.generation ≡ b.plan.generation
+    pub out : (b : Batch) → IsIn b i.batches → (k : Kit) → b.kit ≡ Some k → (k.generation ≡ b.plan.generation) × (b.verdicts ≡ None)
 
 module _ (makes : Makes) (listening : Listening) (bytes : Bytes) (places : Places) where
   -- the kits that come with a configuration
@@ -44,11 +41,11 @@ module _ (makes : Makes) (listening : Listening) (bytes : Bytes) (places : Place
   new_kits i (Adopts c) = c.kits
   new_kits i x = []
 
-  -- No step loses a kit or doubles one: those that the line had, and those that came, it has, or they were closed.
+  -- No step loses a kit or doubles one: those that the line had, and those that came, it has, or they were closed. So it is with what is in them, as their boxes.
   abbrev pub KitsStay : Type 0
   KitsStay =
-      (i : LineView places) (x : Step makes listening bytes i) (p : Kit → Bool)
-      → count p (kits_of (effect makes listening bytes i x).line) + count p (effect makes listening bytes i x).closed ≡ count p (kits_of i) + count p (new_kits i x)
+      (i : LineView places) (x : Step makes listening bytes i) (w : Kit → ℕ)
+      → weigh w (kits_of (effect makes listening bytes i x).line) + weigh w (effect makes listening bytes i x).closed ≡ weigh w (kits_of i) + weigh w (new_kits i x)
 
   -- At first all kits are at home.
   abbrev pub OpenedKitsAreTheirs : Type 0

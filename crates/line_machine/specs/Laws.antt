@@ -35,4 +35,4 @@ module _ (makes : Makes) (bytes : Bytes) (places : Places) where
   abbrev pub CallsFollow : Listening → Type 0
   CallsFollow listening =
       (told : List Entry) (i : LineView places) (x : Call) (e : Effect places) → Stands makes bytes places told i → (did : Did makes listening bytes x i e)
-      → FollowsAs told i e (GoesOn makes listening bytes i did.step)
+      → FollowsAs told i e (GoesOn makes listening bytes did.line did.step)

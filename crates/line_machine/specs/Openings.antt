@@ -9,17 +9,16 @@ use Rattle.history_laws.specs.Inputs.{Input, Renumbered, named_from}
 use Rattle.history_laws.specs.Links.{Listening}
 use Rattle.history_laws.specs.Lists.{IsIn}
 use Rattle.history_laws.specs.Sound.{Places, LineSound}
-use Rattle.line_machine.specs.Effects.{begun}
-use Rattle.line_machine.specs.Ends.{SenderView}
-use Rattle.line_machine.specs.Finds.{AreNew}
+use Rattle.line_machine.specs.Effects.{begun, boxes_of}
+use Rattle.line_machine.specs.Finds.{AreNew, AreEndsOf, AreUnused}
 use Rattle.line_machine.specs.Recorded.{IsRecorded}
 use Rattle.line_machine.specs.Stands.{Stands}
 use Rattle.line_machine.specs.Steps.{Step, effect, GoesOn}
 use Rattle.line_machine.specs.Views.{Kit, LineView}
 
 module _ (makes : Makes) (listening : Listening) (bytes : Bytes) (places : Places) where
-  -- What a stop left is opened: the queue gives all rows that are found, no batch is out, the kits are those of the configuration, its inputs begin, and
-  -- nothing went through the ends of its links.
+  -- What a stop left is opened: the queue gives all rows that are found, no batch is out, the kits and the boxes are those of the configuration, its inputs begin,
+  -- nothing went through the ends of its links, nothing was written or acknowledged since, and it wasn't told to stop, nor with which ends it goes on then.
   pub record IsOpenedLine (told : List Entry) (image : Image) (sound : LineSound makes bytes places told image) (i : LineView places) : Type 0 where
     pub opened : IsOpened makes bytes places told image sound i.holds
     pub unread : i.unread ≡ sound.rows.rows
@@ -29,10 +28,16 @@ module _ (makes : Makes) (listening : Listening) (bytes : Bytes) (places : Place
     pub inputs : List Input
     pub numbered : Renumbered 0 [] (named_from 1 i.plan.config.inputs) inputs
     pub begun_all : i.inputs ≡ map begun inputs
+    pub boxes : i.boxes ≡ boxes_of i.plan
     pub unmarked : i.mark ≡ None
     pub takers : AreNew [] i.takers 0 i.next_place
-    pub unsent : (s : SenderView) → IsIn s i.senders → s.sends.sent ≡ []
+    pub listen : AreEndsOf listening inputs i.takers
+    pub unused : AreUnused i.senders
     pub covered : i.uncovered ≡ false → IsRecorded i.holds.queue
+    pub none_written : i.written ≡ 0
+    pub none_acknowledged : i.acknowledged ≡ 0
+    pub running : i.stopped ≡ false
+    pub none_go_on : i.going ≡ []
 
   -- what the opening tells
   abbrev pub opening : (told : List Entry) (image : Image) → LineSound makes bytes places told image → LineView places → List Entry

@@ -1,90 +1,93 @@
 -- When a line has nothing left to do, and what stands then.
-use Rattle.std.specs.Prelude.{◌≡◌, ◌≤◌, ℕ, ◌+◌, true, false, List, [], ◌++◌, Some, None}
+use Rattle.std.specs.Prelude.{◌≡◌, ◌⊎◌, ◌≤◌, ℕ, true, false, List, [], Some, None}
 use Rattle.pipeline_bus.specs.Parcels.{is_last}
 use Rattle.pipeline_bus.specs.declared.parcel.Answer.{Answer}
 use Rattle.pipeline_bus.specs.declared.parcel.Parcel.{Parcel}
 use Rattle.store_trait.specs.Images.{Image}
 use Rattle.event_flow.specs.Meaning.{Makes}
-use Rattle.queue_laws.specs.Found.{Row}
-use Rattle.queue_laws.specs.Kept.{all_rows}
 use Rattle.history_laws.specs.Contents.{Bytes}
+use Rattle.history_laws.specs.Deeds.{Deed, told_of}
 use Rattle.history_laws.specs.Entries.{Entry}
 use Rattle.history_laws.specs.Holdings.{StopLeaves}
 use Rattle.history_laws.specs.Links.{Listening}
 use Rattle.history_laws.specs.Lists.{IsIn}
-use Rattle.history_laws.specs.Queues.{acknowledged_in, next_in}
-use Rattle.history_laws.specs.Sound.{Places, LineSound}
-use Rattle.history_laws.specs.States.{Written, State, start, after}
-use Rattle.line_machine.specs.Answering.{LinksStand}
-use Rattle.line_machine.specs.Ends.{TakerView}
-use Rattle.line_machine.specs.Openings.{IsOpenedLine, opening}
-use Rattle.line_machine.specs.Recorded.{IsRecorded}
-use Rattle.line_machine.specs.Stands.{Stands}
-use Rattle.line_machine.specs.Steps.{Step, effect, GoesOn}
-use Rattle.line_machine.specs.Views.{Batch, InputView, LineView}
+use Rattle.history_laws.specs.Sound.{Places}
+use Rattle.history_laws.specs.States.{Written, start, after}
+use Rattle.line_machine.specs.Covering.{number_accepted}
+use Rattle.line_machine.specs.Coming.{RowIn, rows_by, WasAssured}
+use Rattle.line_machine.specs.Ends.{TakerView, SenderView, taker_at, sender_at, IsServed, MayAssure, MayRefuse}
+use Rattle.line_machine.specs.Finds.{ends_served, IsAway, IsHome, IsAtEnd, HasEnded}
+use Rattle.line_machine.specs.Lines.{LineStands}
+use Rattle.line_machine.specs.Since.{since, of_each}
+use Rattle.line_machine.specs.Unchanged.{HasNoneSpent}
+use Rattle.line_machine.specs.Views.{Incoming, InputView, LineView}
 
--- What the history has as acknowledged is acknowledged in the queue; and where nothing came since the last mark, that recorded all.
-pub record Settles {places : Places} (s : State) (i : LineView places) : Type 0 where
-  pub there : (r : Row) → IsIn r (all_rows i.holds.queue.tails i.holds.queue.top) → IsIn r.number s.acknowledged → IsIn r.number (acknowledged_in i.holds.queue.tails i.holds.queue.top)
-  pub recorded : i.uncovered ≡ false → IsRecorded i.holds.queue
-  pub last : i.uncovered ≡ false → (front : ℕ) → i.mark ≡ Some front → front + 1 ≡ next_in i.holds.queue
+-- ---- what is answered
+
+module _ {places : Places} where
+  -- each parcel with events that was taken at an end that is served has its answer, and each that was sent
+  abbrev pub TakenAreAnswered : LineView places → Type 0
+  TakenAreAnswered i = (t : TakerView) → IsIn t i.takers → IsServed (ends_served i) t.place → (p : Parcel) → IsIn p t.taken → is_last p ≡ false → (a : Answer) × IsIn a t.given × (a.number ≡ p.number)
+
+  abbrev pub SentAreAnswered : LineView places → Type 0
+  SentAreAnswered i =
+      (address : List ℕ) (s : SenderView) → sender_at address i.senders ≡ Some s → (p : Parcel) → IsIn p s.sends.sent → is_last p ≡ false → (a : Answer) × IsIn a s.sends.heard × (a.number ≡ p.number)
 
 -- ---- at rest
 
-module _ {places : Places} where
-  -- No batch is out, no row is unread, nothing came since the last mark; each input is at its end, holds nothing and was told of all that is settled; and no parcel waits.
-  pub record IsAtRest (i : LineView places) : Type 0 where
-    pub batches : i.batches ≡ []
-    pub unread : i.kept ++ i.unread ≡ []
-    pub covered : i.uncovered ≡ false
-    pub inputs : (v : InputView) → IsIn v i.inputs → v.is_open ≡ true → (v.ended ≡ true) × (v.held ≡ [])
-    pub assured : (v : InputView) → IsIn v i.inputs → v.is_open ≡ true → (front : ℕ) → i.mark ≡ Some front → front ≤ v.assured
-    pub answered : (t : TakerView) → IsIn t i.takers → t.waits ≡ []
+module _ (listening : Listening) {places : Places} where
+  -- each row that an open input accepted, which listens on no address, was acknowledged to it
+  abbrev pub RowsAreAssured : List Entry → LineView places → Type 0
+  RowsAreAssured told i =
+      (v : InputView) → IsIn v i.inputs → v.is_open ≡ true → listening.address v.statement ≡ None → (r : RowIn) → IsIn r (rows_by v.number told) → WasAssured told v.number r.number
 
-  -- A line that was told to stop has come to an end: no job is out, nothing came since the last mark, and each input was told of all that is settled; and where it
-  -- drains no batch is out, no row is unread, and no parcel waits.
-  pub record IsAtStop (i : LineView places) : Type 0 where
-    pub no_jobs : (b : Batch) → IsIn b i.batches → b.verdicts ≡ None → ⊥
+  -- The line wasn't told to stop, its inputs are at their ends, no batch is out and no row is unread, no parcel waits, nothing came since the last mark, each input was
+  -- told of all its rows, and no page is spent.
+  pub record IsAtRest (i : LineView places) : Type 0 where
+    pub running : i.stopped ≡ false
+    pub ended : HasEnded listening i
     pub covered : i.uncovered ≡ false
-    pub assured : (v : InputView) → IsIn v i.inputs → v.is_open ≡ true → (front : ℕ) → i.mark ≡ Some front → front ≤ v.assured
-    pub drained : i.drains ≡ true → (i.batches ≡ []) × (i.kept ++ i.unread ≡ []) × ((t : TakerView) → IsIn t i.takers → t.waits ≡ [])
+    pub assured : (v : InputView) → IsIn v i.inputs → v.rows ≡ []
+    pub none_spent : HasNoneSpent i
+
+  -- A line that was told to stop has come to an end: no job is out, no batch is delivered and not acknowledged, nothing came since the last mark, each input was told
+  -- of all its rows, no parcel that is due an answer waits at an end with which it goes on, and no page is spent; and where it drains, nothing comes from it to others any more.
+  pub record IsAtStop (i : LineView places) : Type 0 where
+    pub told_to : i.stopped ≡ true
+    pub no_jobs : (n : ℕ) → IsAway i n → ⊥
+    pub none_finished : (n : ℕ) → IsHome i n [] → ⊥
+    pub covered : i.uncovered ≡ false
+    pub assured : (v : InputView) → IsIn v i.inputs → v.rows ≡ []
+    pub answered : (place : ℕ) (t : TakerView) → taker_at place i.takers ≡ Some t → IsServed (ends_served i) place → (MayAssure i.mark t ⊎ MayRefuse t) → ⊥
+    pub none_spent : HasNoneSpent i
+    pub drained : i.drains ≡ true → HasEnded listening i
 
 module _ (makes : Makes) (listening : Listening) (bytes : Bytes) (places : Places) where
-  -- Once a mark was made, every row is settled, and each input was told so; and of a line that drains every row is acknowledged, and each parcel with events that was
-  -- taken has its answer.
+  -- Each row that was accepted since the line was opened is settled; each that an open input accepted, which listens on no address, was acknowledged to it; and of a line that
+  -- drains every row is acknowledged, which is recorded, and each parcel with events has its answer.
   pub record IsStopped (told : List Entry) (i : LineView places) : Type 0 where
-    pub marked : (front : ℕ) → i.mark ≡ Some front → (w : Written) → IsIn w (after makes start told).rows → w.number ≤ (after makes start told).front
-    pub assured : (v : InputView) → IsIn v i.inputs → v.is_open ≡ true → (front : ℕ) → i.mark ≡ Some front → (w : Written) → IsIn w (after makes start told).rows → w.number ≤ v.assured
+    pub marked : (n : ℕ) → IsIn n (of_each number_accepted (since told)) → n ≤ (after makes start told).front
+    pub assured : RowsAreAssured listening told i
     pub rows : i.drains ≡ true → (w : Written) → IsIn w (after makes start told).rows → IsIn w.number (after makes start told).acknowledged
-    pub answered : i.drains ≡ true → (t : TakerView) → IsIn t i.takers → (p : Parcel) → IsIn p t.taken → is_last p ≡ false → (a : Answer) × IsIn a t.given × (a.number ≡ p.number)
+    pub recorded : i.drains ≡ true → (image : Image) → (left : StopLeaves makes bytes places told i.holds image) → left.queue.held.rows ≡ []
+    pub taken : i.drains ≡ true → TakenAreAnswered i
+    pub sent : i.drains ≡ true → SentAreAnswered i
 
   -- A line that was told to stop and has come to an end is stopped.
   abbrev pub StopIsStopped : Type 0
-  StopIsStopped =
-      (told : List Entry) (i : LineView places) → Stands makes bytes places told i → Settles (after makes start told) i → LinksStand makes listening told i.takers i.next_place → IsAtStop i → IsStopped told i
+  StopIsStopped = (deeds : List Deed) (came : ℕ → List Incoming) (i : LineView places) → LineStands makes listening bytes places deeds came i → IsAtStop listening i → IsStopped (told_of deeds) i
 
-  -- Every row is acknowledged, no batch is out, and nothing is found in the queue in whatever a stop leaves; each input is at its end, and was told that each of its
-  -- rows is settled, once a mark was made; and each parcel with events that was taken has its answer.
+  -- Every row is acknowledged, no batch is out, and nothing is found in the queue in whatever a stop leaves; each input is at its end, and each row that an open one
+  -- accepted, which listens on no address, was acknowledged to it; and each parcel with events that was taken or sent has its answer.
   pub record IsDone (told : List Entry) (i : LineView places) : Type 0 where
     pub rows : (w : Written) → IsIn w (after makes start told).rows → IsIn w.number (after makes start told).acknowledged
     pub out : (after makes start told).out ≡ []
     pub found : (image : Image) → (left : StopLeaves makes bytes places told i.holds image) → left.queue.held.rows ≡ []
-    pub inputs : (v : InputView) → IsIn v i.inputs → v.is_open ≡ true → (v.ended ≡ true) × (v.held ≡ [])
-    pub assured : (v : InputView) → IsIn v i.inputs → v.is_open ≡ true → (front : ℕ) → i.mark ≡ Some front → (w : Written) → IsIn w (after makes start told).rows → w.number ≤ v.assured
-    pub answered : (t : TakerView) → IsIn t i.takers → (p : Parcel) → IsIn p t.taken → is_last p ≡ false → (a : Answer) × IsIn a t.given × (a.number ≡ p.number)
+    pub inputs : (v : InputView) → IsIn v i.inputs → v.is_open ≡ true → IsAtEnd listening i v
+    pub assured : RowsAreAssured listening told i
+    pub taken : TakenAreAnswered i
+    pub sent : SentAreAnswered i
 
   -- A line that is at rest is done.
   abbrev pub RestIsDone : Type 0
-  RestIsDone =
-      (told : List Entry) (i : LineView places) → Stands makes bytes places told i → Settles (after makes start told) i → LinksStand makes listening told i.takers i.next_place → IsAtRest i → IsDone told i
-
-  -- Each step keeps what is recorded, from the opening on.
-  abbrev pub StepsSettle : Type 0
-  StepsSettle =
-      (told : List Entry) (i : LineView places) (x : Step makes listening bytes i) → Stands makes bytes places told i → Settles (after makes start told) i → GoesOn makes listening bytes i x
-      → Settles (after makes start (told ++ (effect makes listening bytes i x).told)) (effect makes listening bytes i x).line
-
-  abbrev pub OpenedLineSettles : Type 0
-  OpenedLineSettles =
-      (told : List Entry) (image : Image) (sound : LineSound makes bytes places told image) (i : LineView places) → IsOpenedLine makes listening bytes places told image sound i
-      → Settles (after makes start (told ++ opening makes listening bytes places told image sound i)) i
+  RestIsDone = (deeds : List Deed) (came : ℕ → List Incoming) (i : LineView places) → LineStands makes listening bytes places deeds came i → IsAtRest listening i → IsDone (told_of deeds) i

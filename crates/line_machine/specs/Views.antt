@@ -11,23 +11,49 @@ use Rattle.history_laws.specs.Sound.{Places}
 use Rattle.history_laws.specs.States.{Limits, Plan}
 use Rattle.line_machine.specs.Ends.{TakerView, SenderView}
 
--- A kit of compiled filters: the generation whose configuration it was made of, its number there, and how many of its patterns and filters were read from
--- text.
+-- A kit of compiled filters: the generation whose configuration it was made of, its number there, how many of its patterns and filters were read from
+-- text, and the numbers of its boxes.
 pub record Kit : Type 0 where
   pub generation : ℕ
   pub number : ℕ
   pub built : ℕ
+  pub boxes : List ℕ
 
--- An input: its number, its statement and its id; whether the newest configuration has it; the events of its lines that came and aren't accepted yet, before its
--- settings act on them; whether nothing comes any more; and up to which number it was told that its events are settled.
+-- a box to which outputs deliver: the generation whose configuration has it, and its number
+pub record Box : Type 0 where
+  pub generation : ℕ
+  pub number : ℕ
+
+-- a place in a watched file: its path, and how many bytes stand before the place
+pub record FileAt : Type 0 where
+  pub path : List ℕ
+  pub behind : ℕ
+
+-- an event that came by an input, before the settings of that act on it; and, of a watched file, the place behind its line
+pub record Incoming : Type 0 where
+  pub event : Ev
+  pub at : Option FileAt
+
+-- the row of such an event
+pub record RowAt : Type 0 where
+  pub number : ℕ
+  pub at : Option FileAt
+
+-- An input: its number, its statement and its id; whether the newest configuration has it; of an input that listens on no address the events that came and aren't
+-- accepted yet, whether nothing comes any more, and its rows of which it wasn't told yet that they are settled.
 pub record InputView : Type 0 where
   pub number : ℕ
   pub statement : Plugin
   pub id : List ℕ
   pub is_open : Bool
-  pub held : List Ev
+  pub held : List Incoming
   pub ended : Bool
-  pub assured : ℕ
+  pub rows : List RowAt
+
+-- events that a box took, by its number
+pub record Given : Type 0 where
+  pub box : ℕ
+  pub events : List Ev
 
 -- A batch that is out: the configuration under which it was read, and its rows; once it is back, the verdicts that were used, and of what is due of it what is left;
 -- until then the kit that is out with it; and the number of the parcel in which its next delivery was sent.
@@ -42,9 +68,9 @@ pub record Batch : Type 0 where
 
 -- A line: the newest configuration; what its dead letters may hold, and how many rows a batch may have; its queue, its files and its dead letters; the rows
 -- that the queue gives next, and before them those of a batch for which there was no memory; the batches that are out, and the number of the next one; the
--- kits at home; its inputs, also those that are closed, the ends of links at which they listen, with the place of the next one, and
--- those by which it sends; the front of the last mark since it was opened; whether anything was written or
--- acknowledged since, and how many rows of each; whether it was told to stop, and then whether it
+-- kits at home, and the boxes of outputs that aren't closed; its inputs, also those that are closed, the ends of links at which they listen, with the place of the
+-- next one, and those by which it sends; the front of the last mark since it was opened; whether anything was written or
+-- acknowledged since, and how many rows of each, with how many of each make a mark due; whether it was told to stop, and then whether it
 -- drains, and the places of the ends of which it goes on to take parcels.
 pub record LineView (places : Places) : Type 0 where
   pub plan : Plan
@@ -56,6 +82,7 @@ pub record LineView (places : Places) : Type 0 where
   pub batches : List Batch
   pub next_batch : ℕ
   pub kits : List Kit
+  pub boxes : List Box
   pub inputs : List InputView
   pub takers : List TakerView
   pub next_place : ℕ
@@ -64,6 +91,8 @@ pub record LineView (places : Places) : Type 0 where
   pub uncovered : Bool
   pub written : ℕ
   pub acknowledged : ℕ
+  pub due_writes : ℕ
+  pub due_acknowledged : ℕ
   pub stopped : Bool
   pub drains : Bool
   pub going : List ℕ

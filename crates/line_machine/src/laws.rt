@@ -4,11 +4,20 @@ ghost use Rattle.history_laws.specs.Contents.{Bytes};
 ghost use Rattle.history_laws.specs.Links.{Listening};
 ghost use Rattle.history_laws.specs.Sound.{Places};
 ghost use Rattle.line_machine.specs.Answering.{AnswersStand, OpenedLinksStand};
+ghost use Rattle.line_machine.specs.Boxes.{BoxesStandStill, BoxesStay, ClosedAreUnwanted, OpenedBoxesStand};
+ghost use Rattle.line_machine.specs.Coming.{InputsStandStill, OpenedInputsStand, RecordedAreSettled};
+ghost use Rattle.line_machine.specs.Covering.{MarksCoverStill, OpenedMarksCover, OpenedRowsAreCovered, RowsAreCoveredStill};
+ghost use Rattle.line_machine.specs.Doing.{DoesLegallyStill, OpenedDoesLegally};
 ghost use Rattle.line_machine.specs.Kits.{KitsStay, KitsAreTheirs, OpenedKitsAreTheirs};
 ghost use Rattle.line_machine.specs.Laws.{CallsFollow, StepsFollow};
+ghost use Rattle.line_machine.specs.Numbering.{BatchesRiseStill, OpenedBatchesRise};
 ghost use Rattle.line_machine.specs.Openings.{OpenedLineStands, RunsStand};
+ghost use Rattle.line_machine.specs.Outputs.{OutputsTookWhatWasTold};
+ghost use Rattle.line_machine.specs.Lines.{CallsStandWhole, OpenedStandsWhole, StandsWholeStill};
+ghost use Rattle.line_machine.specs.Resting.{RestIsDone, StopIsStopped};
+ghost use Rattle.line_machine.specs.Settling.{OpenedLineSettles, StepsSettle};
 ghost use Rattle.line_machine.specs.Sending.{OpenedParcelsWereDue, ParcelsWereDue};
-ghost use Rattle.line_machine.specs.Resting.{OpenedLineSettles, RestIsDone, StepsSettle, StopIsStopped};
+ghost use Rattle.line_machine.specs.Serving.{EndsStandStill, OpenedEndsStand};
 
 /// Whatever step a line makes, and whatever a call of it answers, its history stays legal, whatever a stop within it leaves is sound with the history
 /// before or behind it, and the line stands where its history does.
@@ -71,4 +80,85 @@ pub fn parcels_were_due()
         → OpenedParcelsWereDue makes listening bytes places }
     ensures kept { (makes : Makes) (listening : Listening) (bytes : Bytes) (places : Places)
         → ParcelsWereDue makes listening bytes places }
+{}
+
+/// Whatever a line tells, sends and hears is legal, from its opening on, behind each step: each delivery to an address is
+/// told once an answer was heard, since the opening, that a parcel of exactly its events is assured, and each such
+/// answer serves one.
+pub fn deeds_are_legal()
+    ensures opened { (makes : Makes) (listening : Listening) (bytes : Bytes) (places : Places)
+        → OpenedDoesLegally makes listening bytes places }
+    ensures kept { (makes : Makes) (listening : Listening) (bytes : Bytes) (places : Places)
+        → DoesLegallyStill makes listening bytes places }
+{}
+
+/// What came to an input that listens on no address, since it was opened, is what it accepted of it, in order, and then
+/// what it holds; and of each of its rows it was told that they are settled, or the line keeps it. Each place of a
+/// watched file that is recorded stands behind a line, which is a settled row, and so is all that came before it.
+pub fn inputs_give_what_came()
+    ensures opened { (makes : Makes) (listening : Listening) (bytes : Bytes) (places : Places)
+        → OpenedInputsStand makes listening bytes places }
+    ensures kept { (makes : Makes) (listening : Listening) (bytes : Bytes) (places : Places)
+        → InputsStandStill makes listening bytes places }
+    ensures recorded { (makes : Makes) (listening : Listening) (bytes : Bytes) (places : Places)
+        → RecordedAreSettled makes listening bytes places }
+{}
+
+/// Where nothing was written or acknowledged since the last mark, that covers each row that was accepted since the
+/// opening, also those of which an input wasn't told and those of parcels that wait for an answer.
+pub fn marks_cover()
+    ensures opened { (makes : Makes) (listening : Listening) (bytes : Bytes) (places : Places)
+        → OpenedMarksCover makes listening bytes places }
+    ensures kept { (makes : Makes) (listening : Listening) (bytes : Bytes) (places : Places)
+        → MarksCoverStill makes listening bytes places }
+    ensures rows_opened { (makes : Makes) (listening : Listening) (bytes : Bytes) (places : Places)
+        → OpenedRowsAreCovered makes listening bytes places }
+    ensures rows_kept { (makes : Makes) (listening : Listening) (bytes : Bytes) (places : Places)
+        → RowsAreCoveredStill makes listening bytes places }
+{}
+
+/// Each end of a link at which a line listens belongs to an input that listens, or listened, on its address, and it
+/// listens while that is open; parcels are lost there only once it is closed.
+pub fn ends_are_served()
+    ensures opened { (makes : Makes) (listening : Listening) (bytes : Bytes) (places : Places)
+        → OpenedEndsStand makes listening bytes places }
+    ensures kept { (makes : Makes) (listening : Listening) (bytes : Bytes) (places : Places)
+        → EndsStandStill makes listening bytes places }
+{}
+
+/// No step loses a box of an output or doubles one. The boxes of the newest configuration, and those of each batch that is
+/// out, are there; a box is closed once no batch of its configuration is out any more, and no other is.
+pub fn boxes_are_closed_once()
+    ensures counted { (makes : Makes) (listening : Listening) (bytes : Bytes) (places : Places)
+        → BoxesStay makes listening bytes places }
+    ensures closed { (makes : Makes) (listening : Listening) (bytes : Bytes) (places : Places)
+        → ClosedAreUnwanted makes listening bytes places }
+    ensures opened { (makes : Makes) (listening : Listening) (bytes : Bytes) (places : Places)
+        → OpenedBoxesStand makes listening bytes places }
+    ensures kept { (makes : Makes) (listening : Listening) (bytes : Bytes) (places : Places)
+        → BoxesStandStill makes listening bytes places }
+{}
+
+/// Since a line was opened each batch that was read has a greater number than those before it.
+pub fn batches_rise()
+    ensures opened { (makes : Makes) (listening : Listening) (bytes : Bytes) (places : Places)
+        → OpenedBatchesRise makes listening bytes places }
+    ensures kept { (makes : Makes) (listening : Listening) (bytes : Bytes) (places : Places)
+        → BatchesRiseStill makes listening bytes places }
+{}
+
+/// What a step gave to stdout and to boxes is what it tells of them.
+pub fn outputs_took_what_was_told()
+    ensures { (makes : Makes) (listening : Listening) (bytes : Bytes) (places : Places)
+        → OutputsTookWhatWasTold makes listening bytes places }
+{}
+
+/// All of this holds of a line at once: from its opening on, behind each step that it goes on from, and behind each call.
+pub fn lines_stand_whole()
+    ensures opened { (makes : Makes) (listening : Listening) (bytes : Bytes) (places : Places)
+        → OpenedStandsWhole makes listening bytes places }
+    ensures kept { (makes : Makes) (listening : Listening) (bytes : Bytes) (places : Places)
+        → StandsWholeStill makes listening bytes places }
+    ensures calls { (makes : Makes) (listening : Listening) (bytes : Bytes) (places : Places)
+        → CallsStandWhole makes listening bytes places }
 {}
