@@ -54,7 +54,7 @@ count=$(wc -l <json)
 
 # The time of ten rounds over the JSON lines, without the start: the difference of the times of eleven rounds and one.
 ten_rounds() {
-    echo $(($(least_time "$program" inputs make "$1" "$work/json" $((count * 11))) - $(least_time "$program" inputs make "$1" "$work/json" "$count")))
+    echo $(($(least_time "$program" inputs make "$1" "$work/json" 11) - $(least_time "$program" inputs make "$1" "$work/json" 1)))
 }
 read=$(($(least_time "$program" json read 11 "$work/json") - $(least_time "$program" json read 1 "$work/json")))
 line=$(ten_rounds line)

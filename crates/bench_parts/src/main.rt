@@ -30,7 +30,9 @@ counters ADDS
 crc FILE PASSES
 elements size|encode|decode ROUNDS
 events get|put|take|copy ROUNDS
-inputs file|tcp|make line|json FILE|PORT LINES
+inputs file line|json FILE POLLS
+inputs tcp line|json PORT LINES
+inputs make line|json FILE ROUNDS
 jobs WORKERS TURNS JOBS
 json read|write ROUNDS FILE
 letters hold|drop_newer|drop_older LIMIT BATCHES LETTERS
