@@ -1,0 +1,5 @@
+pub mod Sources
+pub mod Watched
+pub mod Runs
+pub mod Ends
+pub mod Premises
