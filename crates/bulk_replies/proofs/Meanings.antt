@@ -1,17 +1,13 @@
 -- What a reply says, by its head and its body.
-use Rattle.std.proofs.Common.{◌≡◌, ◌≤◌, ℕ, List, length, drop, map, refl, sym, ap, subst, ◌∙◌, Option, Some, None, Result, Ok, Err, arith, Bool, true, false, if◌then◌else◌}
-use Rattle.std.specs.Prelude.{IfOk, is_some, nat_le, take}
-use Rattle.std.specs.Borrow.{Bor}
-use Rattle.std.specs.Option.{option_copied}
-use Rattle.std.proofs.lemmas.Bool.{false≢true}
-use Rattle.std.proofs.lemmas.Bool.Decides.{nat_tests}
+use Rattle.std.proofs.Common.{◌≡◌, ℕ, List, drop, map, sym, ap, subst, ◌∙◌, Option, Some, None, Result, Ok, Err, Bool}
+use Rattle.std.specs.Prelude.{◌↔◌, IfOk, IsTrue}
 use Rattle.httparse.specs.Grammar.{ResponseHead, status_code}
 use Rattle.httparse.specs.Spans.{name_and_value}
 use Rattle.httparse.proofs.GrammarLemmas.{response_unique}
-use Rattle.bulk_replies.specs.Bodies.{HasChunks, IsBody, framing_of}
+use Rattle.bulk_replies.specs.Bodies.{EndsWithin, HasChunks, IsBody, framing_of}
 use Rattle.bulk_replies.specs.Fronts.{HasNoChunks}
 use Rattle.bulk_replies.specs.Heads.{HasHead, IsHead}
-use Rattle.bulk_replies.specs.Reading.{Answers, SaysOf, SaysBehind, front_of}
+use Rattle.bulk_replies.specs.Reading.{Answers, SaysOf, SaysBehind}
 use Rattle.bulk_replies.specs.Replies.{IsBad, IsWhole}
 use Rattle.bulk_replies.specs.declared.framing.Framing.{Framing}
 use Rattle.bulk_replies.specs.declared.framing.Framing.TheVariants as framing
@@ -31,10 +27,6 @@ chunked_says count f bytes body (Err e) is has says = tt
 pub unchunked_says : (count : ℕ) (f : Framing) (bytes : List ℕ) → f ≡ framing.Chunked → HasNoChunks bytes → SaysBehind count f bytes None
 unchunked_says count f bytes is none = subst (λ x. SaysBehind count x bytes None) (sym is) (λ answers a. none a.body a.is_body)
 
-pub some_front : (r : Option (Bor (List ℕ))) (front : Option (List ℕ)) → option_copied r ≡ front → is_some r ≡ true → is_some front ≡ true
-some_front (Some x) front is some = ap is_some (sym is)
-some_front None front is some = absurd (false≢true some)
-
 -- a head is the one that was found
 module _ (reply : List ℕ) (found : Head) (h : IsHead reply found) where
   same_head : (head : ResponseHead) (rest : List ℕ) → HasHead reply head rest → (head ≡ h.head) × (rest ≡ drop found.len reply)
@@ -50,16 +42,13 @@ module _ (reply : List ℕ) (found : Head) (h : IsHead reply found) where
     });
   }
 
-  enough : (b : Bool) (n : ℕ) (bytes : List ℕ) → nat_le n (length bytes) ≡ b → is_some (if b then Some (take n bytes) else None) ≡ true → n ≤ length bytes
-  enough true n bytes is some = grind (arith, nat_tests)
-  enough false n bytes is some = absurd (false≢true some)
+  whole : EndsWithin found.framing (drop found.len reply) → IsWhole reply
+  whole ends = record { head = h.head; rest = drop found.len reply; has_head = h.has_head; ends = subst (λ f. EndsWithin f (drop found.len reply)) h.framing ends }
 
-  pub sized_whole : (n : ℕ) → found.framing ≡ framing.Sized n → is_some (front_of n (drop found.len reply)) ≡ true → IsWhole reply
-  sized_whole n is some = record {
-    head = h.head;
-    rest = drop found.len reply;
-    body = take n (drop found.len reply);
-    has_head = h.has_head;
-    ends = λ open_end. let no : framing.Sized n ≡ framing.ToClose = sym is ∙ h.framing ∙ open_end in cc;
-    has_body = subst (λ f. IsBody f (drop found.len reply) (take n (drop found.len reply))) (sym is ∙ h.framing) (enough (nat_le n (length (drop found.len reply))) n (drop found.len reply) refl some, refl);
-  }
+  ends_within : IsWhole reply → EndsWithin found.framing (drop found.len reply)
+  ends_within w =
+      let same = same_head w.head w.rest w.has_head in
+      subst (EndsWithin found.framing) same.1 (subst (λ f. EndsWithin f w.rest) (ap (λ head. framing_of (map name_and_value head.fields)) same.0 ∙ sym h.framing) w.ends)
+
+  pub whole_where : {b : Bool} {bytes : List ℕ} → bytes ≡ drop found.len reply → IsTrue b ↔ EndsWithin found.framing bytes → IsTrue b ↔ IsWhole reply
+  whole_where is ends = (λ yes. whole (subst (EndsWithin found.framing) is (ends.0 yes)), λ w. ends.1 (subst (EndsWithin found.framing) (sym is) (ends_within w)))

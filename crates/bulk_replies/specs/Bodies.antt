@@ -60,3 +60,10 @@ IsBody Chunked bytes body = HasChunks bytes body
 IsBody (Sized n) bytes body = (n ≤ length bytes) × (body ≡ take n bytes)
 IsBody ToClose bytes body = body ≡ bytes
 IsBody Unreadable bytes body = ⊥
+
+-- the head says where the body ends, and it ends within these bytes
+abbrev pub EndsWithin : Framing → List ℕ → Type 0
+EndsWithin Chunked bytes = (body : List ℕ) × HasChunks bytes body
+EndsWithin (Sized n) bytes = n ≤ length bytes
+EndsWithin ToClose bytes = ⊥
+EndsWithin Unreadable bytes = ⊥

@@ -3,9 +3,8 @@ use Rattle.std.specs.Prelude.{◌≡◌, ◌≢◌, ℕ, List, map, Some, IsUtf8
 use Rattle.httparse.specs.Grammar.{ResponseHead, status_code}
 use Rattle.httparse.specs.Spans.{name_and_value}
 use Rattle.bulk_replies.specs.Answers.{Answer, answers_of, said_of}
-use Rattle.bulk_replies.specs.Bodies.{IsBody, framing_of}
+use Rattle.bulk_replies.specs.Bodies.{EndsWithin, IsBody, framing_of}
 use Rattle.bulk_replies.specs.Heads.{HasHead}
-use Rattle.bulk_replies.specs.declared.framing.Framing.TheVariants.{ToClose}
 use Rattle.bulk_replies.specs.declared.reply.Reply.{Reply}
 use Rattle.bulk_replies.specs.declared.reply.Reply.TheVariants.{Good, Other, Bad}
 
@@ -37,11 +36,9 @@ Says count reply (Good said) = (answers : List Answer) × IsGood count reply ans
 Says count reply (Other status) = HasStatus reply status × (status ≢ 200)
 Says count reply Bad = IsBad count reply
 
--- it has a whole body by what its head says, wherever the connection is closed
+-- its body is whole by what its head says, so that no byte behind these is part of it
 pub record IsWhole (reply : List ℕ) : Type 0 where
   pub head : ResponseHead
   pub rest : List ℕ
-  pub body : List ℕ
   pub has_head : HasHead reply head rest
-  pub ends : framing_of (map name_and_value head.fields) ≢ ToClose
-  pub has_body : IsBody (framing_of (map name_and_value head.fields)) rest body
+  pub ends : EndsWithin (framing_of (map name_and_value head.fields)) rest

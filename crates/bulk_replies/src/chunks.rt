@@ -39,7 +39,7 @@ pub(crate) fn join_chunks(alloc: Global, bytes: &[u8]) -> Result<Option<Vec<u8>>
 
 /// Whether a body in chunks is whole.
 pub(crate) fn are_whole(bytes: &[u8]) -> bool
-    ensures { IsTrue result → (body : List ℕ) × HasChunks bytes.now body }
+    ensures { IsTrue result ↔ (body : List ℕ) × HasChunks bytes.now body }
 {
     let mut at = 0;
     while at < bytes.len() {

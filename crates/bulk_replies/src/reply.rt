@@ -1,5 +1,6 @@
-ghost use Rattle.std.specs.Prelude.{◌≡◌, ◌<◌, ◌≤◌, take, length, IfOk, IsTrue, Some, None};
+ghost use Rattle.std.specs.Prelude.{◌≡◌, ◌≤◌, ◌↔◌, length, IfOk, IsTrue};
 ghost use Rattle.std.specs.Option.{option_copied};
+ghost use Rattle.bulk_replies.specs.Bodies.{EndsWithin};
 ghost use Rattle.bulk_replies.specs.Reading.{SaysBehind, front_of};
 ghost use Rattle.bulk_replies.specs.Replies.{IsWhole, Says};
 
@@ -78,15 +79,22 @@ fn front(bytes: &[u8], length: u64) -> Option<&[u8]>
 /// Whether a reply is whole by what its head says, so that no byte behind these is part of it. One that ends where its
 /// connection is closed never is.
 pub fn is_whole(reply: &[u8]) -> bool
-    ensures { IsTrue result → IsWhole reply.now }
+    ensures { IsTrue result ↔ IsWhole reply.now }
 {
     let Some(head) = read_head(reply) else {
         return false;
     };
     let (_, behind) = reply.split_at(head.len);
-    match head.framing {
-        Framing::Chunked => are_whole(behind),
-        Framing::Sized(length) => front(behind, length).is_some(),
+    ends_within(head.framing, behind)
+}
+
+// Whether the head says where the body ends, and it ends within these bytes.
+fn ends_within(framing: Framing, bytes: &[u8]) -> bool
+    ensures { IsTrue result ↔ EndsWithin framing bytes.now }
+{
+    match framing {
+        Framing::Chunked => are_whole(bytes),
+        Framing::Sized(length) => front(bytes, length).is_some(),
         Framing::ToClose | Framing::Unreadable => false,
     }
 }

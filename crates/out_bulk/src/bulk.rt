@@ -141,6 +141,13 @@ impl<Q: Peer> Bulk<Q> {
         &self.last_bad
     }
 
+    /// How often it put a batch off, up to the last value of u64.
+    pub fn laters(&self) -> u64
+        ensures { result ≡ self.now.laters }
+    {
+        self.laters
+    }
+
     /// Reads the settings of the plugin that it is to be. Where it takes them it forgets what was settled of a batch; where it
     /// doesn't it is as it was.
     pub fn configure(&mut self, settings: &Settings) -> Result<(), FromFault>
