@@ -35,7 +35,7 @@ pub acknowledged_held : (numbers : Numbers) (v : QueueView) (marks : List Mark) 
 acknowledged_held numbers v marks bytes held = changed_held (with_acknowledged numbers) (λ o. refl) (λ o. refl) (λ o. refl) v marks bytes (with_acknowledged numbers v.top) refl refl refl held
 
 -- the marks of a queue keep their names
-files_same : (tails : List OpenPage) (top : OpenPage) (marks : List Mark) → length marks ≡ length tails + 1 → map (λ (m : Mark). m.file) (marks_of tails top marks) ≡ map (λ (m : Mark). m.file) marks
+pub files_same : (tails : List OpenPage) (top : OpenPage) (marks : List Mark) → length marks ≡ length tails + 1 → map (λ (m : Mark). m.file) (marks_of tails top marks) ≡ map (λ (m : Mark). m.file) marks
 files_same [] top [] long = refl
 files_same [] top (m ∷ marks) long = refl
 files_same (o ∷ tails) top [] long = refl

@@ -26,3 +26,5 @@ pub mod RisingRows
 pub mod OpenRows
 pub mod GivenOnce
 pub mod Recovered
+pub mod OwnFiles
+pub mod BesideOthers

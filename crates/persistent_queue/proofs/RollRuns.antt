@@ -1,5 +1,5 @@
 -- A new head page behind those of an open queue.
-use Rattle.std.proofs.Common.{◌≡◌, ◌⊎◌, ⊎_elim, inl, inr, ℕ, suc, ◌≢◌, ◌+◌, ◌-◌, ◌<◌, ◌≤◌, ◌^◌, IsTrue, List, [], ◌∷◌, ◌++◌, length, Option, Some, refl, sym, ◌∙◌, ap, subst, arith, length-append}
+use Rattle.std.proofs.Common.{◌≡◌, ◌⊎◌, ⊎_elim, inl, inr, ℕ, suc, ◌≢◌, ◌+◌, ◌-◌, ◌<◌, ◌≤◌, ◌^◌, IsTrue, List, [], ◌∷◌, ◌++◌, length, Option, refl, sym, ◌∙◌, ap, subst, arith, length-append}
 use Rattle.std.proofs.Math.Path.{ap₂}
 use Rattle.io_traits.specs.Folders.{Content}
 use Rattle.io_traits.specs.Reads.{bytes_of, file_length}
@@ -7,7 +7,7 @@ use Rattle.crc_frame.specs.Slots.{next_turn}
 use Rattle.store_trait.specs.Moments.{ReadsBeside}
 use Rattle.store_trait.specs.declared.stores.Store.{Ghosts as StoreWords}
 use Rattle.queue_page.specs.Blocks.{IsPart}
-use Rattle.queue_laws.specs.Folders.{Role, head, page, checkpoint, Folder, names_in}
+use Rattle.queue_laws.specs.Folders.{Role, head, page, checkpoint, names_in}
 use Rattle.queue_laws.specs.Kept.{Page, Queue, Rising, leading}
 use Rattle.queue_laws.specs.Resting.{Held, TopHeld}
 use Rattle.queue_laws.specs.Steps.{CanRoll, rolled}

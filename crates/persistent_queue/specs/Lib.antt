@@ -13,3 +13,4 @@ pub mod Writing
 pub mod UnreadRows
 pub mod GivenOnce
 pub mod Recovery
+pub mod Beside

@@ -1,5 +1,6 @@
 //! What holds of open queues and of batches as rows. Each function here does nothing: its clause is a theorem.
 ghost use Rattle.persistent_queue.specs.Acknowledging.{AcknowledgedIsOpen, AcknowledgedIsReady};
+ghost use Rattle.persistent_queue.specs.Beside.{HoldsBeside, StaysOpen, StaysReady};
 ghost use Rattle.persistent_queue.specs.GivenOnce.{RowsAreGivenOnce};
 ghost use Rattle.persistent_queue.specs.NextBatch.{NextBatchIsRead};
 ghost use Rattle.persistent_queue.specs.QueueBatches.{FirstRowsAreTaken};
@@ -81,4 +82,12 @@ pub fn each_row_is_given_once<S: Store>()
 /// recorded, or aren't now; and of those behind the last record the first, be they none or all.
 pub fn what_is_kept_is_opened<S: Store>()
     ensures { WhatIsKeptIsOpened S.Store }
+{}
+
+/// Calls of others on the store, which change no file of the queue's folder, leave the queue: whatever a stop
+/// leaves meanwhile holds it, the store holds it when they are done, and it takes calls as before.
+pub fn others_change_nothing<S: Store>()
+    ensures holds { HoldsBeside S.Store }
+    ensures opens { StaysOpen S.Store }
+    ensures ready { StaysReady S.Store }
 {}

@@ -2,9 +2,10 @@
 ghost use Rattle.std.specs.Prelude.{◌≡◌, ◌≤◌, ◌<◌, ◌+◌, ◌-◌, ◌++◌, ◌∷◌, ◌^◌, [], map, IsTrue, IfOk, Err};
 ghost use Rattle.io_traits.specs.Counts.{HasCause};
 ghost use Rattle.io_traits.specs.Folders.{folder_start};
+ghost use Rattle.store_trait.specs.Moments.{EachMoment, LeavesBeside, ReadsBeside};
 ghost use Rattle.store_disk.specs.declared.faults.QueueFault.TheVariants as f;
 ghost use Rattle.queue_page.specs.Views.{PageView};
-ghost use Rattle.queue_laws.specs.Folders.{head, page, checkpoint, names_in};
+ghost use Rattle.queue_laws.specs.Folders.{head, page, checkpoint, IsOwn, names_in};
 ghost use Rattle.queue_core.specs.Known.{AreStated};
 ghost use Rattle.queue_core.specs.Marks.{read_in};
 ghost use Rattle.queue_core.specs.Opened.{KeepsOpened, OpeningKeeps};
@@ -50,6 +51,12 @@ impl Queue {
         ensures ready { IfOk result (λ queue. IsReady S.Store queue store.new) }
         ensures opens { IfOk result (λ queue. OpensFolder S.Store folder.now limits store.old
             store.new queue) }
+
+        // Other files read as before, and a stop leaves them as it might have left them.
+        ensures beside { ReadsBeside S.Store (IsOwn (names_in folder.now)) store.old
+            store.new }
+        ensures beside_moments { EachMoment S.Store store.old store.new
+            (LeavesBeside S.Store (IsOwn (names_in folder.now)) store.old) }
 
         ensures cause { HasCause (S.faults store.old) (S.faults store.new) (result ≡ Err f.Fault) }
     {

@@ -1,5 +1,7 @@
 ghost use Rattle.std.specs.Prelude.{◌≡◌, ◌-◌, IsErr, IfOk, OnOk, OnErr};
 ghost use Rattle.io_traits.specs.Counts.{HasCause};
+ghost use Rattle.store_trait.specs.Moments.{EachMoment, LeavesBeside, ReadsBeside};
+ghost use Rattle.queue_laws.specs.Folders.{IsOwn, names_in};
 ghost use Rattle.queue_laws.specs.Steps.{marked};
 ghost use Rattle.persistent_queue.specs.Calls.{behind_acknowledge, behind_mark, behind_purge, first_spent, last_number};
 ghost use Rattle.persistent_queue.specs.Opens.{Becomes, IsReady, KeepsQueue, purged};
@@ -94,6 +96,12 @@ impl Queue {
         ensures records { OnOk result
             (Becomes S.Store marked self.old self.new store.old store.new) }
 
+        // Other files read as before, and a stop leaves them as it might have left them.
+        ensures beside { ReadsBeside S.Store (IsOwn (names_in self.old.folder)) store.old
+            store.new }
+        ensures beside_moments { EachMoment S.Store store.old store.new
+            (LeavesBeside S.Store (IsOwn (names_in self.old.folder)) store.old) }
+
         ensures cause { HasCause (S.faults store.old) (S.faults store.new) (IsErr result) }
     {
         set_marks(&mut self.marks, self.tails.as_slice(), &self.top);
@@ -119,6 +127,12 @@ impl Queue {
         ensures keeps { KeepsQueue S.Store self.old store.old store.new }
         ensures removes { OnOk result
             (Becomes S.Store purged self.old self.new store.old store.new) }
+
+        // Other files read as before, and a stop leaves them as it might have left them.
+        ensures beside { ReadsBeside S.Store (IsOwn (names_in self.old.folder)) store.old
+            store.new }
+        ensures beside_moments { EachMoment S.Store store.old store.new
+            (LeavesBeside S.Store (IsOwn (names_in self.old.folder)) store.old) }
 
         ensures cause { HasCause (S.faults store.old) (S.faults store.new) (IsErr result) }
     {

@@ -1,7 +1,9 @@
 // A new head page, which is begun for a row behind a mark.
-ghost use Rattle.std.specs.Prelude.{◌≡◌, ◌<◌, ◌-◌, ◌^◌, suc, length, IsErr, IfOk, OnOk};
+ghost use Rattle.std.specs.Prelude.{◌≡◌, ◌⊎◌, ◌<◌, ◌-◌, ◌^◌, suc, length, IsErr, IfOk, OnOk};
 ghost use Rattle.io_traits.specs.Counts.{HasCause};
 ghost use Rattle.queue_page.specs.Pages.{with_element};
+ghost use Rattle.queue_core.specs.Others.{IsMarked, KeepsOthers};
+ghost use Rattle.queue_core.specs.Ready.{IsOfNext};
 ghost use Rattle.persistent_queue.specs.Calls.{with_recorded};
 ghost use Rattle.persistent_queue.specs.Views.{QueueView};
 ghost use Rattle.persistent_queue.specs.Writing.{next_page, BeginAdds, BeginKeeps, IsBegin};
@@ -57,6 +59,8 @@ pub(crate) fn begin<S: Store>(
     ensures keeps { BeginKeeps S.Store marks.now next.now frame.now store.old store.new }
     ensures adds { OnOk result
         (BeginAdds S.Store marks.now next.now frame.now store.old store.new) }
+    ensures beside { KeepsOthers S.Store
+        (λ n. IsMarked marks.now n ⊎ IsOfNext next.now n) store.old store.new }
     ensures cause { HasCause (S.faults store.old) (S.faults store.new) (IsErr result) }
 {
     mark_pages(store, marks)?;

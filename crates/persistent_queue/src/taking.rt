@@ -3,8 +3,10 @@ ghost use Rattle.std.specs.Prelude.{◌≡◌, ◌≤◌, ◌-◌, ◌⊎◌, �
 ghost use Rattle.io_traits.specs.Counts.{HasCause};
 ghost use Rattle.io_traits.specs.Reads.{bytes_of, file_length};
 ghost use Rattle.store_trait.specs.Calls.{ChangesNothing};
+ghost use Rattle.store_trait.specs.Moments.{EachMoment, LeavesBeside, ReadsBeside};
 ghost use Rattle.store_disk.specs.declared.faults.QueueFault.TheVariants as f;
 ghost use Rattle.queue_page.specs.Blocks.{IsPart};
+ghost use Rattle.queue_laws.specs.Folders.{IsOwn, names_in};
 ghost use Rattle.persistent_queue.specs.Batching.{Finds};
 ghost use Rattle.persistent_queue.specs.Opens.{Becomes, IsOfFiles, IsReady, KeepsQueue};
 ghost use Rattle.persistent_queue.specs.Taking.{stand, entered, is_passed, page_read, pages_read, begun, batch_of, rows_in, AreThere, GivesNextRows, HasSameNext, IsSameButNext, WasRead};
@@ -256,6 +258,12 @@ impl Queue {
         ensures ready { IsReady S.Store self.old store.old → IsReady S.Store self.new store.new }
         ensures keeps { KeepsQueue S.Store self.old store.old store.new }
         ensures stays { Becomes S.Store (λ q. q) self.old self.new store.old store.new }
+
+        // Other files read as before, and a stop leaves them as it might have left them.
+        ensures beside { ReadsBeside S.Store (IsOwn (names_in self.old.folder)) store.old
+            store.new }
+        ensures beside_moments { EachMoment S.Store store.old store.new
+            (LeavesBeside S.Store (IsOwn (names_in self.old.folder)) store.old) }
 
         ensures same { ChangesNothing S.tells S.seen S.moment S.may_leave store.old store.new }
         ensures cause { HasCause (S.faults store.old) (S.faults store.new) (result ≡ Err f.Fault) }

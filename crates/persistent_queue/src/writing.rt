@@ -2,8 +2,11 @@
 ghost use Rattle.std.specs.Prelude.{◌≡◌, ◌≢◌, ◌⊎◌, ◌↔◌, ◌≤◌, ◌<◌, ◌+◌, ◌-◌, ◌^◌, ◌*◌, ◌++◌, ◌∷◌, [], false, true, suc, length, map, vec_capacity, IfOk, IfErr, OnOk, OnErr, Err};
 ghost use Rattle.std.specs.List.{insert};
 ghost use Rattle.io_traits.specs.Counts.{HasCause};
+ghost use Rattle.store_trait.specs.Moments.{EachMoment, LeavesBeside, ReadsBeside};
 ghost use Rattle.queue_page.specs.Grammar.{IsNext};
 ghost use Rattle.queue_page.specs.declared.row.PageRow.{PageRow as Row};
+ghost use Rattle.queue_laws.specs.Folders.{IsOwn, names_in};
+ghost use Rattle.queue_core.specs.Others.{KeepsOthers};
 ghost use Rattle.queue_core.specs.Ready.{RowKept};
 ghost use Rattle.persistent_queue.specs.Calls.{behind_mark, bytes_in, end_of, tail_bytes, with_marked, with_recorded};
 ghost use Rattle.persistent_queue.specs.Opens.{Becomes, IsReady};
@@ -202,6 +205,7 @@ impl HeldPage {
             → RowKept S.Store self.old.file frame.now store.old store.new }
         ensures ready { OnOk result
             (RowAdded S.Store self.old.file frame.now store.old store.new) }
+        ensures beside { KeepsOthers S.Store (λ n. n ≡ self.old.file) store.old store.new }
         ensures cause { HasCause (S.faults store.old) (S.faults store.new) (result ≡ Err w.Fault) }
     {
         self.acknowledged.push()?;
@@ -248,6 +252,12 @@ impl Queue {
             store.old store.new }
         ensures adds { OnOk result (Becomes S.Store (with_written self.old origin.now event.now)
             self.old self.new store.old store.new) }
+
+        // Other files read as before, and a stop leaves them as it might have left them.
+        ensures beside { ReadsBeside S.Store (IsOwn (names_in self.old.folder)) store.old
+            store.new }
+        ensures beside_moments { EachMoment S.Store store.old store.new
+            (LeavesBeside S.Store (IsOwn (names_in self.old.folder)) store.old) }
 
         // Each fault exactly where it has its cause.
         ensures spent { (result ≡ Err w.NumbersSpent)
@@ -297,6 +307,8 @@ impl Queue {
         ensures keeps { KeepsRow S.Store (written needed) self.old frame.now store.old store.new }
         ensures adds { OnOk result
             (AddsRow S.Store (written needed) self.old self.new frame.now store.old store.new) }
+        ensures beside { KeepsOthers S.Store (IsOwn (names_in self.old.folder)) store.old
+            store.new }
         ensures cause { HasCause (S.faults store.old) (S.faults store.new) (result ≡ Err w.Fault) }
     {
         if needed {
@@ -321,6 +333,8 @@ impl Queue {
         ensures keeps { KeepsRow S.Store row_here self.old frame.now store.old store.new }
         ensures adds { OnOk result
             (AddsRow S.Store row_here self.old self.new frame.now store.old store.new) }
+        ensures beside { KeepsOthers S.Store (IsOwn (names_in self.old.folder)) store.old
+            store.new }
         ensures cause { HasCause (S.faults store.old) (S.faults store.new) (result ≡ Err w.Fault) }
     {
         let bytes = self.bytes_with(frame.len() as u64);
@@ -349,6 +363,8 @@ impl Queue {
         ensures memory { result ≡ Err w.Memory → store.new ≡ store.old }
         ensures keeps { KeepsRow S.Store row_behind self.old frame.now store.old store.new }
         ensures adds { OnOk result (Begun S.Store self.old frame.now store.old store.new) }
+        ensures beside { KeepsOthers S.Store (IsOwn (names_in self.old.folder)) store.old
+            store.new }
         ensures cause { HasCause (S.faults store.old) (S.faults store.new) (result ≡ Err w.Fault) }
     {
         let bytes = self.bytes_with(frame.len() as u64 + 1);

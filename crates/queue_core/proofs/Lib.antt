@@ -27,3 +27,5 @@ pub mod QueueReads
 pub mod QueueReady
 pub mod Lengths
 pub mod KnownPages
+pub mod OtherFiles
+pub mod Seeings

@@ -50,13 +50,13 @@ no_damage names f.Fault found none = tt
 no_damage names f.Memory found none = tt
 
 -- the head slot tells no page
-head_damaged : (folder : Folder) (m : Misfit) → is_new folder ≡ false → told (folder head) ≡ Err m → found folder ≡ Err (head, m)
+pub head_damaged : (folder : Folder) (m : Misfit) → is_new folder ≡ false → told (folder head) ≡ Err m → found folder ≡ Err (head, m)
 head_damaged folder m other tells =
     cond-false (is_new folder) (Ok nothing_found) (and_then (told_at head (folder head)) (of_head folder)) other
     ∙ ap (λ (t : Result PageState Misfit). and_then (or_damage t (λ m. (head, m))) (of_head folder)) tells
 
 -- what is told of the slots is told of the file
-told_as : (file : _) (slots : Slots) (result : Result (ℕ × PageState) Differing) → slots ≡ slots_of (bytes_of file) → as_told result ≡ told_by slots slots.newest → told file ≡ as_told result
+pub told_as : (file : _) (slots : Slots) (result : Result (ℕ × PageState) Differing) → slots ≡ slots_of (bytes_of file) → as_told result ≡ told_by slots slots.newest → told file ≡ as_told result
 told_as file slots result are says = sym (says ∙ ap (λ (s : Slots). told_by s s.newest) are)
 
 -- ---- what a stop leaves

@@ -1,5 +1,5 @@
 -- The queue of a folder that was opened is ready.
-use Rattle.std.proofs.Common.{◌≡◌, ℕ, ◌<◌, ◌^◌, nat_lt, IsTrue, List, [], ◌∷◌, filter, length, map, Option, Some, Result, Ok, Err, IfOk, refl, sym, ◌∙◌, ap, subst, arith}
+use Rattle.std.proofs.Common.{◌≡◌, ℕ, ◌<◌, ◌^◌, nat_lt, IsTrue, List, [], filter, Option, Some, Result, Ok, Err, IfOk, refl, sym, ◌∙◌, ap, subst, arith}
 use Rattle.io_traits.specs.Folders.{Content}
 use Rattle.io_traits.specs.Reads.{bytes_of}
 use Rattle.store_trait.specs.Moments.{ImagesTell}
@@ -20,7 +20,6 @@ use Rattle.queue_core.specs.Queues.{IsNewest, ArePages, IsQueueOf, LeavesRead, O
 use Rattle.queue_core.specs.declared.listing.Listing.{Listing}
 use Rattle.queue_core.specs.declared.opening.Opened.{Opened}
 use Rattle.queue_core.specs.declared.reading.Scanned.{Scanned}
-use Rattle.queue_core.specs.declared.tails.Tail.{Tail}
 use Rattle.queue_core.proofs.Keeping.{at_rest_rests}
 use Rattle.queue_core.proofs.Openings.{found_here}
 use Rattle.queue_core.proofs.QueueOpens.{opens_queue}

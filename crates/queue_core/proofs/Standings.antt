@@ -24,7 +24,7 @@ later_above m numbers rises n c =
 rest_rises : (m : ℕ) (numbers : List ℕ) → IsStrictlyIncreasing (m ∷ numbers) → IsStrictlyIncreasing numbers
 rest_rises m numbers rises = IsStrictlyIncreasing-from_sorted numbers (sorted_tail nat_cmp m numbers (sorted_from_strictly_increasing (m ∷ numbers) rises))
 
-standing_from : (from end : ℕ) (folder : Folder) (numbers : List ℕ) → IsStrictlyIncreasing numbers → ((n : ℕ) → Contains numbers n → (from ≤ n) × (n < end) × IsSome (folder (page n)))
+pub standing_from : (from end : ℕ) (folder : Folder) (numbers : List ℕ) → IsStrictlyIncreasing numbers → ((n : ℕ) → Contains numbers n → (from ≤ n) × (n < end) × IsSome (folder (page n)))
     → ((n : ℕ) → from ≤ n → n < end → IsSome (folder (page n)) → Contains numbers n) → AreStanding from end folder numbers
 standing_from from end folder [] rises has all = λ n past within. none_if_not (folder (page n)) (λ some. omega (arith, (all n past within some).1))
 standing_from from end folder (m ∷ numbers) rises has all =

@@ -11,3 +11,4 @@ pub mod Unread
 pub mod Opened
 pub mod Queues
 pub mod Known
+pub mod Others

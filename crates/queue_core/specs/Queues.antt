@@ -1,5 +1,5 @@
 -- The queue that the pages of a folder are.
-use Rattle.std.specs.Prelude.{◌≡◌, ◌≢◌, ◌<◌, ◌+◌, ◌^◌, nat_lt, ℕ, Bool, IsTrue, ⊤, List, [], ◌∷◌, ◌++◌, length, map, take, Some, option_map, Ok}
+use Rattle.std.specs.Prelude.{◌≡◌, ◌≢◌, ◌<◌, ◌+◌, ◌^◌, nat_lt, ℕ, Bool, IsTrue, ⊤, List, [], ◌∷◌, length, take, Some, option_map, Ok}
 use Rattle.io_traits.specs.Reads.{bytes_of}
 use Rattle.store_trait.specs.Images.{Image, IsAtRest}
 use Rattle.store_trait.specs.Moments.{MayLeaveNow}

@@ -19,13 +19,15 @@ use store_disk::{QueueFault, Store};
 /// The numbers of the pages in a folder, and of its checkpoints but for that of the head page, in rising
 /// order.
 #[derive(Drop)]
-pub(crate) struct Listing {
-    pub(crate) pages: Vec<u32>,
-    pub(crate) checkpoints: Vec<u32>,
+pub struct Listing {
+    /// The pages.
+    pub pages: Vec<u32>,
+    /// The checkpoints.
+    pub checkpoints: Vec<u32>,
 }
 
 /// What is in a folder, whose path ends with a slash. Files with names like `page.007` are none of a queue.
-pub(crate) fn list_folder<S: Store>(
+pub fn list_folder<S: Store>(
     alloc: Global,
     store: &mut S,
     folder: &str,

@@ -1,6 +1,7 @@
-ghost use Rattle.std.specs.Prelude.{IsTrue, OnOk, IsErr};
+ghost use Rattle.std.specs.Prelude.{◌≡◌, IsTrue, OnOk, IsErr};
 ghost use Rattle.io_traits.specs.Counts.{HasCause};
 ghost use Rattle.store_trait.specs.Moments.{EachMoment};
+ghost use Rattle.queue_core.specs.Others.{IsMarked, KeepsOthers};
 ghost use Rattle.queue_core.specs.Ready.{MarkKeeps, MarkRecords};
 ghost use Rattle.queue_core.specs.Writes.{due_of, writes_of, CanWrite, MayLeave, Wrote, MayStop, Settled};
 
@@ -28,6 +29,7 @@ fn write_marks<S: Store>(store: &mut S, marks: &[Mark]) -> Result<(), Failed>
         (MayLeave S.Store store.old (writes_of marks.now)) }
     ensures wrote { OnOk result (IsTrue S.tells
         → Wrote (writes_of marks.now) (S.seen store.old) (S.seen store.new)) }
+    ensures beside { KeepsOthers S.Store (IsMarked marks.now) store.old store.new }
     ensures cause { HasCause (S.faults store.old) (S.faults store.new) (IsErr result) }
 {
     for mark in marks {
@@ -46,6 +48,7 @@ fn write_mark<S: Store>(store: &mut S, mark: &Mark) -> Result<(), Failed>
         (MayLeave S.Store store.old (due_of mark.now)) }
     ensures wrote { OnOk result (IsTrue S.tells
         → Wrote (due_of mark.now) (S.seen store.old) (S.seen store.new)) }
+    ensures beside { KeepsOthers S.Store (λ n. n ≡ mark.now.file) store.old store.new }
     ensures cause { HasCause (S.faults store.old) (S.faults store.new) (IsErr result) }
 {
     if mark.due {
@@ -69,6 +72,7 @@ pub fn mark_pages<S: Store>(store: &mut S, marks: &[Mark]) -> Result<(), Failed>
     ensures keeps { MarkKeeps S.Store marks.now store.old store.new }
     ensures records { OnOk result (MarkRecords S.Store marks.now store.old store.new) }
 
+    ensures beside { KeepsOthers S.Store (IsMarked marks.now) store.old store.new }
     ensures cause { HasCause (S.faults store.old) (S.faults store.new) (IsErr result) }
 {
     store.sync()?;

@@ -4,9 +4,10 @@ ghost use Rattle.io_traits.specs.Counts.{HasCause};
 ghost use Rattle.io_traits.specs.Folders.{folder_start};
 ghost use Rattle.io_traits.specs.Reads.{bytes_of};
 ghost use Rattle.store_disk.specs.declared.faults.QueueFault.TheVariants as f;
-ghost use Rattle.queue_laws.specs.Folders.{head, names_in};
+ghost use Rattle.queue_laws.specs.Folders.{head, IsOwn, names_in};
 ghost use Rattle.queue_core.specs.Known.{AreStated, WasOpened};
 ghost use Rattle.queue_core.specs.Marks.{read_in};
+ghost use Rattle.queue_core.specs.Others.{KeepsOthers};
 ghost use Rattle.queue_core.specs.Queues.{IsNewest, OpensReady};
 ghost use Rattle.queue_core.specs.Unread.{IsRead};
 ghost use Rattle.queue_core.specs.Opened.{FindsOpened, IsSeen, IsBegun, HoldsFound, KeepsOpened, OpeningKeeps};
@@ -55,6 +56,7 @@ pub fn open_folder<S: Store>(
     ensures stated { IfOk result (λ o. AreStated o.state o.pages) }
     ensures opened { IfOk result (λ o. WasOpened S.Store (names_in folder.now) o store.old
         store.new) }
+    ensures beside { KeepsOthers S.Store (IsOwn (names_in folder.now)) store.old store.new }
     ensures cause { HasCause (S.faults store.old) (S.faults store.new) (result ≡ Err f.Fault) }
 {
     store.sync()?;
@@ -80,6 +82,7 @@ fn open_seen<S: Store>(
     ensures stated { IfOk result (λ o. AreStated o.state o.pages) }
     ensures opened { IfOk result (λ o. IsSeen S.Store (names_in folder.now) look store.old
         → WasOpened S.Store (names_in folder.now) o store.old store.new) }
+    ensures beside { KeepsOthers S.Store (IsOwn (names_in folder.now)) store.old store.new }
     ensures cause { HasCause (S.faults store.old) (S.faults store.new) (result ≡ Err f.Fault) }
 {
     let Look {
@@ -114,6 +117,7 @@ fn begin_folder<S: Store>(
     ensures stated { IfOk result (λ o. AreStated o.state o.pages) }
     ensures opened { IfOk result (λ o. IsBegun S.Store (names_in folder.now) store.old
         → WasOpened S.Store (names_in folder.now) o store.old store.new) }
+    ensures beside { KeepsOthers S.Store (IsOwn (names_in folder.now)) store.old store.new }
     ensures cause { HasCause (S.faults store.old) (S.faults store.new) (result ≡ Err f.Fault) }
 {
     let page = page_name(alloc, folder, 0)?;
@@ -152,6 +156,7 @@ fn open_pages<S: Store>(
         → (IsTrue S.tells → IsNewest (bytes_of (S.seen store.old (names_in folder.now head)))
         turn state)
         → WasOpened S.Store (names_in folder.now) o store.old store.new) }
+    ensures beside { KeepsOthers S.Store (IsOwn (names_in folder.now)) store.old store.new }
     ensures cause { HasCause (S.faults store.old) (S.faults store.new) (result ≡ Err f.Fault) }
 {
     remove_unread(alloc, store, folder, &listing, &state)?;

@@ -1,6 +1,6 @@
 ghost use Rattle.std.specs.Prelude.{◌≡◌, ◌⊎◌, OnOk, IsErr};
 ghost use Rattle.io_traits.specs.Counts.{HasCause};
-ghost use Rattle.store_trait.specs.Moments.{ReadsBeside};
+ghost use Rattle.queue_core.specs.Others.{KeepsOthers};
 ghost use Rattle.queue_core.specs.Ready.{PurgeKeeps, PurgeReady};
 
 use store_disk::{Failed, Store};
@@ -13,7 +13,7 @@ pub fn remove_page<S: Store>(store: &mut S, page: &str, checkpoint: &str) -> Res
     ensures keeps { PurgeKeeps S.Store page.now checkpoint.now store.old store.new }
     ensures ready { OnOk result
         (PurgeReady S.Store page.now checkpoint.now store.old store.new) }
-    ensures beside { ReadsBeside S.Store (λ n. (n ≡ page.now) ⊎ (n ≡ checkpoint.now)) store.old
+    ensures beside { KeepsOthers S.Store (λ n. (n ≡ page.now) ⊎ (n ≡ checkpoint.now)) store.old
         store.new }
     ensures cause { HasCause (S.faults store.old) (S.faults store.new) (IsErr result) }
 {

@@ -2,9 +2,10 @@
 ghost use Rattle.std.specs.Prelude.{◌≡◌, ◌≤◌, ◌-◌, ◌+◌, ◌^◌, IsTrue, IfOk, Err};
 ghost use Rattle.io_traits.specs.Counts.{HasCause};
 ghost use Rattle.store_disk.specs.declared.faults.QueueFault.TheVariants as f;
-ghost use Rattle.queue_laws.specs.Folders.{names_in};
+ghost use Rattle.queue_laws.specs.Folders.{page, names_in};
 ghost use Rattle.queue_core.specs.Known.{AreStated};
 ghost use Rattle.queue_core.specs.Marks.{read_in};
+ghost use Rattle.queue_core.specs.Others.{KeepsOthers};
 ghost use Rattle.queue_core.specs.Queues.{IsAllAtRest, LeavesRead};
 ghost use Rattle.queue_core.specs.Reading.{FindsScanned, KeepsFound};
 
@@ -45,6 +46,8 @@ pub fn read_pages<S: Store>(
     ensures stated { IfOk result (λ r. AreStated head.now r) }
     ensures leaves { IfOk result (λ r. IsAllAtRest S.Store store.old
         → LeavesRead S.Store (names_in folder.now) head.now r store.old store.new) }
+    ensures beside { KeepsOthers S.Store (λ n. n ≡ names_in folder.now (page head.now.page))
+        store.old store.new }
     ensures cause { HasCause (S.faults store.old) (S.faults store.new) (result ≡ Err f.Fault) }
 {
     let tails = read_tails(alloc, store, folder, numbers)?;

@@ -1,5 +1,6 @@
-ghost use Rattle.std.specs.Prelude.{◌≡◌, List, ℕ, IsTrue, OnOk, IsErr};
+ghost use Rattle.std.specs.Prelude.{◌≡◌, List, ℕ, Contains, IsTrue, OnOk, IsErr};
 ghost use Rattle.io_traits.specs.Counts.{HasCause};
+ghost use Rattle.queue_core.specs.Others.{KeepsOthers};
 ghost use Rattle.queue_core.specs.Removing.{RemovalLeaves, RemovesAll, without};
 
 use plain_data::Text;
@@ -10,6 +11,7 @@ use store_disk::{Failed, Store};
 pub fn remove_files<S: Store>(store: &mut S, names: &[Text]) -> Result<(), Failed>
     ensures any_moment { RemovalLeaves S.Store names.now store.old store.new }
     ensures gone { OnOk result (RemovesAll S.Store names.now store.old store.new) }
+    ensures beside { KeepsOthers S.Store (Contains names.now) store.old store.new }
     ensures cause { HasCause (S.faults store.old) (S.faults store.new) (IsErr result) }
 {
     remove_each(store, names)?;
@@ -21,6 +23,7 @@ fn remove_each<S: Store>(store: &mut S, names: &[Text]) -> Result<(), Failed>
     ensures any_moment { RemovalLeaves S.Store names.now store.old store.new }
     ensures gone { OnOk result (IsTrue S.tells
         → (name : List ℕ) → S.seen store.new name ≡ without names.now (S.seen store.old) name) }
+    ensures beside { KeepsOthers S.Store (Contains names.now) store.old store.new }
     ensures cause { HasCause (S.faults store.old) (S.faults store.new) (IsErr result) }
 {
     for name in names {

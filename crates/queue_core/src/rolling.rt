@@ -2,7 +2,7 @@ ghost use Rattle.std.specs.Prelude.{◌≡◌, ◌≢◌, ◌≤◌, IsTrue, OnO
 ghost use Rattle.io_traits.specs.Counts.{HasCause};
 ghost use Rattle.io_traits.specs.Reads.{file_length};
 ghost use Rattle.crc_frame.specs.Slots.{place_of};
-ghost use Rattle.store_trait.specs.Moments.{ReadsBeside};
+ghost use Rattle.queue_core.specs.Others.{KeepsOthers};
 ghost use Rattle.queue_core.specs.Ready.{IsOfNext, PageKeeps, PageReady};
 ghost use Rattle.queue_core.specs.Writes.{NoneShorter};
 
@@ -42,8 +42,7 @@ pub fn begin_page<S: Store>(store: &mut S, next: &NextPage) -> Result<(), Failed
     ensures keeps { PageKeeps S.Store next.now store.old store.new }
     ensures ready { OnOk result (PageReady S.Store next.now store.old store.new) }
 
-    // Other files read as before.
-    ensures beside { ReadsBeside S.Store (IsOfNext next.now) store.old store.new }
+    ensures beside { KeepsOthers S.Store (IsOfNext next.now) store.old store.new }
 
     // No file became shorter, and the checkpoint of the page that was the head has a slot.
     ensures longer { OnOk result (IsTrue S.tells

@@ -1,10 +1,10 @@
 ghost use Rattle.std.specs.Prelude.{◌≡◌, ◌<◌, ◌+◌, ◌-◌, ◌^◌, ◌++◌, IsTrue, IsErr, OnOk, OnErr, Some, length};
 ghost use Rattle.io_traits.specs.Counts.{HasCause};
 ghost use Rattle.io_traits.specs.Reads.{bytes_of};
-ghost use Rattle.store_trait.specs.Moments.{ReadsBeside};
 ghost use Rattle.queue_page.specs.Grammar.{IsNext};
 ghost use Rattle.queue_page.specs.Pages.{with_element};
 ghost use Rattle.queue_page.specs.declared.row.PageRow.{PageRow as Row};
+ghost use Rattle.queue_core.specs.Others.{KeepsOthers};
 ghost use Rattle.queue_core.specs.Ready.{RowKept, RowReady};
 ghost use Rattle.queue_core.specs.Writes.{NoneShorter};
 
@@ -33,7 +33,7 @@ pub fn add_row<S: Store>(
         → NoneShorter (S.seen store.old) (S.seen store.new)) }
     ensures written { OnOk result (IsTrue S.tells → S.seen store.new name.now
         ≡ Some (bytes_of (S.seen store.old name.now) ++ frame.now)) }
-    ensures beside { ReadsBeside S.Store (λ n. n ≡ name.now) store.old store.new }
+    ensures beside { KeepsOthers S.Store (λ n. n ≡ name.now) store.old store.new }
     ensures cause { HasCause (S.faults store.old) (S.faults store.new) (IsErr result) }
 {
     page.append_row(store, name, frame)

@@ -1,5 +1,6 @@
-ghost use Rattle.std.specs.Prelude.{OnOk, IsErr};
+ghost use Rattle.std.specs.Prelude.{◌≡◌, ◌⊎◌, OnOk, IsErr};
 ghost use Rattle.io_traits.specs.Counts.{HasCause};
+ghost use Rattle.queue_core.specs.Others.{KeepsOthers};
 ghost use Rattle.queue_core.specs.Ready.{FirstKeeps, FirstReady};
 
 use crate::rolling::NEW_VERSION;
@@ -22,6 +23,8 @@ pub(crate) const FIRST_STATE: PageState = PageState {
 pub fn make_first<S: Store>(store: &mut S, page: &str, head: &str) -> Result<(), Failed>
     ensures keeps { FirstKeeps S.Store page.now head.now store.old store.new }
     ensures ready { OnOk result (FirstReady S.Store page.now head.now store.old store.new) }
+    ensures beside { KeepsOthers S.Store (λ n. (n ≡ page.now) ⊎ (n ≡ head.now)) store.old
+        store.new }
     ensures cause { HasCause (S.faults store.old) (S.faults store.new) (IsErr result) }
 {
     store.cut(page, 0)?;

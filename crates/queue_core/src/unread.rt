@@ -2,8 +2,9 @@
 ghost use Rattle.std.specs.Prelude.{◌≡◌, ◌++◌, not, IfOk, IfErr, OnOk, Err};
 ghost use Rattle.io_traits.specs.Counts.{HasCause};
 ghost use Rattle.store_disk.specs.declared.faults.QueueFault.TheVariants as f;
-ghost use Rattle.queue_laws.specs.Folders.{names_in};
+ghost use Rattle.queue_laws.specs.Folders.{IsOwn, names_in};
 ghost use Rattle.queue_core.specs.Collected.{IsNoDamage};
+ghost use Rattle.queue_core.specs.Others.{KeepsOthers};
 ghost use Rattle.queue_core.specs.Unread.{is_paired, pages_above, unpaired, unread_names, UnreadGo, UnreadAreGone};
 
 use crate::listing::Listing;
@@ -28,6 +29,7 @@ pub(crate) fn remove_unread<S: Store>(
         store.new }
     ensures gone { OnOk result
         (UnreadAreGone S.Store (names_in folder.now) listing.now head.now store.old store.new) }
+    ensures beside { KeepsOthers S.Store (IsOwn (names_in folder.now)) store.old store.new }
     ensures whole { IfErr result (λ fault. IsNoDamage fault) }
     ensures cause { HasCause (S.faults store.old) (S.faults store.new) (result ≡ Err f.Fault) }
 {

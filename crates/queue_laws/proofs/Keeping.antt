@@ -7,7 +7,7 @@ use Rattle.queue_page.specs.declared.row.PageRow.{PageRow}
 use Rattle.queue_laws.specs.Found.{Row, since}
 use Rattle.queue_laws.specs.Kept.{Page, Queue, leading, first_open_of, IsSince, TopKept, RowsKept, AreNumbered, IsSound}
 use Rattle.queue_laws.specs.Steps.{marked, marked_pages, with_row, page_with, rolled, sealed, IsSpent, with_tails}
-use Rattle.queue_laws.specs.Laws.{MarkedKeeps, RowKeeps, RolledKeeps, PurgedKeeps}
+use Rattle.queue_laws.specs.Laws.{MarkedKeeps, MarkedRolledKeeps, RowKeeps, RolledKeeps, PurgedKeeps}
 
 -- ---- a mark
 
@@ -77,6 +77,10 @@ rolled_rows q (p ∷ tails) rows next enough kept = (kept.0, kept.1, kept.2, kep
 
 pub rolled_keeps : RolledKeeps
 rolled_keeps q folder enough kept = record { held = kept.held; is_found = kept.is_found; kept = rolled_rows q q.tails kept.held.rows kept.held.next enough kept.kept; recorded = (omega (arith, enough, kept.recorded.0), kept.recorded.1) }
+
+-- behind a mark
+pub marked_rolled_keeps : MarkedRolledKeeps
+marked_rolled_keeps q folder enough kept = marked_keeps q folder enough (rolled_keeps (marked q) folder (omega arith) kept)
 
 -- ---- a page that goes
 

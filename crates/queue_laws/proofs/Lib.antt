@@ -10,3 +10,4 @@ pub mod NewFolders
 pub mod SameFiles
 pub mod Rolled
 pub mod Purged
+pub mod OwnFiles

@@ -35,3 +35,7 @@ abbrev pub names_in : List ℕ → Names
 names_in folder head = folder ++ (codes "checkpoint." ++ codes "head")
 names_in folder (page n) = folder ++ (codes "page." ++ number_text n)
 names_in folder (checkpoint n) = folder ++ (codes "checkpoint." ++ number_text n)
+
+-- the name of a file of the folder
+abbrev pub IsOwn : Names → List ℕ → Type 0
+IsOwn names name = (role : Role) × (name ≡ names role)

@@ -10,7 +10,7 @@ use Rattle.queue_checkpoint.specs.Checkpoints.{FitsSlot, newest_in}
 use Rattle.queue_page.specs.Elements.{is_element}
 use Rattle.queue_page.specs.Pages.{opened}
 use Rattle.queue_page.specs.declared.row.PageRow.{PageRow}
-use Rattle.queue_laws.specs.Folders.{head, page, checkpoint, Folder, Names, AreApart, names_in, folder_in}
+use Rattle.queue_laws.specs.Folders.{head, page, checkpoint, Folder, Names, AreApart, IsOwn, names_in, folder_in}
 use Rattle.queue_laws.specs.Checkpoints.{told}
 use Rattle.queue_laws.specs.Found.{is_new, nothing_found, found}
 use Rattle.queue_laws.specs.Kept.{Page, Queue, first_open_of, state_at, IsTail, IsTop, IsSound, IsQueue, Stands, Kept}
@@ -132,7 +132,22 @@ RowKeeps = (q : Queue) (row : PageRow) (folder : Folder) → Kept q folder → K
 abbrev pub RolledKeeps : Type 0
 RolledKeeps = (q : Queue) (folder : Folder) → q.marked ≤ length q.top.rows → Kept (rolled q) folder → Kept q folder
 
+-- so does a new head page behind a mark
+abbrev pub MarkedRolledKeeps : Type 0
+MarkedRolledKeeps = (q : Queue) (folder : Folder) → q.marked ≤ length q.top.rows → Kept (rolled (marked q)) folder → Kept q folder
+
 abbrev pub PurgedKeeps : Type 0
 PurgedKeeps =
     (q : Queue) (before behind : List Page) (p : Page) (folder : Folder) → q.tails ≡ before ++ p ∷ behind → IsSound p → IsSpent p
     → Kept (with_tails (before ++ behind) q) folder → Kept q folder
+
+-- ---- other files of a store
+
+-- what a folder holds goes by its own files alone
+abbrev pub FoundBeside : Type 0
+FoundBeside = (names : Names) (i d : Image) → ((name : List ℕ) → IsOwn names name → i name ≡ d name) → found (folder_in names i) ≡ found (folder_in names d)
+
+-- and so does whether it holds a queue
+abbrev pub KeptBeside : Type 0
+KeptBeside =
+    (names : Names) (q : Queue) (i d : Image) → ((name : List ℕ) → IsOwn names name → i name ≡ d name) → Kept q (folder_in names d) → Kept q (folder_in names i)

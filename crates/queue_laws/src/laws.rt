@@ -1,5 +1,5 @@
 //! What holds of the folder of a queue. Each function here does nothing: its clauses are theorems.
-ghost use Rattle.queue_laws.specs.Laws.{StandingIsKept, NamesDiffer, FoundGoesByPages, ReadIsRecorded, TailsStand, MarkedHeadsStand, OpenHeadsStand, RestingIsKept, MarkingIsKept, StaysNew, FirstIsHeld, FirstIsEmpty, HeldStands, SameFilesStand, RolledIsQueue, RolledIsHeld, PurgedIsQueue, PurgedStands, PurgedIsHeld, MarkedKeeps, RowKeeps, RolledKeeps, PurgedKeeps};
+ghost use Rattle.queue_laws.specs.Laws.{StandingIsKept, NamesDiffer, FoundGoesByPages, ReadIsRecorded, TailsStand, MarkedHeadsStand, OpenHeadsStand, RestingIsKept, MarkingIsKept, StaysNew, FirstIsHeld, FirstIsEmpty, HeldStands, SameFilesStand, RolledIsQueue, RolledIsHeld, PurgedIsQueue, PurgedStands, PurgedIsHeld, MarkedKeeps, MarkedRolledKeeps, RowKeeps, RolledKeeps, PurgedKeeps, FoundBeside, KeptBeside};
 
 /// A folder whose files are those of a queue, each for itself, holds the rows of the queue.
 pub fn what_stands_is_kept()
@@ -69,10 +69,18 @@ pub fn a_page_may_go()
 {}
 
 /// A folder that holds what a call makes of a queue holds the queue before the call, too: after a mark, a new
-/// head page or a purge. And one that holds a queue holds it with a row more, which may be missing.
+/// head page, both of them, or a purge. And one that holds a queue holds it with a row more, which may be missing.
 pub fn what_follows_keeps_what_was()
     ensures marked { MarkedKeeps }
     ensures rolled { RolledKeeps }
+    ensures marked_rolled { MarkedRolledKeeps }
     ensures purged { PurgedKeeps }
     ensures row { RowKeeps }
+{}
+
+/// What a folder holds, and whether it holds a queue, goes by its own files alone, whatever becomes of the
+/// others.
+pub fn other_files_change_nothing()
+    ensures found { FoundBeside }
+    ensures kept { KeptBeside }
 {}

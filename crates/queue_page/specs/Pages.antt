@@ -88,6 +88,13 @@ behind_view page file =
 abbrev pub kept_of : Bool → PageView → List ℕ → List ℕ
 kept_of head page file = if head then take page.state.length file else file
 
+-- The page that a file is as a whole, whatever was recorded of it: all of the file is its extent, and nothing is said of its rows. There is none where
+-- the first byte is no version.
+abbrev pub whole_page : List ℕ → Option PageView
+whole_page file =
+    if is_version (version_of file) then Some (record { version = version_of file; state = record { page = 0; first_open = 0; least = 0; count = 0; length = length file } })
+    else None
+
 -- the row at a place of a page, whatever its number is
 abbrev pub row_at : PageView → ℕ → List ℕ → Result PageRow Misfit
 row_at page place file = element_at page.version (number_of (left_of file place page.state.length)) place (left_of file place page.state.length)

@@ -43,7 +43,8 @@ fn read_version<S: Store>(
     Ok(if bytes.is_empty() { 0 } else { bytes[0] })
 }
 
-fn is_version(version: u8) -> bool
+/// Whether pages have this version.
+pub(crate) fn is_version(version: u8) -> bool
     ensures { result ≡ is_version version }
 {
     version == FIRST_VERSION || version == LAST_VERSION

@@ -1,4 +1,4 @@
-ghost use Rattle.std.specs.Prelude.{◌≡◌, ◌≤◌, ◌<◌, ◌+◌, ◌-◌, ◌++◌, ◌^◌, List, ℕ, length, take, false, not, IsTrue, IsErr, IfOk, OnOk, OnErr, Some, Err, option_map, if◌then◌else◌};
+ghost use Rattle.std.specs.Prelude.{◌≡◌, ◌≤◌, ◌<◌, ◌+◌, ◌-◌, ◌++◌, ◌^◌, List, ℕ, length, take, false, not, IsTrue, IsErr, IfOk, IfSome, OnOk, OnErr, Some, Err, option_map, if◌then◌else◌};
 ghost use Rattle.io_traits.specs.Counts.{HasCause};
 ghost use Rattle.io_traits.specs.Reads.{bytes_of, file_length};
 ghost use Rattle.store_trait.specs.Images.{TornFile};
@@ -11,14 +11,14 @@ ghost use Rattle.queue_page.specs.Blocks.{AreBytesIn, OnFile, IsPart, left_of};
 ghost use Rattle.queue_page.specs.Elements.{element_at};
 ghost use Rattle.queue_page.specs.Grammar.{IsNext};
 ghost use Rattle.queue_page.specs.Leaving.{LeavesSame, LeavesFirst};
-ghost use Rattle.queue_page.specs.Pages.{IsGrown, opened_view, kept_of, row_at, with_element};
+ghost use Rattle.queue_page.specs.Pages.{IsGrown, opened_view, kept_of, row_at, whole_page, with_element};
 ghost use Rattle.queue_page.specs.declared.row.PageRow.{PageRow as Row};
 ghost use Rattle.queue_page.specs.declared.fault.RowFault.TheVariants as r;
 
 use crate::block::{BLOCK_LEN, Block};
 use crate::element::{Spot, read_element, read_number};
 use crate::fault::{RowFault, named};
-use crate::opening::{LAST_VERSION, read_page};
+use crate::opening::{LAST_VERSION, is_version, read_page};
 use crate::row::PageRow;
 use std::alloc::Global;
 use std::marker::Model;
@@ -142,6 +142,53 @@ impl Page {
         }
         cut_rest(store, name, page.state.length, len)?;
         Ok(page)
+    }
+
+    /// The page as `scan` opens it, but nothing of the file changes: what stands behind the rows of a head
+    /// page stays there.
+    pub fn look<S: Store>(
+        alloc: Global,
+        store: &mut S,
+        name: &str,
+        state: &PageState,
+        head: bool,
+    ) -> Result<Page, QueueFault>
+        requires { state.now.least + state.now.count ≤ 2 ^ 63 - 1 }
+        ensures page { IsTrue S.tells → Answers (λ page. page) name.now result
+            (opened_view head state.now (bytes_of (S.seen store.old name.now))) }
+        ensures grown { IfOk result (λ page. IsGrown head state.now page.state) }
+        ensures same { ChangesNothing S.tells S.seen S.moment S.may_leave store.old store.new }
+        ensures cause { HasCause (S.faults store.old) (S.faults store.new) (result ≡ Err f.Fault) }
+    {
+        let len = store.length(name)?.unwrap_or(0);
+        scan_file(alloc, store, name, state, head, len)
+    }
+
+    /// The page that a file is as a whole, whatever was recorded of it: all of the file is its extent, so
+    /// that `read_row` and `read_next` read whatever elements stand in it, and nothing is said of its rows.
+    /// `None` where the first byte is no version.
+    pub fn whole<S: Store>(store: &mut S, name: &str) -> Result<Option<Page>, Failed>
+        ensures page { IfOk result (λ page. IsTrue S.tells
+            → page ≡ whole_page (bytes_of (S.seen store.old name.now))) }
+        ensures some { IfOk result (λ page. IfSome page (λ p. 1 ≤ p.state.length)) }
+        ensures same { ChangesNothing S.tells S.seen S.moment S.may_leave store.old store.new }
+        ensures cause { HasCause (S.faults store.old) (S.faults store.new) (IsErr result) }
+    {
+        let length = store.length(name)?.unwrap_or(0);
+        let mut first = [0; 1];
+        store.read(name, 0, &mut first)?;
+        let version = first[0];
+        if length == 0 || !is_version(version) {
+            return Ok(None);
+        }
+        let state = PageState {
+            page: 0,
+            first_open: 0,
+            least: 0,
+            count: 0,
+            length,
+        };
+        Ok(Some(Page::of(version, state)))
     }
 
     /// Appends an element to the page, which holds the next row, by one append to the file, and settles

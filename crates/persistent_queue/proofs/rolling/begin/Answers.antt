@@ -7,6 +7,7 @@ use Rattle.queue_page.specs.Views.{PageView}
 use Rattle.queue_core.specs.Ready.{RowKept, RowReady}
 use Rattle.persistent_queue.specs.Calls.{end_of}
 use Rattle.persistent_queue.proofs.MarkRuns.{can_given}
+use Rattle.persistent_queue.proofs.OwnFiles.{recorded_first, then_begun, then_added}
 use Rattle.persistent_queue.proofs.WriteRuns.{begun, begun_count, begun_length, head_no_checkpoint, head_no_page, keeps_added, keeps_begun, keeps_mark, next_element, place_begun}
 use Rattle.persistent_queue.proofs.rolling.begin.Goals as goal
 
@@ -71,13 +72,13 @@ add_row-requires-clause-fits g c =
 pub returns-in_err-add_row-clause-keeps : goal.returns-in_err-add_row-clause-keeps
 returns-in_err-add_row-clause-keeps g c v plan ready =
     keeps_added g.S.Store g.met.S.Store.images_tell v c.args.marks.now c.args.next.now c.args.frame.now plan c.args.store.now ready c.mark_pages.new.store c.mark_pages.ensures.keeps
-    c.in_ok-mark_pages.ensures.settled c.in_ok-mark_pages.ensures.records c.begin_page.new.store c.begin_page.ensures.keeps c.requires.short c.add_row.new.store c.in_ok-begin_page.ensures.ready c.begin_page.ensures.beside
+    c.in_ok-mark_pages.ensures.settled c.in_ok-mark_pages.ensures.records c.begin_page.new.store c.begin_page.ensures.keeps c.requires.short c.add_row.new.store c.in_ok-begin_page.ensures.ready c.begin_page.ensures.beside.reads
     (subst (λ (n : List _). RowKept g.S.Store n c.args.frame.now c.begin_page.new.store c.add_row.new.store) c.as_str.ensures c.add_row.ensures.keeps)
 
 pub returns-clause-keeps : goal.returns-clause-keeps
 returns-clause-keeps g c v plan ready =
     keeps_added g.S.Store g.met.S.Store.images_tell v c.args.marks.now c.args.next.now c.args.frame.now plan c.args.store.now ready c.mark_pages.new.store c.mark_pages.ensures.keeps
-    c.in_ok-mark_pages.ensures.settled c.in_ok-mark_pages.ensures.records c.begin_page.new.store c.begin_page.ensures.keeps c.requires.short c.add_row.new.store c.in_ok-begin_page.ensures.ready c.begin_page.ensures.beside
+    c.in_ok-mark_pages.ensures.settled c.in_ok-mark_pages.ensures.records c.begin_page.new.store c.begin_page.ensures.keeps c.requires.short c.add_row.new.store c.in_ok-begin_page.ensures.ready c.begin_page.ensures.beside.reads
     (subst (λ (n : List _). RowKept g.S.Store n c.args.frame.now c.begin_page.new.store c.add_row.new.store) c.as_str.ensures c.add_row.ensures.keeps)
 
 pub returns-clause-page : goal.returns-clause-page
@@ -86,8 +87,25 @@ returns-clause-page g c = c.in_ok-add_row.ensures.page ∙ ap (λ (x : PageView)
 pub returns-clause-adds : goal.returns-clause-adds
 returns-clause-adds g c v plan ready =
     begun g.S.Store g.met.S.Store.images_tell v c.args.marks.now c.args.next.now c.args.frame.now plan c.args.store.now ready c.mark_pages.new.store c.mark_pages.ensures.keeps
-    c.in_ok-mark_pages.ensures.settled c.in_ok-mark_pages.ensures.records c.begin_page.new.store c.begin_page.ensures.keeps c.requires.short c.add_row.new.store c.in_ok-begin_page.ensures.ready c.begin_page.ensures.beside
+    c.in_ok-mark_pages.ensures.settled c.in_ok-mark_pages.ensures.records c.begin_page.new.store c.begin_page.ensures.keeps c.requires.short c.add_row.new.store c.in_ok-begin_page.ensures.ready c.begin_page.ensures.beside.reads
     c.in_ok-begin_page.ensures.longer c.in_ok-begin_page.ensures.slotted c.in_ok-add_row.ensures.longer
-    (subst (λ (n : List _). ReadsBeside g.S.Store (λ x. x ≡ n) c.begin_page.new.store c.add_row.new.store) c.as_str.ensures c.add_row.ensures.beside)
+    (subst (λ (n : List _). ReadsBeside g.S.Store (λ x. x ≡ n) c.begin_page.new.store c.add_row.new.store) c.as_str.ensures c.add_row.ensures.beside.reads)
     (subst (λ (n : List _). IsTrue g.S.Store.tells → g.S.Store.seen c.add_row.new.store n ≡ Some (bytes_of (g.S.Store.seen c.begin_page.new.store n) ++ c.args.frame.now)) c.as_str.ensures c.in_ok-add_row.ensures.written)
     (subst (λ (n : List _). RowReady g.S.Store n c.args.frame.now c.begin_page.new.store c.add_row.new.store) c.as_str.ensures c.in_ok-add_row.ensures.ready)
+
+pub returns-in_err-mark_pages-clause-beside : goal.returns-in_err-mark_pages-clause-beside
+returns-in_err-mark_pages-clause-beside g c = recorded_first g.S.Store g.met.S.Store.images_tell c.args.marks.now c.args.next.now c.args.store.now c.mark_pages.new.store c.mark_pages.ensures.beside
+
+pub returns-in_err-begin_page-clause-beside : goal.returns-in_err-begin_page-clause-beside
+returns-in_err-begin_page-clause-beside g c =
+    then_begun g.S.Store g.met.S.Store.images_tell c.args.marks.now c.args.next.now c.args.store.now c.mark_pages.new.store c.mark_pages.ensures.beside c.begin_page.new.store c.begin_page.ensures.beside
+
+pub returns-in_err-add_row-clause-beside : goal.returns-in_err-add_row-clause-beside
+returns-in_err-add_row-clause-beside g c =
+    then_added g.S.Store g.met.S.Store.images_tell c.args.marks.now c.args.next.now c.args.store.now c.mark_pages.new.store c.mark_pages.ensures.beside c.begin_page.new.store c.begin_page.ensures.beside
+    c.add_row.new.store c.as_str.result.now c.as_str.ensures c.add_row.ensures.beside
+
+pub returns-clause-beside : goal.returns-clause-beside
+returns-clause-beside g c =
+    then_added g.S.Store g.met.S.Store.images_tell c.args.marks.now c.args.next.now c.args.store.now c.mark_pages.new.store c.mark_pages.ensures.beside c.begin_page.new.store c.begin_page.ensures.beside
+    c.add_row.new.store c.as_str.result.now c.as_str.ensures c.add_row.ensures.beside

@@ -1,6 +1,8 @@
+use Rattle.queue_core.specs.Others.{IsMarked}
 use Rattle.queue_core.specs.Writes.{writes_of}
 use Rattle.queue_core.proofs.MarkRun.{run_synced, run_written, run_settled, is_settled}
 use Rattle.queue_core.proofs.Keeping.{mark_keeps, mark_records}
+use Rattle.queue_core.proofs.OtherFiles.{others_synced, then_others, then_synced}
 use Rattle.queue_core.proofs.marking.mark_pages.Goals as goal
 
 pub returns-in_err-sync-clause-any_moment : goal.returns-in_err-sync-clause-any_moment
@@ -31,3 +33,15 @@ returns-clause-keeps g c = mark_keeps g.S.Store g.met.S.Store.images_tell c.args
 
 pub returns-clause-records : goal.returns-clause-records
 returns-clause-records g c = mark_records g.S.Store g.met.S.Store.images_tell c.args.marks.now c.args.store.now c.sync-2.new.self c.sync-2.result (returns-clause-settled g c)
+
+pub returns-in_err-sync-clause-beside : goal.returns-in_err-sync-clause-beside
+returns-in_err-sync-clause-beside g c = others_synced g.S.Store g.met.S.Store.images_tell (IsMarked c.args.marks.now) c.args.store.now c.sync.new.self c.sync.ensures.settled
+
+pub returns-in_err-write_marks-clause-beside : goal.returns-in_err-write_marks-clause-beside
+returns-in_err-write_marks-clause-beside g c =
+    then_others g.S.Store g.met.S.Store.images_tell (others_synced g.S.Store g.met.S.Store.images_tell (IsMarked c.args.marks.now) c.args.store.now c.sync.new.self c.sync.ensures.settled) c.write_marks.ensures.beside
+
+pub returns-clause-beside : goal.returns-clause-beside
+returns-clause-beside g c =
+    let marked = then_others g.S.Store g.met.S.Store.images_tell (others_synced g.S.Store g.met.S.Store.images_tell (IsMarked c.args.marks.now) c.args.store.now c.sync.new.self c.sync.ensures.settled) c.write_marks.ensures.beside in
+    then_synced g.S.Store g.met.S.Store.images_tell marked c.sync-2.new.self c.sync-2.ensures.settled

@@ -1,7 +1,9 @@
 use Rattle.std.proofs.Common.{◌≡◌, ◌++◌, List, [], drop, refl, sym, ◌∙◌, ap, subst, append_assoc, ◌+◌}
 use Rattle.store_trait.specs.Moments.{EachMoment}
+use Rattle.queue_core.specs.Others.{IsMarked}
 use Rattle.queue_core.specs.Writes.{Write, due_of, writes_of, CanWrite, MayLeave}
 use Rattle.queue_core.proofs.WriteLemmas.{left_none, left_more, left_cut, wrote_append, can_still, marks_on}
+use Rattle.queue_core.proofs.OtherFiles.{others_stay, marked_then}
 use Rattle.queue_core.proofs.marking.write_marks.Goals as goal
 
 pub loop-mark-init : goal.loop-mark-init
@@ -11,6 +13,7 @@ loop-mark-init g c = record {
   images = left_none g.S.Store c.args.store.now;
   wrote = λ told name. refl;
   can = λ told. c.requires told;
+  beside = others_stay g.S.Store g.met.S.Store.images_tell (IsMarked c.args.marks.now) c.args.store.now;
   same = refl;
 }
 
@@ -41,5 +44,15 @@ loop-mark-preserved g c =
       images = left_more g.S.Store g.met.S.Store.images_tell i.done c.args.store.now c.loop-mark.store i.images (due_of m) c.write_mark.new.store c.write_mark.ensures.images;
       wrote = λ told. wrote_append i.done (due_of m) (g.S.Store.seen c.args.store.now) (g.S.Store.seen c.loop-mark.store) (g.S.Store.seen c.write_mark.new.store) (i.wrote told) (c.in-Ok.ensures.wrote told);
       can = λ told. can_still (due_of m) rest (g.S.Store.seen c.loop-mark.store) (g.S.Store.seen c.write_mark.new.store) (c.in-Ok.ensures.wrote told) (subst (CanWrite (g.S.Store.seen c.loop-mark.store)) next (i.can told));
+      beside = marked_then g.S.Store g.met.S.Store.images_tell xs m c.args.store.now c.loop-mark.store c.write_mark.new.store (at, c.loop-mark-test.true, sym c.mark-item.is) i.beside
+          c.write_mark.ensures.beside;
       same = c.in-Ok.ensures.cause.same (λ f. absurd cc) ∙ i.same;
     }
+
+pub returns-in-Err-clause-beside : goal.returns-in-Err-clause-beside
+returns-in-Err-clause-beside g c =
+    marked_then g.S.Store g.met.S.Store.images_tell c.args.marks.now c.mark-item.result c.args.store.now c.loop-mark.store c.write_mark.new.store (c.loop-mark.mark-index, c.loop-mark-test.true, sym c.mark-item.is) c.loop-mark.invariant.beside
+    c.write_mark.ensures.beside
+
+pub returns-clause-beside : goal.returns-clause-beside
+returns-clause-beside g c = c.loop-mark.invariant.beside

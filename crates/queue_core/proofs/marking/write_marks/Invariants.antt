@@ -1,5 +1,6 @@
 use Rattle.std.proofs.Common.{◌≡◌, ◌++◌, IsTrue, List, drop}
 use Rattle.store_trait.specs.Moments.{EachMoment}
+use Rattle.queue_core.specs.Others.{IsMarked, KeepsOthers}
 use Rattle.queue_core.specs.Writes.{Write, writes_of, CanWrite, MayLeave, Wrote}
 use Rattle.queue_core.proofs.marking.write_marks.Given as goal
 
@@ -10,5 +11,6 @@ invariant-loop-mark g l = record {
   images : EachMoment g.S.Store l.fn.store l.store (MayLeave g.S.Store l.fn.store done);
   wrote : IsTrue g.S.Store.tells → Wrote done (g.S.Store.seen l.fn.store) (g.S.Store.seen l.store);
   can : IsTrue g.S.Store.tells → CanWrite (g.S.Store.seen l.store) (writes_of (drop l.mark-index l.marks));
+  beside : KeepsOthers g.S.Store (IsMarked l.marks) l.fn.store l.store;
   same : g.S.Store.faults l.store ≡ g.S.Store.faults l.fn.store;
 }

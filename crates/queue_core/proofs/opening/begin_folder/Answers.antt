@@ -1,6 +1,6 @@
 use Rattle.std.proofs.Common.{◌≡◌, ◌+◌, ◌++◌, ◌∷◌, [], List, None, true, map, sym, subst, ◌∙◌, refl, ap, arith}
 use Rattle.store_disk.proofs.Looking.{nothing_yet}
-use Rattle.queue_laws.specs.Folders.{Folder, names_in}
+use Rattle.queue_laws.specs.Folders.{head, page, Folder, IsOwn, names_in}
 use Rattle.queue_laws.specs.Found.{head_held, falling}
 use Rattle.queue_laws.proofs.ApartNames.{names_apart}
 use Rattle.queue_page.specs.Pages.{IsGrown}
@@ -11,6 +11,7 @@ use Rattle.queue_core.specs.declared.opening.Opened.{Opened}
 use Rattle.queue_core.proofs.Openings.{only_looked, first_made, first_found}
 use Rattle.queue_core.proofs.QueueReady.{ready_first}
 use Rattle.queue_core.proofs.KnownPages.{opens_first}
+use Rattle.queue_core.proofs.OtherFiles.{files_are_own, others_stay}
 use Rattle.queue_core.proofs.opening.begin_folder.Goals as goal
 
 pub returns-in_err-page-clause-keeps : goal.returns-in_err-page-clause-keeps
@@ -53,3 +54,16 @@ returns-clause-stated g c = record {
   rises = subst (λ (tails : List Tail). (folder : Folder) → falling 0 (map (held_tail folder) tails ++ head_held folder (record { page = 0; first_open = 1; least = 1; count = 0; length = 1 }) ∷ []) ≡ None) (sym c.new-tails.ensures.items) (λ folder. refl);
   top = subst (λ (p : PageView). IsGrown true (record { page = 0; first_open = 1; least = 1; count = 0; length = 1 }) p.state) (sym c.start-top.ensures) (record { same = refl; numbers = omega arith; exact = λ is. refl });
 }
+
+pub returns-in_err-page-clause-beside : goal.returns-in_err-page-clause-beside
+returns-in_err-page-clause-beside g c = others_stay g.S.Store g.met.S.Store.images_tell (IsOwn (names_in c.args.folder.now)) c.args.store.now
+
+pub returns-in_err-make_first-clause-beside : goal.returns-in_err-make_first-clause-beside
+returns-in_err-make_first-clause-beside g c =
+    files_are_own g.S.Store g.met.S.Store.images_tell c.args.folder.now (page 0) head c.as_str.result.now c.args.checkpoint.now c.args.store.now c.make_first.new.store (c.as_str.ensures ∙ c.in_ok-page.ensures) c.requires
+    c.make_first.ensures.beside
+
+pub returns-clause-beside : goal.returns-clause-beside
+returns-clause-beside g c =
+    files_are_own g.S.Store g.met.S.Store.images_tell c.args.folder.now (page 0) head c.as_str.result.now c.args.checkpoint.now c.args.store.now c.make_first.new.store (c.as_str.ensures ∙ c.in_ok-page.ensures) c.requires
+    c.make_first.ensures.beside

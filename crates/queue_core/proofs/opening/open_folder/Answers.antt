@@ -1,10 +1,11 @@
 use Rattle.std.proofs.Common.{◌∙◌}
-use Rattle.queue_laws.specs.Folders.{names_in}
+use Rattle.queue_laws.specs.Folders.{IsOwn, names_in}
 use Rattle.queue_laws.specs.Found.{found}
 use Rattle.queue_core.specs.Marks.{read_in}
 use Rattle.queue_core.proofs.Openings.{hands_on, no_damage, synced, then_looked, is_seen, then_opened, finds, opening_keeps}
 use Rattle.queue_core.proofs.QueueReady.{if_ok_so, ready_from}
 use Rattle.queue_core.proofs.KnownPages.{opened_from}
+use Rattle.queue_core.proofs.OtherFiles.{others_synced, then_only_looked, then_others}
 use Rattle.queue_core.proofs.opening.open_folder.Goals as goal
 
 pub returns-in_err-sync-clause-any_moment : goal.returns-in_err-sync-clause-any_moment
@@ -64,3 +65,17 @@ returns-clause-opened g c =
     if_ok_so _ _ c.open_seen.result c.open_seen.ensures.opened
     (λ o opened. opened_from g.S.Store g.met.S.Store.images_tell (names_in c.args.folder.now) o c.args.store.now c.look_at.new.store c.open_seen.new.store
     (λ told. c.look_at.ensures.same.reads told ∙ c.sync.ensures.settled.reads told) (opened seen))
+
+pub returns-in_err-sync-clause-beside : goal.returns-in_err-sync-clause-beside
+returns-in_err-sync-clause-beside g c = others_synced g.S.Store g.met.S.Store.images_tell (IsOwn (names_in c.args.folder.now)) c.args.store.now c.sync.new.self c.sync.ensures.settled
+
+pub returns-in_err-look-clause-beside : goal.returns-in_err-look-clause-beside
+returns-in_err-look-clause-beside g c =
+    then_only_looked g.S.Store g.met.S.Store.images_tell (others_synced g.S.Store g.met.S.Store.images_tell (IsOwn (names_in c.args.folder.now)) c.args.store.now c.sync.new.self c.sync.ensures.settled)
+    c.look_at.new.store c.look_at.ensures.same
+
+pub returns-clause-beside : goal.returns-clause-beside
+returns-clause-beside g c =
+    let looked = then_only_looked g.S.Store g.met.S.Store.images_tell (others_synced g.S.Store g.met.S.Store.images_tell (IsOwn (names_in c.args.folder.now)) c.args.store.now c.sync.new.self c.sync.ensures.settled)
+    c.look_at.new.store c.look_at.ensures.same in
+    then_others g.S.Store g.met.S.Store.images_tell looked c.open_seen.ensures.beside

@@ -1,11 +1,12 @@
-use Rattle.std.proofs.Common.{rules, ◌<◌, ◌^◌, nat_lt, ◌∙◌}
+use Rattle.std.proofs.Common.{refl, rules, ◌<◌, ◌^◌, nat_lt, ◌∙◌}
 use Rattle.std.proofs.lemmas.Fn.{filter_same}
-use Rattle.queue_laws.specs.Folders.{names_in}
+use Rattle.queue_laws.specs.Folders.{page, names_in}
 use Rattle.queue_laws.specs.Found.{found}
 use Rattle.queue_core.specs.Marks.{read_in}
 use Rattle.queue_core.proofs.Openings.{hands_on, no_damage, gone_first, then_read, reads_pages, loses_pages}
 use Rattle.queue_core.proofs.QueueReady.{ready_pages}
 use Rattle.queue_core.proofs.KnownPages.{opens_pages}
+use Rattle.queue_core.proofs.OtherFiles.{file_is_own, then_others}
 use Rattle.queue_core.proofs.opening.open_pages.Goals as goal
 
 pub returns-in_err-remove_unread-clause-found : goal.returns-in_err-remove_unread-clause-found
@@ -62,3 +63,14 @@ returns-clause-opened g c read newest =
     let tidy = c.in_ok-remove_unread.ensures.gone read in
     opens_pages g.S.Store g.met.S.Store.images_tell (names_in c.args.folder.now) c.args.listing c.args.turn c.args.state c.args.store.now c.remove_unread.new.store c.read_pages.new.store read tidy
     newest fits c.as_slice.result.now numbers c.in_ok-pages.pages c.in_ok-pages.ensures.found (c.in_ok-pages.ensures.leaves tidy.rests)
+
+pub returns-in_err-remove_unread-clause-beside : goal.returns-in_err-remove_unread-clause-beside
+returns-in_err-remove_unread-clause-beside g c = c.remove_unread.ensures.beside
+
+pub returns-in_err-pages-clause-beside : goal.returns-in_err-pages-clause-beside
+returns-in_err-pages-clause-beside g c = then_others g.S.Store g.met.S.Store.images_tell c.remove_unread.ensures.beside
+    (file_is_own g.S.Store g.met.S.Store.images_tell c.args.folder.now (page c.args.state.page) (names_in c.args.folder.now (page c.args.state.page)) c.remove_unread.new.store c.read_pages.new.store refl c.read_pages.ensures.beside)
+
+pub returns-clause-beside : goal.returns-clause-beside
+returns-clause-beside g c = then_others g.S.Store g.met.S.Store.images_tell c.remove_unread.ensures.beside
+    (file_is_own g.S.Store g.met.S.Store.images_tell c.args.folder.now (page c.args.state.page) (names_in c.args.folder.now (page c.args.state.page)) c.remove_unread.new.store c.read_pages.new.store refl c.read_pages.ensures.beside)

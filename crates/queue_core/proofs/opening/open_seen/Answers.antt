@@ -1,12 +1,13 @@
 use Rattle.std.proofs.Common.{sym, subst}
 use Rattle.store_disk.proofs.Looking.{nothing_yet}
 use Rattle.store_disk.specs.declared.faults.QueueFault.{QueueFault}
-use Rattle.queue_laws.specs.Folders.{names_in}
+use Rattle.queue_laws.specs.Folders.{IsOwn, names_in}
 use Rattle.queue_laws.specs.Found.{found}
 use Rattle.queue_core.specs.Collected.{IsLost}
 use Rattle.queue_core.specs.Marks.{read_in}
 use Rattle.queue_core.proofs.Openings.{only_looked, sees_new, sees_pages, sees_damage}
 use Rattle.queue_core.proofs.QueueReady.{if_ok_so, newest_of}
+use Rattle.queue_core.proofs.OtherFiles.{others_stay}
 use Rattle.queue_core.proofs.opening.open_seen.Goals as goal
 
 pub returns-then-is_new-clause-found : goal.returns-then-is_new-clause-found
@@ -56,3 +57,12 @@ returns-in-Ok-clause-opened g c =
     if_ok_so _ _ c.open_pages.result c.open_pages.ensures.opened
     (λ o opened seen. opened (sees_pages g.S.Store g.met.S.Store.images_tell (names_in c.args.folder.now) c.args.look c.args.store.now _ _ c.told.result seen c.told.ensures.told c.in-Ok.is)
     (λ told. newest_of _ c.args.look.slots _ _ (seen.looked told).slots_are c.in-Ok.ensures.newest c.in-Ok.ensures.fits))
+
+pub returns-then-is_new-clause-beside : goal.returns-then-is_new-clause-beside
+returns-then-is_new-clause-beside g c = c.begin_folder.ensures.beside
+
+pub returns-in-Ok-clause-beside : goal.returns-in-Ok-clause-beside
+returns-in-Ok-clause-beside g c = c.open_pages.ensures.beside
+
+pub returns-in-Err-clause-beside : goal.returns-in-Err-clause-beside
+returns-in-Err-clause-beside g c = others_stay g.S.Store g.met.S.Store.images_tell (IsOwn (names_in c.args.folder.now)) c.args.store.now

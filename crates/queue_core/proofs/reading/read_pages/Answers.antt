@@ -1,7 +1,7 @@
-use Rattle.std.proofs.Common.{◌≡◌, List, map, sym, ap, ◌∙◌, subst}
+use Rattle.std.proofs.Common.{◌≡◌, ℕ, List, map, refl, sym, ap, ◌∙◌, subst}
 use Rattle.io_traits.specs.Folders.{Content}
 use Rattle.store_disk.proofs.Looking.{nothing_then}
-use Rattle.queue_laws.specs.Folders.{Names, names_in}
+use Rattle.queue_laws.specs.Folders.{Names, page, names_in}
 use Rattle.queue_laws.proofs.ApartNames.{names_apart}
 use Rattle.queue_core.specs.Marks.{read_in}
 use Rattle.queue_core.specs.Queues.{HaveBytes}
@@ -9,6 +9,7 @@ use Rattle.queue_core.specs.declared.tails.Tail.{Tail}
 use Rattle.queue_core.proofs.ScanReads.{handed_on, none_falls, pages_lost, pages_read, head_lost, head_read, found_tail_lost, found_top_lost, found_rows, rows_found}
 use Rattle.queue_core.proofs.QueueReads.{leaves_read}
 use Rattle.queue_core.proofs.FoundStays.{looked, opened_run}
+use Rattle.queue_core.proofs.OtherFiles.{others_looked, others_of_one, then_others}
 use Rattle.queue_core.proofs.reading.read_pages.Goals as goal
 
 -- what was read of the pages below the head is what reads gave at first
@@ -115,3 +116,42 @@ returns-clause-stated g c = record {
   rises = λ folder. none_falls folder c.args.head.now c.as_slice.result.now c.in_ok-tails.tails.items c.first_falling.result c.as_slice.ensures.value c.in_default.is c.first_falling.ensures;
   top = c.in_ok-top.ensures.grown;
 }
+
+pub returns-in_err-tails-clause-beside : goal.returns-in_err-tails-clause-beside
+returns-in_err-tails-clause-beside g c =
+    let mine : List ℕ → Type 0 = λ n. n ≡ names_in c.args.folder.now (page c.args.head.now.page) in
+    others_looked g.S.Store g.met.S.Store.images_tell mine c.args.store.now c.read_tails.new.store c.read_tails.ensures.same
+
+pub returns-in_err-name-clause-beside : goal.returns-in_err-name-clause-beside
+returns-in_err-name-clause-beside g c =
+    let mine : List ℕ → Type 0 = λ n. n ≡ names_in c.args.folder.now (page c.args.head.now.page) in
+    others_looked g.S.Store g.met.S.Store.images_tell mine c.args.store.now c.read_tails.new.store c.read_tails.ensures.same
+
+pub returns-in-Some-clause-beside : goal.returns-in-Some-clause-beside
+returns-in-Some-clause-beside g c =
+    let mine : List ℕ → Type 0 = λ n. n ≡ names_in c.args.folder.now (page c.args.head.now.page) in
+    others_looked g.S.Store g.met.S.Store.images_tell mine c.args.store.now c.read_tails.new.store c.read_tails.ensures.same
+
+pub returns-in_err-pages-clause-beside : goal.returns-in_err-pages-clause-beside
+returns-in_err-pages-clause-beside g c =
+    let mine : List ℕ → Type 0 = λ n. n ≡ names_in c.args.folder.now (page c.args.head.now.page) in
+    others_looked g.S.Store g.met.S.Store.images_tell mine c.args.store.now c.scan_tails.new.store (nothing_then g.S.Store c.args.store.now c.read_tails.new.store c.scan_tails.new.store c.read_tails.ensures.same c.scan_tails.ensures.same)
+
+pub returns-in_err-name-2-clause-beside : goal.returns-in_err-name-2-clause-beside
+returns-in_err-name-2-clause-beside g c =
+    let mine : List ℕ → Type 0 = λ n. n ≡ names_in c.args.folder.now (page c.args.head.now.page) in
+    others_looked g.S.Store g.met.S.Store.images_tell mine c.args.store.now c.scan_tails.new.store (nothing_then g.S.Store c.args.store.now c.read_tails.new.store c.scan_tails.new.store c.read_tails.ensures.same c.scan_tails.ensures.same)
+
+pub returns-in_err-top-clause-beside : goal.returns-in_err-top-clause-beside
+returns-in_err-top-clause-beside g c =
+    let name = names_in c.args.folder.now (page c.args.head.now.page) in
+    let mine : List ℕ → Type 0 = λ n. n ≡ name in
+    then_others g.S.Store g.met.S.Store.images_tell (others_looked g.S.Store g.met.S.Store.images_tell mine c.args.store.now c.scan_tails.new.store (nothing_then g.S.Store c.args.store.now c.read_tails.new.store c.scan_tails.new.store c.read_tails.ensures.same c.scan_tails.ensures.same))
+    (others_of_one g.S.Store g.met.S.Store.images_tell mine c.scan_tails.new.store c.scan.new.store name c.as_str.result.now (c.as_str.ensures ∙ c.in_ok-name-2.ensures) refl c.scan.ensures.reads c.scan.ensures.beside)
+
+pub returns-clause-beside : goal.returns-clause-beside
+returns-clause-beside g c =
+    let name = names_in c.args.folder.now (page c.args.head.now.page) in
+    let mine : List ℕ → Type 0 = λ n. n ≡ name in
+    then_others g.S.Store g.met.S.Store.images_tell (others_looked g.S.Store g.met.S.Store.images_tell mine c.args.store.now c.scan_tails.new.store (nothing_then g.S.Store c.args.store.now c.read_tails.new.store c.scan_tails.new.store c.read_tails.ensures.same c.scan_tails.ensures.same))
+    (others_of_one g.S.Store g.met.S.Store.images_tell mine c.scan_tails.new.store c.scan.new.store name c.as_str.result.now (c.as_str.ensures ∙ c.in_ok-name-2.ensures) refl c.scan.ensures.reads c.scan.ensures.beside)

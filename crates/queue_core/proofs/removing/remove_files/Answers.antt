@@ -1,3 +1,4 @@
+use Rattle.queue_core.proofs.OtherFiles.{then_synced}
 use Rattle.queue_core.proofs.Removals.{all_settled, all_removed}
 use Rattle.queue_core.proofs.removing.remove_files.Goals as goal
 
@@ -8,3 +9,6 @@ returns-clause-any_moment g c =
 pub returns-clause-gone : goal.returns-clause-gone
 returns-clause-gone g c =
     all_removed g.S.Store g.met.S.Store.images_tell c.args.names.now c.args.store.now c.remove_each.new.store c.sync.new.self c.sync.result c.in_ok-remove_each.ensures.gone c.sync.ensures.settled c.sync.ensures.durable
+
+pub returns-clause-beside : goal.returns-clause-beside
+returns-clause-beside g c = then_synced g.S.Store g.met.S.Store.images_tell c.remove_each.ensures.beside c.sync.new.self c.sync.ensures.settled

@@ -1,10 +1,11 @@
-use Rattle.std.proofs.Common.{inl, inr, [], ◌∷◌, refl, ◌∙◌, ap}
-use Rattle.io_traits.specs.Folders.{Content}
+use Rattle.std.proofs.Common.{inl, inr, [], ◌∷◌, refl}
 use Rattle.io_traits.specs.Reads.{bytes_of}
 use Rattle.crc_frame.specs.Slots.{place_of}
 use Rattle.queue_checkpoint.specs.Checkpoints.{slot_spelling}
 use Rattle.queue_checkpoint.proofs.SlotBytes.{length-spelling}
 use Rattle.store_trait.proofs.TailRuns.{on_ok_so}
+use Rattle.queue_core.specs.Ready.{IsOfNext}
+use Rattle.queue_core.proofs.OtherFiles.{others_stay, then_changed, then_synced}
 use Rattle.queue_core.proofs.RollRun.{run_sealed, run_begun, run_grown, run_headed, run_rolled, is_rolled}
 use Rattle.queue_core.proofs.Lengths.{behind, longer_slot, longer_then, on_ok, slotted_there}
 use Rattle.queue_core.proofs.rolling.begin_page.Goals as goal
@@ -70,24 +71,36 @@ returns-clause-slotted g c = on_ok c.sync-2.result (λ told.
     slotted_there name next.checkpoint (slot_spelling 0 next.sealed) (bytes_of (s0 name)) s1 s5 (place_of 48 0) (length-spelling 0 next.sealed) (c.in_ok-write_slot.ensures.written told) more c.as_str.ensures)
 
 pub returns-in_err-write_slot-clause-beside : goal.returns-in_err-write_slot-clause-beside
-returns-in_err-write_slot-clause-beside g c told name none = c.write_slot.ensures.change.beside told name (λ is. none (inl (is ∙ c.as_str.ensures)))
+returns-in_err-write_slot-clause-beside g c =
+    let next = c.args.next.now in
+    then_changed g.S.Store g.met.S.Store.images_tell (others_stay g.S.Store g.met.S.Store.images_tell (IsOfNext next) c.args.store.now) c.write_slot.new.store next.checkpoint c.as_str.result.now _ c.as_str.ensures (inl refl) c.write_slot.ensures.change
 
 pub returns-in_err-append-clause-beside : goal.returns-in_err-append-clause-beside
-returns-in_err-append-clause-beside g c told name none =
-    c.append.ensures.change.beside told name (λ is. none (inr (inl (is ∙ c.as_str-2.ensures)))) ∙ c.write_slot.ensures.change.beside told name (λ is. none (inl (is ∙ c.as_str.ensures)))
+returns-in_err-append-clause-beside g c =
+    let next = c.args.next.now in
+    let sealed = then_changed g.S.Store g.met.S.Store.images_tell (others_stay g.S.Store g.met.S.Store.images_tell (IsOfNext next) c.args.store.now) c.write_slot.new.store next.checkpoint c.as_str.result.now _ c.as_str.ensures (inl refl) c.write_slot.ensures.change in
+    then_changed g.S.Store g.met.S.Store.images_tell sealed c.append.new.self next.file c.as_str-2.result.now _ c.as_str-2.ensures (inr (inl refl)) c.append.ensures.change
 
 pub returns-in_err-sync-clause-beside : goal.returns-in_err-sync-clause-beside
-returns-in_err-sync-clause-beside g c told name none =
-    ap (λ (content : Content). content name) (c.sync.ensures.settled.reads told)
-    ∙ c.append.ensures.change.beside told name (λ is. none (inr (inl (is ∙ c.as_str-2.ensures)))) ∙ c.write_slot.ensures.change.beside told name (λ is. none (inl (is ∙ c.as_str.ensures)))
+returns-in_err-sync-clause-beside g c =
+    let next = c.args.next.now in
+    let sealed = then_changed g.S.Store g.met.S.Store.images_tell (others_stay g.S.Store g.met.S.Store.images_tell (IsOfNext next) c.args.store.now) c.write_slot.new.store next.checkpoint c.as_str.result.now _ c.as_str.ensures (inl refl) c.write_slot.ensures.change in
+    let begun = then_changed g.S.Store g.met.S.Store.images_tell sealed c.append.new.self next.file c.as_str-2.result.now _ c.as_str-2.ensures (inr (inl refl)) c.append.ensures.change in
+    then_synced g.S.Store g.met.S.Store.images_tell begun c.sync.new.self c.sync.ensures.settled
 
 pub returns-in_err-write_slot-2-clause-beside : goal.returns-in_err-write_slot-2-clause-beside
-returns-in_err-write_slot-2-clause-beside g c told name none =
-    c.write_slot-2.ensures.change.beside told name (λ is. none (inr (inr (is ∙ c.as_str-3.ensures)))) ∙ ap (λ (content : Content). content name) (c.sync.ensures.settled.reads told)
-    ∙ c.append.ensures.change.beside told name (λ is. none (inr (inl (is ∙ c.as_str-2.ensures)))) ∙ c.write_slot.ensures.change.beside told name (λ is. none (inl (is ∙ c.as_str.ensures)))
+returns-in_err-write_slot-2-clause-beside g c =
+    let next = c.args.next.now in
+    let sealed = then_changed g.S.Store g.met.S.Store.images_tell (others_stay g.S.Store g.met.S.Store.images_tell (IsOfNext next) c.args.store.now) c.write_slot.new.store next.checkpoint c.as_str.result.now _ c.as_str.ensures (inl refl) c.write_slot.ensures.change in
+    let begun = then_changed g.S.Store g.met.S.Store.images_tell sealed c.append.new.self next.file c.as_str-2.result.now _ c.as_str-2.ensures (inr (inl refl)) c.append.ensures.change in
+    let settled = then_synced g.S.Store g.met.S.Store.images_tell begun c.sync.new.self c.sync.ensures.settled in
+    then_changed g.S.Store g.met.S.Store.images_tell settled c.write_slot-2.new.store next.head c.as_str-3.result.now _ c.as_str-3.ensures (inr (inr refl)) c.write_slot-2.ensures.change
 
 pub returns-clause-beside : goal.returns-clause-beside
-returns-clause-beside g c told name none =
-    ap (λ (content : Content). content name) (c.sync-2.ensures.settled.reads told)
-    ∙ c.write_slot-2.ensures.change.beside told name (λ is. none (inr (inr (is ∙ c.as_str-3.ensures)))) ∙ ap (λ (content : Content). content name) (c.sync.ensures.settled.reads told)
-    ∙ c.append.ensures.change.beside told name (λ is. none (inr (inl (is ∙ c.as_str-2.ensures)))) ∙ c.write_slot.ensures.change.beside told name (λ is. none (inl (is ∙ c.as_str.ensures)))
+returns-clause-beside g c =
+    let next = c.args.next.now in
+    let sealed = then_changed g.S.Store g.met.S.Store.images_tell (others_stay g.S.Store g.met.S.Store.images_tell (IsOfNext next) c.args.store.now) c.write_slot.new.store next.checkpoint c.as_str.result.now _ c.as_str.ensures (inl refl) c.write_slot.ensures.change in
+    let begun = then_changed g.S.Store g.met.S.Store.images_tell sealed c.append.new.self next.file c.as_str-2.result.now _ c.as_str-2.ensures (inr (inl refl)) c.append.ensures.change in
+    let settled = then_synced g.S.Store g.met.S.Store.images_tell begun c.sync.new.self c.sync.ensures.settled in
+    let headed = then_changed g.S.Store g.met.S.Store.images_tell settled c.write_slot-2.new.store next.head c.as_str-3.result.now _ c.as_str-3.ensures (inr (inr refl)) c.write_slot-2.ensures.change in
+    then_synced g.S.Store g.met.S.Store.images_tell headed c.sync-2.new.self c.sync-2.ensures.settled

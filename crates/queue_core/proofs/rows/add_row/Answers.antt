@@ -1,5 +1,7 @@
+use Rattle.std.proofs.Common.{◌≡◌, refl}
 use Rattle.store_trait.proofs.TailRuns.{on_ok_so}
 use Rattle.queue_core.proofs.Lengths.{longer_tail}
+use Rattle.queue_core.proofs.OtherFiles.{others_changed}
 use Rattle.queue_core.proofs.RowRun.{row_kept, row_ready}
 use Rattle.queue_core.proofs.rows.add_row.Goals as goal
 
@@ -15,4 +17,6 @@ returns-clause-longer g c =
     on_ok_so c.append_row.result c.append_row.ensures.written (λ written told. longer_tail c.args.name.now c.args.frame.now _ _ (written told) (c.append_row.ensures.change.beside told))
 
 pub returns-clause-beside : goal.returns-clause-beside
-returns-clause-beside g c told name none = c.append_row.ensures.change.beside told name none
+returns-clause-beside g c =
+    let name = c.args.name.now in
+    others_changed g.S.Store g.met.S.Store.images_tell (λ n. n ≡ name) c.args.store.now c.append_row.new.store name name _ refl refl c.append_row.ensures.change

@@ -1,4 +1,4 @@
-use Rattle.std.proofs.Common.{refl, sym, ap, subst, ◌∙◌, List, ℕ, Result, Ok, Err, IfOk}
+use Rattle.std.proofs.Common.{refl, subst, ◌∙◌, List, ℕ}
 use Rattle.io_traits.specs.Reads.{bytes_of}
 use Rattle.queue_page.specs.Blocks.{AreBytesIn}
 use Rattle.store_disk.specs.declared.pages.PageState.{PageState}

@@ -1,6 +1,8 @@
-use Rattle.std.proofs.Common.{List, ℕ, sym, ◌∙◌, ap, subst}
+use Rattle.std.proofs.Common.{◌≡◌, List, ℕ, sym, ◌∙◌, ap, subst}
 use Rattle.queue_page.specs.Grammar.{IsNext}
+use Rattle.queue_core.specs.Others.{KeepsOthers}
 use Rattle.queue_core.specs.Ready.{RowKept}
+use Rattle.queue_core.proofs.OtherFiles.{others_stay}
 use Rattle.persistent_queue.specs.Views.{OpenPage}
 use Rattle.persistent_queue.specs.Writing.{RowAdded}
 use Rattle.persistent_queue.proofs.pages.HeldPage.add_row.Goals as goal
@@ -15,8 +17,19 @@ returns-in-Ok-clause-keeps g c ok =
 pub returns-in-Ok-clause-ready : goal.returns-in-Ok-clause-ready
 returns-in-Ok-clause-ready g c =
     subst (λ (n : List ℕ). RowAdded g.S.Store n c.args.frame.now c.args.store.now c.add_row.new.store) (c.as_str.ensures ∙ ap (λ (o : OpenPage). o.file) c.self.view_is)
-    (record { ready = c.in-Ok.ensures.ready; longer = c.in-Ok.ensures.longer; written = c.in-Ok.ensures.written; beside = c.add_row.ensures.beside })
+    (record { ready = c.in-Ok.ensures.ready; longer = c.in-Ok.ensures.longer; written = c.in-Ok.ensures.written; beside = c.add_row.ensures.beside.reads })
 
 pub returns-in-Err-clause-keeps : goal.returns-in-Err-clause-keeps
 returns-in-Err-clause-keeps g c fault =
     subst (λ (n : List ℕ). RowKept g.S.Store n c.args.frame.now c.args.store.now c.add_row.new.store) (c.as_str.ensures ∙ ap (λ (o : OpenPage). o.file) c.self.view_is) c.add_row.ensures.keeps
+
+pub returns-in-Ok-clause-beside : goal.returns-in-Ok-clause-beside
+returns-in-Ok-clause-beside g c =
+    subst (λ (n : List ℕ). KeepsOthers g.S.Store (λ (x : List ℕ). x ≡ n) c.args.store.now c.add_row.new.store) (c.as_str.ensures ∙ ap (λ (o : OpenPage). o.file) c.self.view_is) c.add_row.ensures.beside
+
+pub returns-in-Err-clause-beside : goal.returns-in-Err-clause-beside
+returns-in-Err-clause-beside g c =
+    subst (λ (n : List ℕ). KeepsOthers g.S.Store (λ (x : List ℕ). x ≡ n) c.args.store.now c.add_row.new.store) (c.as_str.ensures ∙ ap (λ (o : OpenPage). o.file) c.self.view_is) c.add_row.ensures.beside
+
+pub returns-in_err-push-clause-beside : goal.returns-in_err-push-clause-beside
+returns-in_err-push-clause-beside g c = others_stay g.S.Store g.met.S.Store.images_tell (λ n. n ≡ c.args.self.now.file) c.args.store.now

@@ -1,4 +1,7 @@
 use Rattle.std.proofs.Common.{◌≡◌, ◌+◌, ◌-◌, ◌<◌, ◌^◌, ℕ, min, length, refl, sym, subst, arith}
+use Rattle.queue_laws.specs.Folders.{page, IsOwn, names_in}
+use Rattle.queue_core.specs.Others.{KeepsOthers}
+use Rattle.queue_core.proofs.OtherFiles.{file_is_own}
 use Rattle.queue_page.specs.Grammar.{row_framed, IsElement, IsNext}
 use Rattle.persistent_queue.specs.Calls.{end_of}
 use Rattle.persistent_queue.specs.Opens.{IsReady}
@@ -59,3 +62,15 @@ returns-clause-adds g c =
     (subst (λ (x : QueueView). AddsRow g.S.Store row_here v x c.args.frame.now c.args.store.now c.add_row.new.store) grown
     (adds_here g.S.Store g.met.S.Store.images_tell v c.args.frame.now c.args.store.now c.add_row.new.store takes fits q.top.file c.self.invariant.top
     (subst (λ (x : QueueView). IsReady g.S.Store x c.args.store.now) (sym c.self.view_is) c.requires.ready) added.beside added.written added.ready))
+
+pub returns-in_err-add_row-clause-beside : goal.returns-in_err-add_row-clause-beside
+returns-in_err-add_row-clause-beside g c =
+    let q = c.self.inside in
+    subst (λ (x : QueueView). KeepsOthers g.S.Store (IsOwn (names_in x.folder)) c.args.store.now c.add_row.new.store) c.self.view_is
+    (file_is_own g.S.Store g.met.S.Store.images_tell q.folder (page q.top.number) q.top.file c.args.store.now c.add_row.new.store c.self.invariant.top c.add_row.ensures.beside)
+
+pub returns-clause-beside : goal.returns-clause-beside
+returns-clause-beside g c =
+    let q = c.self.inside in
+    subst (λ (x : QueueView). KeepsOthers g.S.Store (IsOwn (names_in x.folder)) c.args.store.now c.add_row.new.store) c.self.view_is
+    (file_is_own g.S.Store g.met.S.Store.images_tell q.folder (page q.top.number) q.top.file c.args.store.now c.add_row.new.store c.self.invariant.top c.add_row.ensures.beside)

@@ -1,11 +1,14 @@
 use Rattle.std.proofs.Common.{◌≡◌, List, sym, ap, ◌∙◌, subst}
 use Rattle.queue_core.specs.declared.marking.Mark.{Mark}
+use Rattle.queue_laws.specs.Folders.{IsOwn, names_in}
+use Rattle.queue_core.specs.Others.{KeepsOthers}
 use Rattle.queue_laws.specs.Steps.{marked}
 use Rattle.persistent_queue.specs.Calls.{IsHeldQueue, behind_mark, marks_of}
 use Rattle.persistent_queue.specs.Opens.{Becomes, IsReady, KeepsQueue}
 use Rattle.persistent_queue.specs.Views.{OpenPage, QueueView}
 use Rattle.persistent_queue.proofs.HeldQueues.{marked_held, marks_held}
 use Rattle.persistent_queue.proofs.MarkRuns.{becomes_marked, can_given, keeps_marked, ready_marked}
+use Rattle.persistent_queue.proofs.OwnFiles.{marks_are_own}
 use Rattle.persistent_queue.proofs.queue.Queue.mark.Goals as goal
 
 pub invariant_of-self : goal.invariant_of-self
@@ -65,3 +68,35 @@ returns-clause-records g c =
     (subst (λ (x : QueueView). Becomes g.S.Store marked v x c.args.store.now c.mark_pages.new.store) new
     (becomes_marked g.S.Store v q.marks.items c.args.store.now c.mark_pages.new.store c.self.invariant.marks_are c.as_slice-2.result.now are
     (subst (λ (x : QueueView). IsReady g.S.Store x c.args.store.now) (sym c.self.view_is) c.requires) c.in_ok-mark_pages.ensures.settled c.in_ok-mark_pages.ensures.records))
+
+pub returns-in_err-mark_pages-clause-beside : goal.returns-in_err-mark_pages-clause-beside
+returns-in_err-mark_pages-clause-beside g c =
+    let q = c.self.inside in
+    let v : QueueView = record { folder = q.folder; limits = q.limits; tails = q.tails.items; top = q.top; unread = q.unread; cursor = q.cursor } in
+    let are = c.as_slice-2.ensures.value ∙ c.set_marks.ensures ∙ ap (λ (l : List OpenPage). marks_of l q.top q.marks.items) c.as_slice.ensures.value in
+    (subst (λ (x : QueueView). KeepsOthers g.S.Store (IsOwn (names_in x.folder)) c.args.store.now c.mark_pages.new.store) c.self.view_is
+    (marks_are_own g.S.Store g.met.S.Store.images_tell v c.as_slice-2.result.now c.args.store.now c.mark_pages.new.store q.marks.items c.self.invariant.marks_are are c.mark_pages.ensures.beside)).reads
+
+pub returns-in_err-mark_pages-clause-beside_moments : goal.returns-in_err-mark_pages-clause-beside_moments
+returns-in_err-mark_pages-clause-beside_moments g c =
+    let q = c.self.inside in
+    let v : QueueView = record { folder = q.folder; limits = q.limits; tails = q.tails.items; top = q.top; unread = q.unread; cursor = q.cursor } in
+    let are = c.as_slice-2.ensures.value ∙ c.set_marks.ensures ∙ ap (λ (l : List OpenPage). marks_of l q.top q.marks.items) c.as_slice.ensures.value in
+    (subst (λ (x : QueueView). KeepsOthers g.S.Store (IsOwn (names_in x.folder)) c.args.store.now c.mark_pages.new.store) c.self.view_is
+    (marks_are_own g.S.Store g.met.S.Store.images_tell v c.as_slice-2.result.now c.args.store.now c.mark_pages.new.store q.marks.items c.self.invariant.marks_are are c.mark_pages.ensures.beside)).moments
+
+pub returns-clause-beside : goal.returns-clause-beside
+returns-clause-beside g c =
+    let q = c.self.inside in
+    let v : QueueView = record { folder = q.folder; limits = q.limits; tails = q.tails.items; top = q.top; unread = q.unread; cursor = q.cursor } in
+    let are = c.as_slice-2.ensures.value ∙ c.set_marks.ensures ∙ ap (λ (l : List OpenPage). marks_of l q.top q.marks.items) c.as_slice.ensures.value in
+    (subst (λ (x : QueueView). KeepsOthers g.S.Store (IsOwn (names_in x.folder)) c.args.store.now c.mark_pages.new.store) c.self.view_is
+    (marks_are_own g.S.Store g.met.S.Store.images_tell v c.as_slice-2.result.now c.args.store.now c.mark_pages.new.store q.marks.items c.self.invariant.marks_are are c.mark_pages.ensures.beside)).reads
+
+pub returns-clause-beside_moments : goal.returns-clause-beside_moments
+returns-clause-beside_moments g c =
+    let q = c.self.inside in
+    let v : QueueView = record { folder = q.folder; limits = q.limits; tails = q.tails.items; top = q.top; unread = q.unread; cursor = q.cursor } in
+    let are = c.as_slice-2.ensures.value ∙ c.set_marks.ensures ∙ ap (λ (l : List OpenPage). marks_of l q.top q.marks.items) c.as_slice.ensures.value in
+    (subst (λ (x : QueueView). KeepsOthers g.S.Store (IsOwn (names_in x.folder)) c.args.store.now c.mark_pages.new.store) c.self.view_is
+    (marks_are_own g.S.Store g.met.S.Store.images_tell v c.as_slice-2.result.now c.args.store.now c.mark_pages.new.store q.marks.items c.self.invariant.marks_are are c.mark_pages.ensures.beside)).moments

@@ -38,3 +38,21 @@ pub returns-in-Ok-clause-opens : goal.returns-in-Ok-clause-opens
 returns-in-Ok-clause-opens g c =
     subst (λ (q : QueueView). OpensFolder g.S.Store c.args.folder.now c.args.limits c.args.store.now c.open_folder.new.store q) (sym c.in-Ok.ensures)
     (opens_folder g.S.Store c.args.folder.now c.args.limits c.in_ok-opened.opened c.args.store.now c.open_folder.new.store c.in_ok-opened.ensures.stated c.in_ok-opened.ensures.opened c.in_ok-opened.ensures.ready)
+
+pub returns-in_err-opened-clause-beside : goal.returns-in_err-opened-clause-beside
+returns-in_err-opened-clause-beside g c = c.open_folder.ensures.beside.reads
+
+pub returns-in_err-opened-clause-beside_moments : goal.returns-in_err-opened-clause-beside_moments
+returns-in_err-opened-clause-beside_moments g c = c.open_folder.ensures.beside.moments
+
+pub returns-in-Ok-clause-beside : goal.returns-in-Ok-clause-beside
+returns-in-Ok-clause-beside g c = c.open_folder.ensures.beside.reads
+
+pub returns-in-Ok-clause-beside_moments : goal.returns-in-Ok-clause-beside_moments
+returns-in-Ok-clause-beside_moments g c = c.open_folder.ensures.beside.moments
+
+pub returns-clause-beside : goal.returns-clause-beside
+returns-clause-beside g c = c.open_folder.ensures.beside.reads
+
+pub returns-clause-beside_moments : goal.returns-clause-beside_moments
+returns-clause-beside_moments g c = c.open_folder.ensures.beside.moments

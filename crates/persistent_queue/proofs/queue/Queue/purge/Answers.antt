@@ -1,6 +1,8 @@
 use Rattle.std.proofs.Common.{◌≡◌, ◌-◌, List, Some, remove, sym, ap, ◌∙◌, subst, arith}
 use Rattle.store_disk.specs.declared.pages.PageState.{PageState}
-use Rattle.queue_laws.specs.Folders.{page, checkpoint, names_in}
+use Rattle.queue_laws.specs.Folders.{page, checkpoint, IsOwn, names_in}
+use Rattle.queue_core.specs.Others.{KeepsOthers}
+use Rattle.queue_core.proofs.OtherFiles.{files_are_own, others_stay}
 use Rattle.queue_core.specs.declared.marking.Mark.{Mark}
 use Rattle.persistent_queue.specs.Calls.{IsHeldQueue, behind_purge, first_spent, spent_from}
 use Rattle.persistent_queue.specs.Opens.{Becomes, IsReady, KeepsQueue, purged}
@@ -139,7 +141,7 @@ returns-clause-ready g c =
     ∙ ap (λ (x : OpenPage). names_in q.folder (checkpoint x.number)) there in
     let left = c.remove-page.ensures.items ∙ goes.1.left in
     subst (λ (l : List OpenPage). IsReady g.S.Store (record v { tails = l }) c.remove_page.new.store) (sym left)
-    (ready_left g.S.Store v c.args.store.now c.remove_page.new.store c.as_str-page.result.now c.as_str.result.now goes.0.number goes.1.number file slots c.remove_page.ensures.beside (subst (λ (x : QueueView). IsReady g.S.Store x c.args.store.now) (sym c.self.view_is) c.requires))
+    (ready_left g.S.Store v c.args.store.now c.remove_page.new.store c.as_str-page.result.now c.as_str.result.now goes.0.number goes.1.number file slots c.remove_page.ensures.beside.reads (subst (λ (x : QueueView). IsReady g.S.Store x c.args.store.now) (sym c.self.view_is) c.requires))
 
 pub returns-clause-removes : goal.returns-clause-removes
 returns-clause-removes g c =
@@ -154,4 +156,62 @@ returns-clause-removes g c =
     let left = c.remove-page.ensures.items ∙ goes.1.left in
     subst (λ (x : QueueView). Becomes g.S.Store purged x (record v { tails = c.remove-page.new.self.items }) c.args.store.now c.remove_page.new.store) c.self.view_is
     (subst (λ (l : List OpenPage). Becomes g.S.Store purged v (record v { tails = l }) c.args.store.now c.remove_page.new.store) (sym left)
-    (opens_left g.S.Store v c.args.store.now c.remove_page.new.store c.as_str-page.result.now c.as_str.result.now goes.0.number goes.1.number file slots c.remove_page.ensures.beside (subst (λ (x : QueueView). IsReady g.S.Store x c.args.store.now) (sym c.self.view_is) c.requires) c.in_ok-remove_page.ensures.ready))
+    (opens_left g.S.Store v c.args.store.now c.remove_page.new.store c.as_str-page.result.now c.as_str.result.now goes.0.number goes.1.number file slots c.remove_page.ensures.beside.reads (subst (λ (x : QueueView). IsReady g.S.Store x c.args.store.now) (sym c.self.view_is) c.requires) c.in_ok-remove_page.ensures.ready))
+
+pub returns-in_default-clause-beside : goal.returns-in_default-clause-beside
+returns-in_default-clause-beside g c = (others_stay g.S.Store g.met.S.Store.images_tell (IsOwn (names_in c.args.self.now.folder)) c.args.store.now).reads
+
+pub returns-in_default-clause-beside_moments : goal.returns-in_default-clause-beside_moments
+returns-in_default-clause-beside_moments g c = (others_stay g.S.Store g.met.S.Store.images_tell (IsOwn (names_in c.args.self.now.folder)) c.args.store.now).moments
+
+pub returns-in_err-remove_page-clause-beside : goal.returns-in_err-remove_page-clause-beside
+returns-in_err-remove_page-clause-beside g c =
+    let q = c.self.inside in
+    let v : QueueView = record { folder = q.folder; limits = q.limits; tails = q.tails.items; top = q.top; unread = q.unread; cursor = q.cursor } in
+    let some = sym (ap (spent_from 0) c.as_slice.ensures.value) ∙ sym c.first_spent.ensures ∙ c.in-Some.is in
+    let goes = goes_at q.tails.items c.in-Some.place some in
+    let there = goes.1.there c.index.result.now c.index.ensures in
+    let file = c.as_str-page.ensures ∙ ap (λ (x : OpenPage). x.file) c.behind-self.view_is ∙ file_at q.folder q.tails.items c.in-Some.place c.index.result.now goes.1.within c.index.ensures c.self.invariant.tails ∙ ap (λ (x : OpenPage). names_in q.folder (page x.number)) there in
+    let slots = c.as_str.ensures ∙ slots_at q.folder q.tails.items q.marks.items c.in-Some.place c.index.result.now c.index-2.result.now goes.1.within c.index.ensures c.index-2.ensures c.self.invariant.marks_are
+    ∙ ap (λ (x : OpenPage). names_in q.folder (checkpoint x.number)) there in
+    (subst (λ (x : QueueView). KeepsOthers g.S.Store (IsOwn (names_in x.folder)) c.args.store.now c.remove_page.new.store) c.self.view_is
+    (files_are_own g.S.Store g.met.S.Store.images_tell q.folder (page goes.0.number) (checkpoint goes.0.number) c.as_str-page.result.now c.as_str.result.now c.args.store.now c.remove_page.new.store file slots c.remove_page.ensures.beside)).reads
+
+pub returns-in_err-remove_page-clause-beside_moments : goal.returns-in_err-remove_page-clause-beside_moments
+returns-in_err-remove_page-clause-beside_moments g c =
+    let q = c.self.inside in
+    let v : QueueView = record { folder = q.folder; limits = q.limits; tails = q.tails.items; top = q.top; unread = q.unread; cursor = q.cursor } in
+    let some = sym (ap (spent_from 0) c.as_slice.ensures.value) ∙ sym c.first_spent.ensures ∙ c.in-Some.is in
+    let goes = goes_at q.tails.items c.in-Some.place some in
+    let there = goes.1.there c.index.result.now c.index.ensures in
+    let file = c.as_str-page.ensures ∙ ap (λ (x : OpenPage). x.file) c.behind-self.view_is ∙ file_at q.folder q.tails.items c.in-Some.place c.index.result.now goes.1.within c.index.ensures c.self.invariant.tails ∙ ap (λ (x : OpenPage). names_in q.folder (page x.number)) there in
+    let slots = c.as_str.ensures ∙ slots_at q.folder q.tails.items q.marks.items c.in-Some.place c.index.result.now c.index-2.result.now goes.1.within c.index.ensures c.index-2.ensures c.self.invariant.marks_are
+    ∙ ap (λ (x : OpenPage). names_in q.folder (checkpoint x.number)) there in
+    (subst (λ (x : QueueView). KeepsOthers g.S.Store (IsOwn (names_in x.folder)) c.args.store.now c.remove_page.new.store) c.self.view_is
+    (files_are_own g.S.Store g.met.S.Store.images_tell q.folder (page goes.0.number) (checkpoint goes.0.number) c.as_str-page.result.now c.as_str.result.now c.args.store.now c.remove_page.new.store file slots c.remove_page.ensures.beside)).moments
+
+pub returns-clause-beside : goal.returns-clause-beside
+returns-clause-beside g c =
+    let q = c.self.inside in
+    let v : QueueView = record { folder = q.folder; limits = q.limits; tails = q.tails.items; top = q.top; unread = q.unread; cursor = q.cursor } in
+    let some = sym (ap (spent_from 0) c.as_slice.ensures.value) ∙ sym c.first_spent.ensures ∙ c.in-Some.is in
+    let goes = goes_at q.tails.items c.in-Some.place some in
+    let there = goes.1.there c.index.result.now c.index.ensures in
+    let file = c.as_str-page.ensures ∙ ap (λ (x : OpenPage). x.file) c.behind-self.view_is ∙ file_at q.folder q.tails.items c.in-Some.place c.index.result.now goes.1.within c.index.ensures c.self.invariant.tails ∙ ap (λ (x : OpenPage). names_in q.folder (page x.number)) there in
+    let slots = c.as_str.ensures ∙ slots_at q.folder q.tails.items q.marks.items c.in-Some.place c.index.result.now c.index-2.result.now goes.1.within c.index.ensures c.index-2.ensures c.self.invariant.marks_are
+    ∙ ap (λ (x : OpenPage). names_in q.folder (checkpoint x.number)) there in
+    (subst (λ (x : QueueView). KeepsOthers g.S.Store (IsOwn (names_in x.folder)) c.args.store.now c.remove_page.new.store) c.self.view_is
+    (files_are_own g.S.Store g.met.S.Store.images_tell q.folder (page goes.0.number) (checkpoint goes.0.number) c.as_str-page.result.now c.as_str.result.now c.args.store.now c.remove_page.new.store file slots c.remove_page.ensures.beside)).reads
+
+pub returns-clause-beside_moments : goal.returns-clause-beside_moments
+returns-clause-beside_moments g c =
+    let q = c.self.inside in
+    let v : QueueView = record { folder = q.folder; limits = q.limits; tails = q.tails.items; top = q.top; unread = q.unread; cursor = q.cursor } in
+    let some = sym (ap (spent_from 0) c.as_slice.ensures.value) ∙ sym c.first_spent.ensures ∙ c.in-Some.is in
+    let goes = goes_at q.tails.items c.in-Some.place some in
+    let there = goes.1.there c.index.result.now c.index.ensures in
+    let file = c.as_str-page.ensures ∙ ap (λ (x : OpenPage). x.file) c.behind-self.view_is ∙ file_at q.folder q.tails.items c.in-Some.place c.index.result.now goes.1.within c.index.ensures c.self.invariant.tails ∙ ap (λ (x : OpenPage). names_in q.folder (page x.number)) there in
+    let slots = c.as_str.ensures ∙ slots_at q.folder q.tails.items q.marks.items c.in-Some.place c.index.result.now c.index-2.result.now goes.1.within c.index.ensures c.index-2.ensures c.self.invariant.marks_are
+    ∙ ap (λ (x : OpenPage). names_in q.folder (checkpoint x.number)) there in
+    (subst (λ (x : QueueView). KeepsOthers g.S.Store (IsOwn (names_in x.folder)) c.args.store.now c.remove_page.new.store) c.self.view_is
+    (files_are_own g.S.Store g.met.S.Store.images_tell q.folder (page goes.0.number) (checkpoint goes.0.number) c.as_str-page.result.now c.as_str.result.now c.args.store.now c.remove_page.new.store file slots c.remove_page.ensures.beside)).moments

@@ -1,6 +1,9 @@
 use Rattle.std.proofs.Common.{◌≡◌, ◌+◌, ◌-◌, ◌<◌, ◌^◌, ◌++◌, ◌∷◌, [], ℕ, suc, false, List, length, map, refl, sym, ◌∙◌, ap, subst, arith}
 use Rattle.std.specs.List.{insert}
 use Rattle.std.proofs.Math.Path.{ap₂}
+use Rattle.queue_laws.specs.Folders.{IsOwn, names_in}
+use Rattle.queue_core.specs.Others.{KeepsOthers}
+use Rattle.queue_core.proofs.OtherFiles.{others_stay}
 use Rattle.queue_core.specs.declared.marking.Mark.{Mark}
 use Rattle.queue_core.specs.declared.rolling.NextPage.{NextPage}
 use Rattle.persistent_queue.specs.Calls.{behind_mark, bytes_in, checkpoints, end_of, marks_of, with_marked, with_recorded, IsHeldQueue}
@@ -8,6 +11,7 @@ use Rattle.persistent_queue.specs.Opens.{IsReady}
 use Rattle.persistent_queue.specs.Views.{OpenPage, QueueView}
 use Rattle.persistent_queue.specs.Writing.{behind_append, behind_roll, next_page, row_behind, sealed, Begun, HasFrame, IsPlan, KeepsRow}
 use Rattle.persistent_queue.proofs.GrownQueues.{begun_top, reserved_held, rolled_held, some_marks, still_held}
+use Rattle.persistent_queue.proofs.OwnFiles.{plan_is_own}
 use Rattle.persistent_queue.proofs.WriteRuns.{untouched_either}
 use Rattle.persistent_queue.proofs.queue.Queue.roll.Goals as goal
 
@@ -133,3 +137,37 @@ invariant_of-self-2 g c =
     (subst (λ (ms : List Mark). IsHeldQueue (record v { tails = c.add_tail.new.tails.items; top = c.replace_top-old.new.top; unread = c.saturating_add-unread.result }) ms (q.bytes + (n + 1))) (sym marks)
     (still_held (behind_append n (behind_roll (behind_mark v))) (record v { tails = c.add_tail.new.tails.items; top = c.replace_top-old.new.top; unread = c.saturating_add-unread.result })
     (insert (marks_of q.tails.items q.top q.marks.items) (length (marks_of q.tails.items q.top q.marks.items) - 1) m) (q.bytes + (n + 1)) refl tails top held))
+
+pub returns-in_err-acknowledged-clause-beside : goal.returns-in_err-acknowledged-clause-beside
+returns-in_err-acknowledged-clause-beside g c = others_stay g.S.Store g.met.S.Store.images_tell (IsOwn (names_in c.args.self.now.folder)) c.args.store.now
+
+pub returns-in_err-reserve-clause-beside : goal.returns-in_err-reserve-clause-beside
+returns-in_err-reserve-clause-beside g c = others_stay g.S.Store g.met.S.Store.images_tell (IsOwn (names_in c.args.self.now.folder)) c.args.store.now
+
+pub returns-in_err-reserve-2-clause-beside : goal.returns-in_err-reserve-2-clause-beside
+returns-in_err-reserve-2-clause-beside g c = others_stay g.S.Store g.met.S.Store.images_tell (IsOwn (names_in c.args.self.now.folder)) c.args.store.now
+
+pub returns-in_err-next-clause-beside : goal.returns-in_err-next-clause-beside
+returns-in_err-next-clause-beside g c = others_stay g.S.Store g.met.S.Store.images_tell (IsOwn (names_in c.args.self.now.folder)) c.args.store.now
+
+pub returns-in_err-page-clause-beside : goal.returns-in_err-page-clause-beside
+returns-in_err-page-clause-beside g c =
+    let q = c.self.inside in
+    let v : QueueView = record { folder = q.folder; limits = q.limits; tails = q.tails.items; top = q.top; unread = q.unread; cursor = q.cursor } in
+    let are : c.reserve-2.new.self.items ≡ marks_of q.tails.items q.top q.marks.items =
+    c.reserve-2.ensures.items ∙ c.set_marks.ensures ∙ ap (λ (l : List OpenPage). marks_of l q.top q.marks.items) (c.as_slice.ensures.value ∙ c.reserve.ensures.items) in
+    let next_is : c.in_ok-next.next ≡ next_page q.folder (with_recorded q.top) = c.in_ok-next.ensures ∙ ap (λ (f : List ℕ). next_page f (with_recorded q.top)) c.as_str.ensures in
+    let plan = planned v c.args.self.now q.marks.items c.as_slice-2.result.now c.in_ok-next.next c.self.view_is c.self.invariant.marks_are (c.as_slice-2.ensures.value ∙ are) next_is c.requires.page c.requires.fits in
+    subst (λ (x : QueueView). KeepsOthers g.S.Store (IsOwn (names_in x.folder)) c.args.store.now c.begin-begun.new.store) c.self.view_is
+    (plan_is_own g.S.Store g.met.S.Store.images_tell v c.as_slice-2.result.now c.args.store.now c.begin-begun.new.store c.in_ok-next.next plan c.begin-begun.ensures.beside)
+
+pub returns-clause-beside : goal.returns-clause-beside
+returns-clause-beside g c =
+    let q = c.self.inside in
+    let v : QueueView = record { folder = q.folder; limits = q.limits; tails = q.tails.items; top = q.top; unread = q.unread; cursor = q.cursor } in
+    let are : c.reserve-2.new.self.items ≡ marks_of q.tails.items q.top q.marks.items =
+    c.reserve-2.ensures.items ∙ c.set_marks.ensures ∙ ap (λ (l : List OpenPage). marks_of l q.top q.marks.items) (c.as_slice.ensures.value ∙ c.reserve.ensures.items) in
+    let next_is : c.in_ok-next.next ≡ next_page q.folder (with_recorded q.top) = c.in_ok-next.ensures ∙ ap (λ (f : List ℕ). next_page f (with_recorded q.top)) c.as_str.ensures in
+    let plan = planned v c.args.self.now q.marks.items c.as_slice-2.result.now c.in_ok-next.next c.self.view_is c.self.invariant.marks_are (c.as_slice-2.ensures.value ∙ are) next_is c.requires.page c.requires.fits in
+    subst (λ (x : QueueView). KeepsOthers g.S.Store (IsOwn (names_in x.folder)) c.args.store.now c.begin-begun.new.store) c.self.view_is
+    (plan_is_own g.S.Store g.met.S.Store.images_tell v c.as_slice-2.result.now c.args.store.now c.begin-begun.new.store c.in_ok-next.next plan c.begin-begun.ensures.beside)

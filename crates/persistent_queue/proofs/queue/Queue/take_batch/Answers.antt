@@ -1,6 +1,7 @@
 use Rattle.std.proofs.Common.{◌≡◌, ◌-◌, ◌==◌, ◌++◌, ◌∷◌, [], ℕ, List, Ok, Err, false, rules, refl, sym, ap, ◌∙◌, subst}
 use Rattle.queue_page.specs.Elements.{and_then}
-use Rattle.queue_laws.specs.Folders.{page, names_in}
+use Rattle.queue_laws.specs.Folders.{page, IsOwn, names_in}
+use Rattle.queue_core.proofs.OtherFiles.{others_looked, others_stay}
 use Rattle.persistent_queue.specs.Batching.{Finds}
 use Rattle.persistent_queue.specs.Opens.{Becomes, IsOfFiles}
 use Rattle.persistent_queue.specs.Taking.{Stand, stand, begun, pages_read, rows_in, rows_taken, behind_take, taken_of, AreThere, WasRead}
@@ -89,3 +90,21 @@ returns-clause-stays g c =
     let read = subst (λ (l : List OpenPage). AreThere names old q.cursor.page q.cursor.block (l ++ q.top ∷ []) → pages_read old (l ++ q.top ∷ []) (begun c.args.most q.cursor) ≡ Ok (stand next.page c.in_ok-reading.reading)) c.as_slice-tails.ensures.value (c.in_ok-reading.ensures.rows names told) there in
     files_taken v old unread next (subst (λ (l : List OpenPage). AreThere names old q.cursor.page q.cursor.block (l ++ q.top ∷ []) → WasRead names old q.cursor.page q.cursor.block next.page next.block) c.as_slice-tails.ensures.value (c.in_ok-reading.ensures.part names told) there)
     (read_within old v.top.number (v.tails ++ v.top ∷ []) (begun c.args.most q.cursor) (stand next.page c.in_ok-reading.reading) (all_within v.tails v.top queue.tails queue.top opens.tails opens.top opens.ready.is) files.within read) files))
+
+pub returns-then-self-eq0-clause-beside : goal.returns-then-self-eq0-clause-beside
+returns-then-self-eq0-clause-beside g c = (others_stay g.S.Store g.met.S.Store.images_tell (IsOwn (names_in c.args.self.now.folder)) c.args.store.now).reads
+
+pub returns-then-self-eq0-clause-beside_moments : goal.returns-then-self-eq0-clause-beside_moments
+returns-then-self-eq0-clause-beside_moments g c = (others_stay g.S.Store g.met.S.Store.images_tell (IsOwn (names_in c.args.self.now.folder)) c.args.store.now).moments
+
+pub returns-in_err-reading-clause-beside : goal.returns-in_err-reading-clause-beside
+returns-in_err-reading-clause-beside g c = (others_looked g.S.Store g.met.S.Store.images_tell (IsOwn (names_in c.args.self.now.folder)) c.args.store.now c.read_from.new.store c.read_from.ensures.same).reads
+
+pub returns-in_err-reading-clause-beside_moments : goal.returns-in_err-reading-clause-beside_moments
+returns-in_err-reading-clause-beside_moments g c = (others_looked g.S.Store g.met.S.Store.images_tell (IsOwn (names_in c.args.self.now.folder)) c.args.store.now c.read_from.new.store c.read_from.ensures.same).moments
+
+pub returns-clause-beside : goal.returns-clause-beside
+returns-clause-beside g c = (others_looked g.S.Store g.met.S.Store.images_tell (IsOwn (names_in c.args.self.now.folder)) c.args.store.now c.read_from.new.store c.read_from.ensures.same).reads
+
+pub returns-clause-beside_moments : goal.returns-clause-beside_moments
+returns-clause-beside_moments g c = (others_looked g.S.Store g.met.S.Store.images_tell (IsOwn (names_in c.args.self.now.folder)) c.args.store.now c.read_from.new.store c.read_from.ensures.same).moments

@@ -2,6 +2,8 @@ use Rattle.std.proofs.Common.{◌≡◌, ◌++◌, [], ℕ, Bool, List, sym, ◌
 use Rattle.crc_frame.specs.Frames.{frame_of}
 use Rattle.element_code.specs.RowBodies.{row_spelling}
 use Rattle.event_tree.specs.Events.{Ev}
+use Rattle.queue_laws.specs.Folders.{IsOwn, names_in}
+use Rattle.queue_core.proofs.OtherFiles.{others_stay}
 use Rattle.persistent_queue.specs.Calls.{end_of}
 use Rattle.persistent_queue.specs.Opens.{Becomes}
 use Rattle.persistent_queue.specs.Views.{QueueView}
@@ -59,3 +61,33 @@ returns-clause-adds g c =
     (record { size = c.in_ok-frame_row.ensures.size; element = c.in_ok-frame_row.ensures.element }) (c.end-number.ensures ∙ ap (λ (x : QueueView). end_of x.top) c.self.view_is) in
     let needed : c.needs_page-needed.result ≡ needs_page (frame_size o e) c.args.self.now = c.needs_page-needed.ensures.needed ∙ ap (λ (n : ℕ). needs_page n c.args.self.now) c.frame_size-size.ensures.size in
     subst (λ (b : Bool). Becomes g.S.Store (written b c.args.self.now o e) c.args.self.now c.put.new.self c.args.store.now c.put.new.store) needed (c.in_ok-put.ensures.adds o e is)
+
+pub returns-then-is_spent_with-clause-beside : goal.returns-then-is_spent_with-clause-beside
+returns-then-is_spent_with-clause-beside g c = (others_stay g.S.Store g.met.S.Store.images_tell (IsOwn (names_in c.args.self.now.folder)) c.args.store.now).reads
+
+pub returns-then-is_spent_with-clause-beside_moments : goal.returns-then-is_spent_with-clause-beside_moments
+returns-then-is_spent_with-clause-beside_moments g c = (others_stay g.S.Store g.met.S.Store.images_tell (IsOwn (names_in c.args.self.now.folder)) c.args.store.now).moments
+
+pub returns-then-is_full-clause-beside : goal.returns-then-is_full-clause-beside
+returns-then-is_full-clause-beside g c = (others_stay g.S.Store g.met.S.Store.images_tell (IsOwn (names_in c.args.self.now.folder)) c.args.store.now).reads
+
+pub returns-then-is_full-clause-beside_moments : goal.returns-then-is_full-clause-beside_moments
+returns-then-is_full-clause-beside_moments g c = (others_stay g.S.Store g.met.S.Store.images_tell (IsOwn (names_in c.args.self.now.folder)) c.args.store.now).moments
+
+pub returns-in_err-frame_row-clause-beside : goal.returns-in_err-frame_row-clause-beside
+returns-in_err-frame_row-clause-beside g c = (others_stay g.S.Store g.met.S.Store.images_tell (IsOwn (names_in c.args.self.now.folder)) c.args.store.now).reads
+
+pub returns-in_err-frame_row-clause-beside_moments : goal.returns-in_err-frame_row-clause-beside_moments
+returns-in_err-frame_row-clause-beside_moments g c = (others_stay g.S.Store g.met.S.Store.images_tell (IsOwn (names_in c.args.self.now.folder)) c.args.store.now).moments
+
+pub returns-in_err-put-clause-beside : goal.returns-in_err-put-clause-beside
+returns-in_err-put-clause-beside g c = c.put.ensures.beside.reads
+
+pub returns-in_err-put-clause-beside_moments : goal.returns-in_err-put-clause-beside_moments
+returns-in_err-put-clause-beside_moments g c = c.put.ensures.beside.moments
+
+pub returns-clause-beside : goal.returns-clause-beside
+returns-clause-beside g c = c.put.ensures.beside.reads
+
+pub returns-clause-beside_moments : goal.returns-clause-beside_moments
+returns-clause-beside_moments g c = c.put.ensures.beside.moments
