@@ -19,3 +19,4 @@ pub mod OpeningRun
 pub mod FirstVersion
 pub mod FoundDamages
 pub mod Staying
+pub mod Placing

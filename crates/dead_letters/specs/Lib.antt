@@ -9,5 +9,6 @@ pub mod Appends
 pub mod Views
 pub mod Ready
 pub mod Plans
+pub mod Rows
 pub mod Opening
 pub mod Trimming

@@ -12,16 +12,18 @@ ghost use Rattle.dead_letters.specs.Plans.{IsJoining, IsPlan};
 ghost use Rattle.dead_letters.specs.Ready.{AppendLeaves, IsAppended, IsReady, held_now};
 ghost use Rattle.dead_letters.specs.Opening.{IsCleared, LeavesHeld};
 ghost use Rattle.dead_letters.specs.Found.{Answers, found, letters_of};
+ghost use Rattle.dead_letters.specs.Rows.{AnswersRows, rows_of};
 ghost use Rattle.dead_letters.specs.declared.faults.DeadFault.TheVariants as d;
 
 use crate::appending::carry_out;
-use crate::entries::read_letters;
+use crate::entries::{read_letters, read_rows};
 use crate::faults::DeadFault;
 use crate::keeping::{added_by, kept_records, record_sizes};
 use crate::letter::{DeadLetter, Letters};
 use crate::opening::{Opened, open_folder};
 use crate::planning::{Joining, Plan, names_from, segments_of, sizes_with};
 use crate::queue::{pieces, slot_name};
+use crate::rows::DeadRows;
 use crate::shedding::{Shedding, shed, total};
 use event_tree::{Items, Text};
 use settings_lines::Policy;
@@ -171,6 +173,20 @@ impl DeadLetters {
         let alloc = self.folder.allocator();
         let sizes = self.sizes.as_slice();
         read_letters(alloc, store, self.folder.as_str(), self.first, sizes)
+    }
+
+    /// The letters of the queue in order, each with the place where its record ends, or the first record that
+    /// doesn't read, with its file. It reads one segment after the other.
+    pub fn rows<S: Store>(&self, store: &mut S) -> Result<DeadRows, QueueFault>
+        requires ready { IsReady S.Store self.now store.old }
+        ensures rows { IsTrue S.tells → AnswersRows result
+            (rows_of self.now.folder (held_now self.now (S.seen store.old))) }
+        ensures same { ChangesNothing S.tells S.seen S.moment S.may_leave store.old store.new }
+        ensures cause { HasCause (S.faults store.old) (S.faults store.new) (result ≡ Err f.Fault) }
+    {
+        let alloc = self.folder.allocator();
+        let sizes = self.sizes.as_slice();
+        read_rows(alloc, store, self.folder.as_str(), self.first, sizes)
     }
 
     // Whether it holds all that it has, and that and so many more bytes exceed its limit.
