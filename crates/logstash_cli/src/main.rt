@@ -1,8 +1,10 @@
 //! The program `logstash`: runs or tests what its words ask for, over the real stdin, stdout, stderr and clock, with no boxes
-//! of its own. What it does is the contract of the call that it makes: `logstash`, or `test_config`, as `which` says.
+//! of its own. What it does is the contract of the call that it makes: `logstash`, `test_config`, or a tool for
+//! queues, as `which` says.
 #![tactic(auto)]
 
 mod standard;
+mod tools;
 
 use foreign_parts::{Boxes, Rack};
 use io_real::{StdinSource, SystemClock, WriteSink};
@@ -11,6 +13,7 @@ use standard::StandardOutput;
 use std::env;
 use std::io::{self, ErrorKind, Stdin};
 use std::process::ExitCode;
+use tools::{check, repair};
 
 /// The status of want of memory.
 const NO_MEMORY: u8 = 8;
@@ -28,12 +31,12 @@ fn main(rt: HostRuntime) -> ExitCode {
         return ExitCode::from(NO_MEMORY);
     };
     let mut rack = Rack::new(rt.alloc());
+    let mut world = world;
     let status = match call {
         Which::Test => tested(&rt, &words, world, &mut rack),
-        Which::Run | Which::Apart => {
-            let mut world = world;
-            logstash(&rt, rt.alloc(), &words, &mut world, &mut rack)
-        }
+        Which::Check => return ExitCode::from(check(&rt, &words, &mut world.stdout)),
+        Which::Repair => return ExitCode::from(repair(&rt, &words, &mut world.stdout)),
+        Which::Run | Which::Apart => logstash(&rt, rt.alloc(), &words, &mut world, &mut rack),
     };
     ExitCode::from(status.number())
 }

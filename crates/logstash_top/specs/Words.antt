@@ -3,11 +3,13 @@ use Rattle.std.specs.Prelude.{◌≡◌, ℕ, ◌||◌, Bool, List, if◌then◌
 use Rattle.settings_lines.specs.declared.orders.ConfigSource.{ConfigSource}
 use Rattle.settings_lines.specs.declared.orders.ConfigSource.TheVariants as source
 use Rattle.settings_lines.specs.declared.orders.Orders.{Orders}
+use Rattle.settings_lines.specs.declared.orders.QueueTool.{QueueTool}
+use Rattle.settings_lines.specs.declared.orders.QueueTool.TheVariants as tool
 use Rattle.logstash_settings.specs.declared.fault.WordsFault.{WordsFault}
 use Rattle.logstash_settings.specs.Words.{Answer, answer_of}
 use Rattle.logstash_top.specs.declared.words.Command.{Command}
 use Rattle.logstash_top.specs.declared.calls.Which.{Which}
-use Rattle.logstash_top.specs.declared.calls.Which.TheVariants.{Run, Test, Apart}
+use Rattle.logstash_top.specs.declared.calls.Which.TheVariants.{Run, Test, Apart, Check, Repair}
 
 -- the text of `-e`
 abbrev pub text_of : ConfigSource → Option (List ℕ)
@@ -38,9 +40,19 @@ AreNotBuilt words = (orders : Orders) × (answer_of words ≡ Ok orders) × (com
 abbrev pub AreRefusedFor : List (List ℕ) → WordsFault → Type 0
 AreRefusedFor words fault = answer_of words ≡ Err fault
 
--- the call that orders are for; `-t` comes before `--apart`
+-- the call that orders are for where they have no tool; `-t` comes before `--apart`
+abbrev pub call_without_tool : Orders → Which
+call_without_tool orders = if orders.test then Test else (if orders.apart then Apart else Run)
+
+-- the call of a tool, or else that one
+abbrev pub call_of_tool : Option QueueTool → Which → Which
+call_of_tool (Some (tool.Check id)) other = Check
+call_of_tool (Some (tool.Repair id)) other = Repair
+call_of_tool None other = other
+
+-- the call that orders are for; a tool comes before the others
 abbrev pub call_of : Orders → Which
-call_of orders = if orders.test then Test else (if orders.apart then Apart else Run)
+call_of orders = call_of_tool orders.tool (call_without_tool orders)
 
 -- the call that words are for
 abbrev pub which_of : Answer → Which

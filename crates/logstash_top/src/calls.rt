@@ -7,4 +7,8 @@ pub enum Which {
     Test,
     /// A run with each pipeline on a thread of its own. It isn't built yet: `logstash` says so.
     Apart,
+    /// `pq_tools::pqcheck`.
+    Check,
+    /// `pq_tools::pqrepair`.
+    Repair,
 }

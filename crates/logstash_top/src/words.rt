@@ -8,7 +8,7 @@ ghost use Rattle.logstash_top.specs.Words.{which_of, workers_of};
 
 use crate::calls::Which;
 use crate::status::Status;
-use logstash_settings::{ConfigSource, Orders, WordsFault, read_words};
+use logstash_settings::{ConfigSource, Orders, QueueTool, WordsFault, read_words};
 use plain_data::Text;
 use std::alloc::{AllocError, Global};
 
@@ -19,8 +19,8 @@ pub(crate) struct Command {
     pub(crate) text: Text,
 }
 
-/// Says which call the words of a command line are for: `Test` where they read and have `-t`, else `Apart` where they read
-/// and have `--apart`, and else `Run`. The only error is want of memory.
+/// Says which call the words of a command line are for: where they read, `Check` with `--pqcheck`, `Repair` with `--pqrepair`,
+/// else `Test` with `-t`, else `Apart` with `--apart`; and else `Run`. The only error is want of memory.
 pub fn which(alloc: Global, words: &[String]) -> Result<Which, AllocError>
     ensures { IfOk result (λ which. which ≡ which_of (answer_of (map string_bytes words.now))) }
 {
@@ -32,6 +32,16 @@ pub fn which(alloc: Global, words: &[String]) -> Result<Which, AllocError>
 
 fn call_of(orders: &Orders) -> Which
     ensures { result ≡ spec.call_of orders.now }
+{
+    match &orders.tool {
+        Some(QueueTool::Check(_)) => Which::Check,
+        Some(QueueTool::Repair(_)) => Which::Repair,
+        None => call_without_tool(orders),
+    }
+}
+
+fn call_without_tool(orders: &Orders) -> Which
+    ensures { result ≡ spec.call_without_tool orders.now }
 {
     if orders.test {
         Which::Test

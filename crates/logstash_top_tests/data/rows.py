@@ -680,7 +680,12 @@ def calls():
         (["--apart", "-w", "5"], "Apart 5"),
         (["-t", "--apart"], "Test 2"),
         (["--apart", "-r", "-w", "5"], "Run 2"),
-        (["--pqcheck", "main"], "Run 2"),
+        (["--pqcheck", "main"], "Check 2"),
+        (["--pqrepair", "main", "-w", "3"], "Repair 3"),
+        (["-t", "--pqcheck", "main"], "Check 2"),
+        (["--apart", "--pqrepair", "main"], "Repair 2"),
+        (["--pqcheck", "ma.in"], "Run 2"),
+        (["--pqcheck", "main", "--pqrepair", "main"], "Run 2"),
     ]:
         ROWS.setdefault("calls", []).append((words_written(words), answer))
 

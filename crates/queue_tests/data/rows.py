@@ -5,10 +5,11 @@ which is that of `zlib`, and for what stops leave of an output, which is worked 
 """
 
 from queue_rows import EMPTY, ROWS as QUEUES, checked, element, foreign, overlaid, slot, u
+from tool_rows import ROWS as TOOLS
 from zlib import crc32
 
-TABLES = ["pages", "prefixes", "heads", "failing", "appends", "slots", "turns", "names", "positions", "outputs", "batches", "images", "letters", "sheds", "segments", "counts", "queues", "stops", "runs", "halts", "faults", "frames"]
-ROWS = {name: [] for name in TABLES} | QUEUES
+TABLES = ["pages", "prefixes", "heads", "failing", "appends", "slots", "turns", "names", "positions", "outputs", "batches", "images", "letters", "sheds", "segments", "counts", "queues", "stops", "senders", "runs", "halts", "faults", "tools", "frames"]
+ROWS = {name: [] for name in TABLES} | QUEUES | TOOLS
 LAST = 2**63 - 1
 
 
@@ -646,6 +647,82 @@ stops("hold", 1000, [(LOG, A + b"more"), (POS, place(0, 44))], [B], "1", "1 2")
 stops("hold", 88, [(LOG, A)], [B], "1", "1 2")
 stops("hold", 1000, [(SEG, named_segments(0, 1, 1, SIZE)), (LOG, C), ("dead.1.log", A + b"more"), ("dead.2.log", D)], [B], "1", "1 2")
 stops("drop_older", 88, [], [A, B, C], "", "1", "1 2", "2 3", "1 3")
+
+# ---- readers of dead letters
+
+
+def about(id):
+    return ' {"dead_letter_queue":{"entry_time":"1970-01-01T00:00:00.000Z","plugin_id":"%s","plugin_type":"if","reason":"x"}}' % id
+
+
+def sender(files, segments, *runs):
+    """What comes of these runs. A segment is its number, with the ids of its letters and the length of each record."""
+    rows = []
+    for number, letters in segments:
+        end = 0
+        for id, size in letters:
+            end += size
+            rows.append((number, end, id))
+    place, turn, said = None, -1, []
+    for run in runs:
+        left = [row for row in rows if place is None or row[:2] > place]
+        done, out, number, ended, ring, answers = 0, 0, 0, False, [], []
+        for word in run.split():
+            if word != "s":
+                if not ring:
+                    said.append("nothing")
+                    continue
+                number_of, ids = ring.pop(0)
+                said.append(f"{number_of} to dlq:q, {len(ids)}" + (about(ids[0]) + about(ids[-1]) if ids else ""))
+                answers += [word] * (word in "an")
+                continue
+            if out and not answers:
+                said.append("not yet")
+                continue
+            if out and answers.pop(0) == "a":
+                done += out
+                place, turn = left[done - 1][:2], turn + 1
+            out = 0
+            if done < len(left):
+                out = min(125, len(left) - done)
+                number += 1
+                ring.append((number, [row[2] for row in left[done : done + out]]))
+                said.append("parcel")
+                continue
+            if not ended:
+                ring.append((0, []))
+            ended = True
+            said.append("ended")
+        said.append(None)
+    answer = "".join("| " if word is None else f"{word}; " for word in said)
+    answer += f"{place[0]} to {place[0]}, {place[1]} bytes, in turn {turn}" if place else "nothing"
+    named = " | ".join(f"{part} {digits(data)}" for part, data in files)
+    ROWS["senders"].append((" ; ".join([named, *runs]), answer))
+
+
+def ids(*all):
+    return [(str(id), SIZE) for id in all]
+
+
+TWO = [(LOG, A + B)], [(0, ids(1, 2))]
+MANY = [(LOG, A * 126)], [(0, ids(*[1] * 126))]
+
+# the place is recorded, and nothing is sent again
+sender(*TWO, "s a s", "s t t")
+sender(*TWO, "s a s t s t")
+# it is answered NotListening
+sender(*TWO, "s n s n s a s t t")
+# two parcels, one behind the other, and an opening between them
+sender(*MANY, "s t s", "s a s a s t")
+sender(*MANY, "s a s t", "s a s t")
+sender(*MANY, "s a s n s a s s t t")
+# an answer that was not heard
+sender(*TWO, "s a", "s s a s t")
+# no letters, and letters in two segments
+sender([], [], "t s t s t")
+sender(PAIR, [(0, ids(1)), (1, ids(2))], "s a s", "s t")
+# a damaged letter
+ROWS["senders"].append((f"{LOG} {digits(A[:-1])} ; s", "q/dead.log at 0: 44, not 43| nothing"))
 
 # ---- frames
 

@@ -28,6 +28,9 @@
 //!   comes of each, the ids of the letters that the queue holds then, or its damage, and the files.
 //! - `stops`: such a row. The answer is all that its queue may hold where a stop comes at any moment, with any choice, or
 //!   where one call of the store fails.
+//! - `senders`: the files of a folder of dead letters between bars, and behind semicolons runs of their reader, with an opening
+//!   and a new link before each: `s` makes a step, `a` takes a parcel and answers `Assured`, `n` `NotListening`, and `t` takes one
+//!   without an answer. The answers of steps and the parcels are shown, and at the end what the file of the place says.
 //! - `runs`: how many bytes a page may have, and a queue, the files of a folder, and behind semicolons runs of calls of the
 //!   persistent queue in that folder, with an opening before each: `w:ORIGIN` writes an empty event, `t:COUNT` takes a batch,
 //!   `a:FIRST-BEHIND` acknowledges rows by their numbers, `m` marks, `p` purges, and `u` asks how many rows are unread. The
@@ -36,9 +39,11 @@
 //!   with each choice of what it leaves; those that stand there already, or before, are left out.
 //! - `faults`: such a row. The answers are those of its last run behind such a stop, where a call of the store in the runs
 //!   before fails, each once; in front of them stands how many answers those gave.
+//! - `tools`: words of a command line, and behind a semicolon the files of a store between bars, each with its name in front. The
+//!   answer is the status of the tool for queues that has these words, what it prints, and the lengths and sums of all files then.
 //! - `frames`: bytes, of which the CRC-32 is computed, and which are read as a frame.
 //!
-//! `data/rows.py`, with `data/queue_rows.py`, made the tables and `stdout`, by the tables of the formats and with the CRC-32 of Python's `zlib`.
+//! `data/rows.py`, with `data/queue_rows.py` and `data/tool_rows.py`, made the tables and `stdout`, by the tables of the formats and with the CRC-32 of Python's `zlib`.
 #![tactic(auto)]
 
 mod calls;
@@ -49,7 +54,9 @@ mod open_queues;
 mod outputs;
 mod pages;
 mod queues;
+mod senders;
 mod slots;
+mod tools;
 mod words;
 
 use std::alloc::AllocError;
@@ -74,13 +81,15 @@ enum Table {
     Counts,
     Queues,
     Stops,
+    Senders,
     Runs,
     Halts,
     Faults,
+    Tools,
     Frames,
 }
 
-const TABLES: [(&str, Table); 22] = [
+const TABLES: [(&str, Table); 24] = [
     ("pages", Table::Pages),
     ("prefixes", Table::Pages),
     ("heads", Table::Pages),
@@ -99,9 +108,11 @@ const TABLES: [(&str, Table); 22] = [
     ("counts", Table::Counts),
     ("queues", Table::Queues),
     ("stops", Table::Stops),
+    ("senders", Table::Senders),
     ("runs", Table::Runs),
     ("halts", Table::Halts),
     ("faults", Table::Faults),
+    ("tools", Table::Tools),
     ("frames", Table::Frames),
 ];
 
@@ -136,9 +147,11 @@ fn add_answer(to: &mut String, table: Table, row: &str) -> Result<(), AllocError
         Table::Counts => letters::add_written(to, row),
         Table::Queues => queues::add_run(to, row),
         Table::Stops => queues::add_stops(to, row),
+        Table::Senders => senders::add_runs(to, row),
         Table::Runs => open_queues::add_run(to, row),
         Table::Halts => open_queues::add_halts(to, row),
         Table::Faults => open_queues::add_faults(to, row),
+        Table::Tools => tools::add_call(to, row),
         Table::Frames => frames::add_read(to, row),
     }
 }

@@ -1,0 +1,48 @@
+use Rattle.std.proofs.Common.{[], List, ℕ, Option, sym, ◌∙◌, ap, subst}
+use Rattle.io_traits.specs.Folders.{Content}
+use Rattle.io_traits.specs.Reads.{bytes_of}
+use Rattle.store_disk.specs.declared.pages.PageState.{PageState}
+use Rattle.queue_checkpoint.specs.Checkpoints.{newest_in}
+use Rattle.queue_laws.specs.Folders.{IsOwn, checkpoint, names_in, page}
+use Rattle.queue_core.specs.Marks.{read_in}
+use Rattle.pq_tools.specs.Salvage.{by_head, by_own, rows_in, taken}
+use Rattle.pq_tools.proofs.Takings.{adds_same, adds_then, if_ok_on, listed_more, reads_same, reads_then}
+use Rattle.pq_tools.proofs.taking.take_numbered.Goals as goal
+
+pub take_page-requires-clause-apart : goal.take_page-requires-clause-apart
+take_page-requires-clause-apart g c own =
+    c.requires.apart (page c.args.number) (subst (IsOwn (names_in c.args.queue.now.folder)) (c.as_str.ensures ∙ c.in_ok-name.ensures) own)
+
+pub returns-clause-taken : goal.returns-clause-taken
+returns-clause-taken g c =
+    let folder = c.args.folder.now in
+    let old = c.args.store.now in
+    let mid = c.open_from.new.store in
+    let new = c.take_page.new.store in
+    let v = c.args.queue.now in
+    let same = c.open_from.ensures.same in
+    let f = read_in (names_in folder) (g.S.Store.seen old) in
+    let named = c.as_str.ensures ∙ c.in_ok-name.ensures in
+    let file = bytes_of (g.S.Store.seen mid c.as_str.result.now) in
+    let rows = taken c.args.end c.in_ok-from.from (rows_in file) in
+    if_ok_on _ _ _ c.take_page.result c.take_page.ensures.end c.take_page.ensures.adds
+    (λ behind end adds. record {
+      done = rows;
+      adds = adds_then g.S.Store [] rows v v c.take_page.new.queue old mid new (adds_same g.S.Store v old mid same) adds;
+      is = λ told newest numbers.
+          listed_more f c.args.end c.args.number c.in_ok-from.from behind numbers file
+          (ap (λ (content : Content). bytes_of (content c.as_str.result.now)) (same.reads told) ∙ ap (λ (n : List ℕ). bytes_of (g.S.Store.seen old n)) named)
+          (c.in_ok-from.ensures.from told ∙ ap (λ (o : Option (ℕ × PageState)). by_own (newest_in (bytes_of (f (checkpoint c.args.number)))) (by_head c.args.number o)) (sym newest))
+          (end told);
+    })
+
+pub returns-clause-beside : goal.returns-clause-beside
+returns-clause-beside g c =
+    let Mine = IsOwn (names_in c.args.queue.now.folder) in
+    reads_then g.S.Store Mine c.args.store.now c.open_from.new.store c.take_page.new.store (reads_same g.S.Store Mine c.args.store.now c.open_from.new.store c.open_from.ensures.same) c.take_page.ensures.beside
+
+pub returns-in_err-from-clause-beside : goal.returns-in_err-from-clause-beside
+returns-in_err-from-clause-beside g c = reads_same g.S.Store (IsOwn (names_in c.args.queue.now.folder)) c.args.store.now c.open_from.new.store c.open_from.ensures.same
+
+pub returns-in_err-name-clause-beside : goal.returns-in_err-name-clause-beside
+returns-in_err-name-clause-beside g c = reads_same g.S.Store (IsOwn (names_in c.args.queue.now.folder)) c.args.store.now c.open_from.new.store c.open_from.ensures.same

@@ -1,0 +1,7 @@
+pub mod Statuses
+pub mod Orders
+pub mod Counts
+pub mod Checks
+pub mod Salvage
+pub mod PageRuns
+pub mod Repairs
