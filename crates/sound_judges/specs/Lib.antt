@@ -1,0 +1,5 @@
+pub mod Contents
+pub mod Held
+pub mod Tables
+pub mod Places
+pub mod Sounding
