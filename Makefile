@@ -40,7 +40,7 @@ bench: all
 	bash bench/folder.sh
 	bash bench/threads.sh
 	bash bench/runs.sh
-	status=0; for it in bulk inputs queue graphs; do bash bench/$$it.sh || status=1; done; exit $$status
+	status=0; for it in bulk inputs queue tools graphs; do bash bench/$$it.sh || status=1; done; exit $$status
 
 clean:
 	rm -rf bin crates/*/out

@@ -28,7 +28,9 @@
 
 mod batches;
 mod boxes;
+mod by_hand;
 mod checks;
+mod crossing;
 mod events;
 mod passages;
 mod plans;

@@ -1,6 +1,7 @@
 //! Does one thing with copies of events, over and over (bench/filters.sh, bench/parsing.sh, bench/graphs.sh).
 
 use crate::batches::{Prepared, condition, copies, prepare, sent};
+use crate::by_hand::ByHand;
 use crate::events::event_of;
 use crate::rows::plugin_of;
 use event_tree::{Event, Events, Number, Path, Text, Value};
@@ -16,6 +17,8 @@ enum Work {
     Calls(Vec<Path>),
     Filter(BuiltFilter),
     Condition(CompiledCondition),
+    /// A configuration's filters and conditions, without a graph.
+    ByHand(ByHand),
     /// A whole configuration, for batches.
     Batches(Prepared),
 }
@@ -28,6 +31,7 @@ impl Drop for Work {
             Work::Calls(_places) => {}
             Work::Filter(_filter) => {}
             Work::Condition(_condition) => {}
+            Work::ByHand(_by_hand) => {}
             Work::Batches(_prepared) => {}
         }
     }
@@ -36,8 +40,8 @@ impl Drop for Work {
 /// How many events came out in so many rounds, in which each event of a file (JSON, one a line) is copied and the
 /// filter applied to the copy. With `copies` in the place of the filter it is copied alone, and with `calls` six calls
 /// are made on the copy; with `if` and a condition in front of an empty block the condition is tested, and with `filter` and
-/// a whole configuration behind it the copies go through that in batches. A fourth word is the number of copies that are made,
-/// worked on and dropped together. `None` where the words are not these, or a file can't be read.
+/// a whole configuration behind it the copies go through that in batches; with six lines they meet the conditions and filters that
+/// these are (`ByHand`). A fourth word is the number of copies that are made, worked on and dropped together. `None` where the words are not these, or a file can't be read.
 pub fn run(rt: &HostRuntime, words: &[String]) -> Option<u64> {
     let [what, file, rounds, rest @ ..] = words else {
         return None;
@@ -75,6 +79,9 @@ fn work_of(alloc: Global, what: &str) -> Option<Work> {
 }
 
 fn other_work(alloc: Global, text: &str) -> Option<Work> {
+    if text.lines().count() == 6 {
+        return ByHand::read(alloc, text).map(Work::ByHand);
+    }
     if text.starts_with("if ") {
         return condition(alloc, text).map(Work::Condition);
     }
@@ -84,7 +91,8 @@ fn other_work(alloc: Global, text: &str) -> Option<Work> {
     filter_of(alloc, text).map(Work::Filter)
 }
 
-fn filter_of(alloc: Global, text: &str) -> Option<BuiltFilter> {
+/// The filter of this text.
+pub fn filter_of(alloc: Global, text: &str) -> Option<BuiltFilter> {
     let plugin = plugin_of(alloc, text).ok()??;
     BuiltFilter::from_plugin(&plugin).ok()?
 }
@@ -139,6 +147,7 @@ fn one_done(alloc: Global, work: &mut Work, event: Event, done: &mut Events) -> 
         Work::Copy | Work::Batches(_) => {}
         Work::Calls(places) => called(alloc, places.as_slice(), &mut event)?,
         Work::Filter(filter) => return applied(filter, event, done),
+        Work::ByHand(by_hand) => return by_hand.meet(event, done),
         Work::Condition(condition) => tested(condition, &event)?,
     }
     done.push(event).ok()

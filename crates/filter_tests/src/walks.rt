@@ -3,6 +3,7 @@ ghost use Rattle.std.specs.Prelude.{IfOk};
 ghost use Rattle.plugin_graph.specs.Graphs.{contents_of};
 ghost use Rattle.plugin_graph.specs.Walks.{IsKitOf};
 
+use crate::crossing::{crossing_graph, crossing_kit};
 use crate::passages::{NoBox, add_passage, events_of};
 use config_parse::parse;
 use config_tree::{Config, FromFault};
@@ -43,13 +44,13 @@ fn add_of_kit(
     requires { IsKitOf config.now (contents_of kit) }
 {
     let alloc = *to.allocator();
-    let mut kit = kit;
+    let mut kit = crossing_kit(kit);
     let events = events_of(alloc, events)?;
     let before = kit.built();
     add_walks(to, config, &mut kit, events.as_slice())?;
     write!(to, "read {} | ", kit.built().saturating_sub(before))?;
     let before = kit.built();
-    let graph = Graph::new(alloc, config)?;
+    let graph = crossing_graph(Graph::new(alloc, config)?);
     let passage = run(alloc, &graph, &mut kit, events)?;
     add_passage(to, &passage)?;
     write!(to, " | read {}", kit.built().saturating_sub(before))
