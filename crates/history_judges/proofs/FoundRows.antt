@@ -49,6 +49,12 @@ module _ {X : Type 0} where
   pub each_all : {P : X → Type 0} (xs : List X) (i : ℕ) → length xs ≤ i → (Each_of P (drop i xs) → Each_of P xs) → IsTrue true ↔ Each_of P xs
   each_all {P} xs i all so_far = (λ t. so_far (subst (Each_of P) (sym (drop_all i xs all)) (record { holds = λ x i. absurd i })), λ e. refl)
 
+  pub some_in : (x : X) (xs : List X) → Some_of (λ y. y ≡ x) xs → IsIn x xs
+  some_in x xs s = subst (λ y. IsIn y xs) s.holds s.has
+
+  pub in_some : (x : X) (xs : List X) → IsIn x xs → Some_of (λ y. y ≡ x) xs
+  in_some x xs i = record { item = x; has = i; holds = refl }
+
 module _ {X Y : Type 0} (f : X → Y) where
   pub in_mapped : (xs : List X) (y : Y) → IsIn y (map f xs) → (x : X) × IsIn x xs × (y ≡ f x)
   in_mapped [] y i = absurd i
@@ -92,19 +98,13 @@ named_row (v ∷ ws) [] are n i = absurd are
 named_row (v ∷ ws) (m ∷ ns) are n (inl e) = (v, inl refl, subst (IsNamed v) (sym e) are.0)
 named_row (v ∷ ws) (m ∷ ns) are n (inr i) = let more = named_row ws ns are.1 n i in (more.0, inr more.1, more.2)
 
-id_in : (id : List ℕ) (ids : List (List ℕ)) → Some_of (λ (x : List ℕ). x ≡ id) ids → IsIn id ids
-id_in id ids s = subst (λ (x : List ℕ). IsIn x ids) s.holds s.has
-
-in_id : (id : List ℕ) (ids : List (List ℕ)) → IsIn id ids → Some_of (λ (x : List ℕ). x ≡ id) ids
-in_id id ids i = record { item = id; has = i; holds = refl }
-
 names_row : (o : Origin) (w : KeptWritten) (n : Named) → IsNamed w n → NamesOne o n.ids → Names o (written_of w)
 names_row origin.Unknown w n is one = tt
-names_row (origin.Id id) w n is one = (is.ids id).0 (id_in id n.ids one)
+names_row (origin.Id id) w n is one = (is.ids id).0 (some_in id n.ids one)
 
 row_names : (o : Origin) (w : KeptWritten) (n : Named) → IsNamed w n → Names o (written_of w) → NamesOne o n.ids
 row_names origin.Unknown w n is names = tt
-row_names (origin.Id id) w n is names = in_id id n.ids ((is.ids id).1 names)
+row_names (origin.Id id) w n is names = in_some id n.ids ((is.ids id).1 names)
 
 same_row : (r : QueueRow) (w : KeptWritten) (n : Named) → IsNamed w n → IsSameRow r n → IsRowOf (told r) (written_of w)
 same_row r w n is same = record { number = same.number ∙ is.number_is; event = same.event ∙ is.event_is; names = names_row r.origin w n is same.names }

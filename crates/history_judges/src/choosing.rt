@@ -12,7 +12,7 @@ use std::alloc::{AllocError, Global};
 
 /// Whether letters are those of some of the events, in their order, each rejected with a status, but for those at these
 /// places among them, which were shed.
-pub(crate) fn are_chosen(
+pub fn are_chosen(
     alloc: Global,
     config: &Config,
     id: &Text,

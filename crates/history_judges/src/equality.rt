@@ -18,7 +18,8 @@ pub(crate) fn same_events(left: &[Event], right: &[Event]) -> bool
     true
 }
 
-pub(crate) fn same_letters(left: &[DeadPart], right: &[DeadPart]) -> bool
+/// Whether letters are the same, in the same order.
+pub fn same_letters(left: &[DeadPart], right: &[DeadPart]) -> bool
     ensures { IsTrue result ↔ (left.now ≡ right.now) }
 {
     if left.len() != right.len() {

@@ -21,7 +21,8 @@ use persistent_queue::QueueRow;
 use std::alloc::{AllocError, Global};
 
 impl State {
-    pub(crate) fn opening_fault(
+    /// Why an opening may not have found these rows; none, where it may.
+    pub fn opening_fault(
         &self,
         alloc: Global,
         found: &[QueueRow],

@@ -95,7 +95,7 @@ fn search_plugin(
 
 /// The id of the k-th plugin of a section, counted from 1: the one that its settings give, and else the section's name
 /// and the number.
-pub(crate) fn plugin_id(
+pub fn plugin_id(
     alloc: Global,
     section: &str,
     number: u64,

@@ -47,7 +47,7 @@ impl State {
     }
 
     /// The number behind which no row was found, and none is settled.
-    pub(crate) fn top(&self, rows: &[QueueRow]) -> u64
+    pub fn top(&self, rows: &[QueueRow]) -> u64
         ensures { result ≡ spec.top_of (state_of self.now) (map told rows.now) }
     {
         self.front.max(last_number(rows))

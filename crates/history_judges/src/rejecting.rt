@@ -12,7 +12,7 @@ use foreign_parts::{Fate, Place};
 use std::alloc::{AllocError, Global};
 
 /// The letters of the events that were rejected, in their order.
-pub(crate) fn rejections(
+pub fn rejections(
     alloc: Global,
     config: &Config,
     id: &Text,
@@ -111,11 +111,7 @@ fn is_short(fate: &Fate) -> bool
 }
 
 /// The letters but those at these places, which rise.
-pub(crate) fn kept(
-    alloc: Global,
-    places: &[usize],
-    letters: &[DeadPart],
-) -> Result<DeadList, AllocError>
+pub fn kept(alloc: Global, places: &[usize], letters: &[DeadPart]) -> Result<DeadList, AllocError>
     ensures { IfOk result (λ kept. kept ≡ kept_from places.now 0 letters.now) }
 {
     let mut kept = DeadList::new(alloc);
@@ -131,7 +127,7 @@ pub(crate) fn kept(
 }
 
 /// Whether the next of these places is this one.
-pub(crate) fn is_place(places: &[usize], next: usize, at: usize) -> bool
+pub fn is_place(places: &[usize], next: usize, at: usize) -> bool
     ensures { result ≡ begins_at (drop next places.now) at }
 {
     match places.get(next) {

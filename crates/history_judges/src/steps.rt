@@ -181,7 +181,7 @@ impl State {
     }
 
     /// The batch of this number, if it is out.
-    pub(crate) fn batch_out(&self, batch: u64) -> Option<&Out>
+    pub fn batch_out(&self, batch: u64) -> Option<&Out>
         ensures { option_map batch_of (option_copied result) ≡ out_of batch (state_of self.now).out }
     {
         let Some(place) = self.place_of(batch) else {
@@ -282,7 +282,7 @@ fn add_all(to: &mut Items<u64>, numbers: &[u64]) -> Result<(), AllocError>
 }
 
 /// Places, once more.
-pub(crate) fn copy_places(alloc: Global, places: &[usize]) -> Result<Items<usize>, AllocError>
+pub fn copy_places(alloc: Global, places: &[usize]) -> Result<Items<usize>, AllocError>
     ensures { IfOk result (λ copies. copies ≡ places.now) }
 {
     let mut copies = Items::with_capacity(alloc, places.len())?;
