@@ -1,6 +1,10 @@
 pub mod ContentLists
+pub mod TellingLetters
+pub mod JoiningRecords
+pub mod OnlyLetters
 pub mod TableFiles
 pub mod CutSegments
 pub mod TableQueues
 pub mod SoundFiles
 pub mod SoundQueues
+pub mod SoundLines

@@ -1,30 +1,37 @@
 //! Judges of what a stop leaves: plain, slow code beside the definitions of when that agrees with a history, equal to
 //! them. What a stop leaves is a table of files in memory.
 //!
-//! - [`queue_is_sound`] judges the folder of a pipeline's queue, and [`files_are_sound`] its output files.
-//! - [`holds_content`] says whether a file may hold some bytes after a history, and [`contents_after`] which contents
-//!   it may have.
-//! - [`found_rows`], [`file_content`] and [`found_letters`] say what a table holds of a queue, of a file and of dead
-//!   letters.
+//! - [`is_sound`] judges a pipeline: its history, its queue, its files and its dead letters. Its parts stand beside it:
+//!   [`queue_is_sound`], [`files_are_sound`] and [`letters_are_sound`].
+//! - [`holds_content`] says whether a file may hold some bytes after a history, and [`holds_letters`] whether a dead
+//!   letter queue may hold some segments, where the letters are known that were appended.
+//! - [`found_rows`], [`file_content`] and [`found_letters`] say what a table holds of each.
 //! - [`Writing`] is what a judge has to be told of outputs: the bytes of events.
 //!
-//! The definitions stand in `history_laws`.
+//! The definitions stand in `history_laws`. A history doesn't say when a letter was appended, nor which letters were
+//! shed that no delivery tells of: so the judges are handed the letters of each append. What agrees with a history
+//! does so with some such letters, and with others it doesn't ([`laws`]).
 #![tactic(auto)]
 
+mod appending;
 mod contents;
 mod finding;
 mod held;
+pub mod laws;
+mod letters;
 mod line;
 mod places;
 mod queue_rows;
+mod rejected;
 mod segments;
 mod writing;
 
 pub use contents::{contents_after, holds_content};
 pub use finding::file_content;
 pub use held::HeldLetters;
-pub use line::{files_are_sound, queue_is_sound};
-pub use places::FilePlace;
+pub use letters::holds_letters;
+pub use line::{AppendedLetters, files_are_sound, is_sound, letters_are_sound, queue_is_sound};
+pub use places::{FilePlace, Places};
 pub use queue_rows::{FoundRows, found_rows};
 pub use segments::found_letters;
 pub use writing::Writing;

@@ -1,3 +1,4 @@
+use crate::held::HeldLetters;
 use event_tree::Text;
 use plain_data::Items;
 
@@ -8,4 +9,14 @@ pub struct FilePlace {
     pub path: Text,
     pub slot: Text,
     pub base: Items<u8>,
+}
+
+/// Where a pipeline keeps what it holds: the folder of its queue, its files, and the folder of its dead letters with what
+/// that held at first. Paths of folders end with a slash.
+#[derive(Drop)]
+pub struct Places {
+    pub queue: Text,
+    pub files: Items<FilePlace>,
+    pub dead: Text,
+    pub dead_base: HeldLetters,
 }
