@@ -4,3 +4,7 @@ pub mod CutSegments
 pub mod TableQueues
 pub mod SoundFiles
 pub mod SoundQueues
+pub mod StatementNumbers
+pub mod ToldReadings
+pub mod FindingStatements
+pub mod JudgedReadings
