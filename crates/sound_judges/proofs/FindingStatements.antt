@@ -1,5 +1,5 @@
 -- The statements of inputs, found one after the other.
-use Rattle.std.proofs.Common.{◌≡◌, ◌≢◌, ◌↔◌, inl, inr, ⊎_elim, ℕ, zero, suc, ◌+◌, ◌-◌, ◌<◌, ◌≤◌, Bool, false, IsTrue, List, [], ◌∷◌, ◌++◌, length, map, take, drop, get_or, drop-cons, refl, sym, ap, ap₂, ◌∙◌, subst, arith, append_assoc, append-nil}
+use Rattle.std.proofs.Common.{◌≡◌, ◌↔◌, inl, inr, ℕ, zero, suc, ◌+◌, ◌<◌, ◌≤◌, Bool, false, IsTrue, List, [], ◌∷◌, ◌++◌, length, map, take, drop, get_or, drop-cons, refl, sym, ap, ap₂, ◌∙◌, subst, arith, append_assoc, append-nil}
 use Rattle.std.specs.List.{remove}
 use Rattle.std.proofs.lemmas.Bool.{false≢true}
 use Rattle.std.proofs.lemmas.List.{drop_all, take_all, get_or_default}
@@ -8,7 +8,7 @@ use Rattle.config_tree.specs.declared.tree.Plugin.{Plugin}
 use Rattle.history_laws.specs.Lists.{IsIn}
 use Rattle.history_laws.specs.States.{Plan}
 use Rattle.history_judges.specs.Inputs.{alone}
-use Rattle.sound_judges.specs.Statements.{HasNone, Leaves, LeavesAt, AreNew, AddsOne, AddsNew, newest_statements, AreStatements, HasStatement}
+use Rattle.sound_judges.specs.Statements.{HasNone, LeavesAt, AreNew, AddsOne, AddsNew, newest_statements, AreStatements, HasStatement}
 use Rattle.sound_judges.proofs.StatementNumbers.{numbers_from, stands_by_number}
 
 -- ---- one among several

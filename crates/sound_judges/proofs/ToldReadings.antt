@@ -9,10 +9,9 @@ use Rattle.history_laws.specs.Entries.{Entry}
 use Rattle.history_laws.specs.Links.{Listening}
 use Rattle.history_laws.specs.Lists.{IsIn}
 use Rattle.history_laws.specs.States.{Written, State, start, after}
-use Rattle.history_judges.specs.Finding.{Some_of}
 use Rattle.run_laws.specs.Sources.{Sources}
 use Rattle.run_laws.specs.Watched.{Reading, Differ, CameBy, IsRead, IsSettledRow}
-use Rattle.sound_judges.specs.Positions.{ToldReading, IsRowWith, AreSettled, IsReadWith, SoundWithSomeReadings}
+use Rattle.sound_judges.specs.Positions.{ToldReading, AreSettled, IsReadWith, SoundWithSomeReadings}
 
 -- each of these, and one more in front
 with_one : {X : Type 0} (P : X → Type 0) (x : X) (xs : List X) → P x → ((y : X) → IsIn y xs → P y) → (y : X) → IsIn y (x ∷ xs) → P y

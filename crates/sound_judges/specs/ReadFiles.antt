@@ -1,5 +1,5 @@
 -- Watched files and readings, as the judges are told of them.
-use Rattle.std.specs.Prelude.{◌≡◌, ◌↔◌, ◌≤◌, ℕ, Bool, true, false, List, [], ◌++◌, length, map, take, drop, Option, Some, None, if◌then◌else◌}
+use Rattle.std.specs.Prelude.{◌≡◌, ◌↔◌, ◌≤◌, ℕ, Bool, List, [], ◌++◌, length, map, take, drop, Option, Some, None, if◌then◌else◌}
 use Rattle.io_traits.specs.Folders.{Content}
 use Rattle.io_traits.specs.Pieces.{Piece}
 use Rattle.io_traits.specs.Reads.{bytes_of}

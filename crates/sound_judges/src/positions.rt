@@ -1,12 +1,10 @@
 // Whether the recorded positions of watched files agree with what their pipeline told.
-ghost use Rattle.std.specs.Prelude.{◌≡◌, ◌↔◌, ◌++◌, ◌||◌, ℕ, Bool, IsTrue, IfOk, OnOk, map, flat_map};
+ghost use Rattle.std.specs.Prelude.{◌≡◌, ◌↔◌, ◌++◌, ◌||◌, Bool, IsTrue, IfOk, OnOk, map, flat_map};
 ghost use Rattle.store_trait.specs.Images.{Image};
-ghost use Rattle.io_memory.specs.Tables.{content_of};
 ghost use Rattle.io_traits.specs.Folders.{Content};
 ghost use Rattle.io_traits.specs.Reads.{bytes_of};
 ghost use Rattle.in_lines.specs.Given.{piece_of, polls_of};
 ghost use Rattle.in_lines.specs.Polls as looks;
-ghost use Rattle.position_file.specs.Positions.{recorded_in};
 ghost use Rattle.config_tree.specs.declared.tree.Plugin.{Plugin};
 ghost use Rattle.run_laws.specs.Watched as spec;
 ghost use Rattle.history_judges.specs.Finding.{Some_of, Each_of};
@@ -30,8 +28,8 @@ use position_file::Recorded;
 use std::alloc::{AllocError, Global};
 use store_disk::Table;
 
-/// Whether each of these files has a position file that isn't damaged, and a position behind which the lines stand in
-/// rows of their own that are settled, by the readings that are told of it.
+/// Whether each of these files has a position file that isn't damaged, and a recorded position up to which each line
+/// since the base is a settled row of its own, by the readings that are told of the file.
 pub fn positions_are_sound<R: Reading>(
     alloc: Global,
     reading: &R,

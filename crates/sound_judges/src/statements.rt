@@ -1,12 +1,10 @@
 // The statements of a pipeline's inputs, by the numbers of these. A statement is a configuration that has it and nothing
 // else.
-ghost use Rattle.std.specs.Prelude.{◌≡◌, ◌↔◌, ◌++◌, ◌<◌, List, IsTrue, IfOk, OnOk, MatchOption, length, map};
-ghost use Rattle.std.specs.List.{remove};
-ghost use Rattle.config_tree.specs.declared.tree.Config.{Config};
+ghost use Rattle.std.specs.Prelude.{◌≡◌, ◌↔◌, IsTrue, IfOk, OnOk, MatchOption, map};
 ghost use Rattle.config_tree.specs.declared.tree.Plugin.{Plugin};
 ghost use Rattle.history_judges.specs.Inputs as spec;
 ghost use Rattle.history_judges.specs.States.{plan_of};
-ghost use Rattle.sound_judges.specs.Statements.{HasNone, Leaves, LeavesAt, AreNew, AddsOne, AddsNew, AreStatements, HasStatement};
+ghost use Rattle.sound_judges.specs.Statements.{HasNone, LeavesAt, AddsOne, AddsNew, AreStatements, HasStatement};
 
 use config_tree::{Config, Plugin, Settings};
 use history_judges::Plan;

@@ -15,7 +15,8 @@ pub struct WatchedFile {
 /// A reading of a watched file to its end.
 #[derive(Drop)]
 pub struct FileReading {
-    /// A configuration, and the place among its inputs of one by whose statement the lines came.
+    /// A configuration, and the place among its inputs of one by whose statement the lines came; behind the last
+    /// one there is an empty statement.
     pub config: Config,
     pub input: usize,
     /// The number of the file among the sources of an input.

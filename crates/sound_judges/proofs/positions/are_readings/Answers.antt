@@ -1,9 +1,7 @@
-use Rattle.std.proofs.Common.{not, sym, ap, ◌∙◌, subst}
-use Rattle.std.specs.Prelude.{bytes_eq}
+use Rattle.std.proofs.Common.{sym, ◌∙◌}
 use Rattle.std.proofs.lemmas.Bool.{false≢true}
 use Rattle.std.proofs.lemmas.Result.{IfOk-weaker}
 use Rattle.history_judges.specs.States.{state_of}
-use Rattle.run_laws.specs.Watched.{Differ}
 use Rattle.sound_judges.proofs.JudgedReadings.{others_read, twice_read, all_read}
 use Rattle.sound_judges.proofs.positions.are_readings.Goals as goal
 
