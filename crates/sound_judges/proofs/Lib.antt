@@ -8,3 +8,7 @@ pub mod TableQueues
 pub mod SoundFiles
 pub mod SoundQueues
 pub mod SoundLines
+pub mod StatementNumbers
+pub mod ToldReadings
+pub mod FindingStatements
+pub mod JudgedReadings

@@ -4,3 +4,6 @@ pub mod Appends
 pub mod Tables
 pub mod Places
 pub mod Sounding
+pub mod Statements
+pub mod Positions
+pub mod ReadFiles

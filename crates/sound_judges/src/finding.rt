@@ -60,7 +60,8 @@ fn counted_up_to(length: u64, position: u64) -> Option<u64>
     Some(position)
 }
 
-fn recorded(alloc: Global, image: &Table, slot: &str) -> Result<Recorded, AllocError>
+/// What a position file records; a missing one nothing.
+pub(crate) fn recorded(alloc: Global, image: &Table, slot: &str) -> Result<Recorded, AllocError>
     ensures { IfOk result (λ recorded. recorded
         ≡ recorded_in (bytes_of (content_of image.now slot.now))) }
 {

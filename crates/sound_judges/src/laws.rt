@@ -1,5 +1,6 @@
 //! What holds of the judges' definitions. Each function here does nothing: its clauses are theorems.
 ghost use Rattle.sound_judges.specs.Appends.{LettersCanBeTold};
+ghost use Rattle.sound_judges.specs.Positions.{SoundWithSomeReadings};
 ghost use Rattle.sound_judges.specs.Sounding.{SoundWithSomeLetters};
 
 /// What dead letters hold after a history they hold with some letters that were appended; and with whichever letters
@@ -11,4 +12,9 @@ pub fn letters_can_be_told()
 /// What a stop leaves agrees with a history exactly where it does so with some letters that were appended.
 pub fn what_is_sound_is_so_with_some_letters()
     ensures { SoundWithSomeLetters }
+{}
+
+/// The recorded position of a watched file agrees with a history exactly where it does so with some readings.
+pub fn what_is_sound_is_so_with_some_readings()
+    ensures { SoundWithSomeReadings }
 {}
