@@ -28,6 +28,8 @@ use Rattle.queue_core.specs.declared.opening.Opened.{Opened}
 use Rattle.queue_core.specs.declared.tails.Tail.{Tail}
 use Rattle.queue_core.proofs.Listings.{are_numbers}
 use Rattle.queue_core.proofs.Members.{any_decides, is_first}
+use Rattle.persistent_queue.specs.Opening.{page_opened, queue_opened, queue_with, tails_opened}
+use Rattle.pq_tools.specs.Numbers.{limits, new_queue, new_state}
 use Rattle.pq_tools.specs.Repairs.{AllFresh, HasFile, IsNewQueue}
 
 -- ---- none of its files
@@ -100,11 +102,17 @@ module _ (folder : List ℕ) (content : Content) (starts : folder_start folder �
   first_of o is = ⊎_elim (λ first. first.1)
       (λ reads. absurd (omega (arith, slot_long (bytes_of (f head)) o.turn o.state reads.head_is.is, ap (λ (x : Option (List ℕ)). length (bytes_of x)) head_none))) is
 
+  pub made_new : (o : Opened) → IsOfFolder f o → queue_opened folder limits o ≡ new_queue folder
+  made_new o of =
+      let first = first_of o of in
+      let top : o.pages.top ≡ record { version = 2; state = new_state } = first.top ∙ ap (λ (s : PageState). record { version = 2; state = s }) first.state in
+      λ i. queue_with folder limits (tails_opened folder (first.tails i) o.pages.pages.items) (page_opened folder (first.state i).page (first.turn i) (first.state i).first_open (top i))
+
   no_rows : (s : PageState) (top : PageView) (read : PageRows) → top ≡ record { version = read.version; state = record s { count = length read.rows; length = read.length } } → top.state.count ≡ 0 → read.rows ≡ []
   no_rows s top read view none = nil_from_length read.rows (sym (ap (λ (v : PageView). v.state.count) view) ∙ none)
 
-  pub new_queue : (o : Opened) (queue : Queue) → IsOfFolder f o → IsQueueOf f o queue → IsNewQueue queue []
-  new_queue o queue of is =
+  pub has_none : (o : Opened) (queue : Queue) → IsOfFolder f o → IsQueueOf f o queue → IsNewQueue queue []
+  has_none o queue of is =
       let first = first_of o of in
       let tails : queue.tails ≡ [] = subst (λ (ts : List Tail). ArePages ts o.pages.pages.items queue.tails) first.tails is.tails in
       let count : o.pages.top.state.count ≡ 0 = ap (λ (v : PageView). v.state.count) first.top ∙ ap (λ (s : PageState). s.count) first.state in

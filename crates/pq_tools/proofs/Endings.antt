@@ -4,21 +4,26 @@ use Rattle.io_traits.specs.declared.sinks.Sink.{Ghosts as SinkWords}
 use Rattle.io_traits.specs.Counts.{HasCause}
 use Rattle.io_traits.proofs.Causes.{cause_of}
 use Rattle.io_traits.proofs.Growth.{grows_same}
-use Rattle.store_trait.specs.Moments.{ReadsBeside}
+use Rattle.store_trait.proofs.Moments.{weaker}
+use Rattle.store_trait.specs.Images.{Image}
+use Rattle.store_trait.specs.Moments.{EachMoment, ImagesTell, LeavesBeside}
 use Rattle.store_trait.specs.declared.stores.Store.{Ghosts as StoreWords}
 use Rattle.queue_laws.specs.Folders.{IsOwn, names_in}
 use Rattle.queue_core.specs.Marks.{read_in}
+use Rattle.queue_core.specs.Others.{KeepsOthers}
+use Rattle.logstash_settings.specs.Words.{Answer}
 use Rattle.logstash_settings.specs.declared.fault.WordsFault.{WordsFault}
 use Rattle.pq_tools.specs.Checks.{ChecksAs, PrintsOr, Said, Tells, line_of, status_of}
-use Rattle.pq_tools.specs.Orders.{Ordered, Orders}
-use Rattle.pq_tools.specs.Repairs.{HasFile, IsOfRepair, IsRepaired, Repairs, RepairsAs, Salvages, failed, not_new, rows_told, spent, status_by}
+use Rattle.pq_tools.specs.Numbers.{spends_numbers}
+use Rattle.pq_tools.specs.Orders.{Ordered, Orders, repaired}
+use Rattle.pq_tools.specs.Repairs.{HasFile, IsOfRepair, IsRepaired, LeavesQueue, Repairs, RepairsAs, Salvages, failed, not_new, rows_told, spent, status_by}
 use Rattle.pq_tools.specs.Statuses.{is_store_fault, rows_line}
 use Rattle.pq_tools.specs.declared.fault.RepairFault.{RepairFault}
 use Rattle.pq_tools.specs.declared.fault.RepairFault.TheVariants as r
 use Rattle.pq_tools.specs.declared.orders.ToolOrder.{ToolOrder}
 use Rattle.pq_tools.specs.declared.status.ToolStatus.{ToolStatus}
 use Rattle.pq_tools.specs.declared.status.ToolStatus.TheVariants as s
-use Rattle.pq_tools.proofs.OrderFolders.{ordered_ok}
+use Rattle.pq_tools.proofs.OrderFolders.{AreApart, ordered_ok, repair_answered}
 
 refusal_is : {x y : ToolStatus} → ◌≡◌ {A = Result ToolOrder ToolStatus} (Err x) (Err y) → x ≡ y
 refusal_is is = cc
@@ -78,21 +83,33 @@ module _ {S O : Type 0} (store : StoreWords S) (sink : SinkWords O) where
       → RepairsAs store sink ordered old new out_old out_new status
   repair_told ordered order old new out_old out_new status is repairs = subst (λ (o : Ordered). RepairsAs store sink o old new out_old out_new status) (sym (ordered_ok ordered order is)) repairs
 
-  pub repair_beside : (ordered : Ordered) (order : ToolOrder) (old new : S) → Orders ordered (Ok order) → ReadsBeside store (IsOwn (names_in order.repaired)) old new → ReadsBeside store (IsOfRepair ordered) old new
-  repair_beside ordered order old new is beside = subst (λ (o : Ordered). ReadsBeside store (IsOfRepair o) old new) (sym (ordered_ok ordered order is)) beside
+  pub repair_beside : (ordered : Ordered) (order : ToolOrder) (old new : S) → Orders ordered (Ok order) → KeepsOthers store (IsOwn (names_in order.repaired)) old new → KeepsOthers store (IsOfRepair ordered) old new
+  repair_beside ordered order old new is beside = subst (λ (o : Ordered). KeepsOthers store (IsOfRepair o) old new) (sym (ordered_ok ordered order is)) beside
+
+  leaves_queue : (ordered : Ordered) (old : S) (i : Image) → AreApart ordered → LeavesBeside store (IsOfRepair ordered) old i → LeavesQueue store ordered old i
+  leaves_queue (Ok order) old i apart beside = (beside.0, beside.1, λ role. beside.2 (names_in order.folder role) (apart order refl role))
+  leaves_queue (Err why) old i apart beside = (beside.0, beside.1, tt)
+
+  -- so the queue that is to be repaired stays
+  pub queue_moments : ImagesTell store → (answer : Answer) (old new : S) → KeepsOthers store (IsOfRepair (repaired answer)) old new → EachMoment store old new (LeavesQueue store (repaired answer) old)
+  queue_moments tell answer old new kept =
+      weaker store tell old new (LeavesBeside store (IsOfRepair (repaired answer)) old) (LeavesQueue store (repaired answer) old) kept.moments
+      (λ i told beside. leaves_queue (repaired answer) old i (λ order is. (repair_answered answer order is).apart) beside)
 
   -- what was written is told
   pub repair_done : (order : ToolOrder) (old new : S) (out_old out_new : O) (status : ToolStatus) (count : ℕ)
-      → (IsTrue store.tells → Salvages (HasFile order.repaired (store.seen old)) (IsRepaired (read_in (names_in order.folder) (store.seen old)) (read_in (names_in order.repaired) (store.seen new))) (Ok count))
+      → (IsTrue store.tells
+      → Salvages (HasFile order.repaired (store.seen old)) (spends_numbers order.repaired (read_in (names_in order.folder) (store.seen old)))
+      (IsRepaired (read_in (names_in order.folder) (store.seen old)) (read_in (names_in order.repaired) (store.seen new))) (Ok count))
       → PrintsOr sink (rows_line count) s.Done out_old out_new status → Repairs store sink order old new out_old out_new status
-  repair_done order old new out_old out_new status count is prints = ⊎_elim (λ none. failed (inr none.0) none.1) (λ printed. rows_told count (λ tells. (is tells).0) (λ tells. (is tells).1) printed) prints
+  repair_done order old new out_old out_new status count is prints = ⊎_elim (λ none. failed (inr none.0) none.1) (λ printed. rows_told count (λ tells. (is tells).0) (λ tells. (is tells).1) (λ tells. (is tells).2) printed) prints
 
   -- or why nothing was
   pub repair_failed : (order : ToolOrder) (old new : S) (out : O) (status : ToolStatus) (fault : RepairFault) (Is : ℕ → Type 0)
-      → (IsTrue store.tells → Salvages (HasFile order.repaired (store.seen old)) Is (Err fault)) → status ≡ status_by order.id order.repaired fault → Repairs store sink order old new out out status
+      → (IsTrue store.tells → Salvages (HasFile order.repaired (store.seen old)) (spends_numbers order.repaired (read_in (names_in order.folder) (store.seen old))) Is (Err fault)) → status ≡ status_by order.id order.repaired fault → Repairs store sink order old new out out status
   repair_failed order old new out status r.Store Is is same = failed (inl same) (grows_same (sink.taken out))
   repair_failed order old new out status r.Memory Is is same = failed (inr same) (grows_same (sink.taken out))
-  repair_failed order old new out status r.NumbersSpent Is is same = spent same is (grows_same (sink.taken out))
+  repair_failed order old new out status r.NumbersSpent Is is same = spent same (λ tells. (is tells).0) (λ tells. (is tells).1) (grows_same (sink.taken out))
   repair_failed order old new out status r.NotNew Is is same = not_new same is (grows_same (sink.taken out))
 
 -- ---- what was counted

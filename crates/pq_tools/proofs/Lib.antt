@@ -3,6 +3,8 @@ pub mod Sayings
 pub mod OrderFolders
 pub mod Endings
 pub mod RunSteps
+pub mod Numbers
+pub mod FewRows
 pub mod NewQueues
 pub mod Takings
 pub mod EmptyFolders

@@ -94,12 +94,16 @@ pub record AreFolders (order : ToolOrder) : Type 0 where
   pub repaired : folder_start order.repaired ≡ order.repaired
   pub apart : AreDifferent order.folder order.repaired
 
+-- those of what was ordered
+abbrev pub AreApart : Ordered → Type 0
+AreApart ordered = (order : ToolOrder) → ordered ≡ Ok order → AreDifferent order.folder order.repaired
+
 repaired_folders : (path : List ℕ) (found : Option QueueTool) (order : ToolOrder) → repaired_by path found ≡ Ok order → AreFolders order
 repaired_folders path (Some (tool.Repair id)) order is = subst AreFolders (order_ok is) (record { folder = folder_ends path id; repaired = repaired_ends path id; apart = folders_differ path id })
 repaired_folders path (Some (tool.Check id)) order is = absurd cc
 repaired_folders path None order is = absurd cc
 
-repair_answered : (answer : Answer) (order : ToolOrder) → repaired answer ≡ Ok order → AreFolders order
+pub repair_answered : (answer : Answer) (order : ToolOrder) → repaired answer ≡ Ok order → AreFolders order
 repair_answered (Ok orders) order is = repaired_folders orders.path_data orders.tool order is
 repair_answered (Err why) order is = absurd cc
 

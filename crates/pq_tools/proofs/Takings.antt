@@ -3,7 +3,6 @@ use Rattle.std.proofs.Common.{◌≡◌, ◌≢◌, ⊎_elim, ℕ, zero, suc, �
 use Rattle.std.proofs.Math.Path.{ap₂}
 use Rattle.std.proofs.lemmas.Bool.{cases_eq}
 use Rattle.io_traits.specs.Reads.{bytes_of}
-use Rattle.store_trait.specs.Moments.{ReadsBeside}
 use Rattle.store_trait.specs.declared.stores.Store.{Ghosts as StoreWords}
 use Rattle.store_disk.proofs.Looking.{Nothing}
 use Rattle.store_disk.specs.declared.faults.Damage.{Damage}
@@ -14,42 +13,57 @@ use Rattle.queue_laws.specs.Folders.{Folder, IsOwn, names_in, page}
 use Rattle.queue_laws.specs.Found.{Row, row_of, since}
 use Rattle.queue_core.specs.Listing.{IsListed}
 use Rattle.queue_core.specs.Marks.{read_in}
+use Rattle.queue_core.specs.Others.{KeepsOthers}
 use Rattle.queue_core.specs.Reading.{AreStanding}
 use Rattle.queue_core.specs.declared.listing.Listing.{Listing}
 use Rattle.queue_core.proofs.Standings.{standing_from}
 use Rattle.persistent_queue.specs.Views.{QueueView}
 use Rattle.persistent_queue.proofs.BatchTaken.{opens_taken}
 use Rattle.pq_tools.specs.PageRuns.{FirstIs, IsNextRow, IsRun, rows_left}
-use Rattle.pq_tools.specs.Repairs.{Adds, AreDifferent, Holds, OpensNew, Salvages, by_queue, Stepped, given, row_if, salvaged_of}
+use Rattle.pq_tools.specs.Numbers.{behind_rows, runs_out}
+use Rattle.pq_tools.specs.Repairs.{Added, Adds, AreDifferent, Holds, OpensNew, Salvages, Spends, by_queue, Stepped, given, row_if, salvaged_of}
 use Rattle.pq_tools.specs.declared.fault.RepairFault.{RepairFault}
 use Rattle.pq_tools.specs.declared.fault.RepairFault.TheVariants as r
 use Rattle.pq_tools.specs.Salvage.{end_with, open_from, rows_in, salvaged, salvage, taken, taken_by}
 use Rattle.pq_tools.specs.declared.salvaging.PageRun.{PageRun}
+use Rattle.pq_tools.proofs.Numbers.{fits_both, rows_behind, spent_more, spent_then}
 use Rattle.pq_tools.proofs.RunSteps.{no_page, none_left}
 
 -- ---- calls one behind the other
 
 module _ {S : Type 0} (store : StoreWords S) where
-  pub reads_then : (Mine : List ℕ → Type 0) (a b c : S) → ReadsBeside store Mine a b → ReadsBeside store Mine b c → ReadsBeside store Mine a c
-  reads_then Mine a b c one two told name other = two told name other ∙ one told name other
-
-  pub reads_same : (Mine : List ℕ → Type 0) (a b : S) → Nothing store a b → ReadsBeside store Mine a b
-  reads_same Mine a b same told name other = ap (λ content. content name) (same.reads told)
-
-  pub same_file : (Mine : List ℕ → Type 0) (name : List ℕ) (a b : S) → (Mine name → ⊥) → ReadsBeside store Mine a b → IsTrue store.tells → bytes_of (store.seen b name) ≡ bytes_of (store.seen a name)
-  same_file Mine name a b other beside told = ap bytes_of (beside told name other)
+  pub same_file : (Mine : List ℕ → Type 0) (name : List ℕ) (a b : S) → (Mine name → ⊥) → KeepsOthers store Mine a b → IsTrue store.tells → bytes_of (store.seen b name) ≡ bytes_of (store.seen a name)
+  same_file Mine name a b other beside told = ap bytes_of (beside.reads told name other)
 
   pub holds_same : (v : QueueView) (rows : List Row) (a b : S) → Nothing store a b → Holds store v rows a → Holds store v rows b
   holds_same v rows a b same h = record { queue = h.queue; opens = opens_taken store a b same v v.unread v.cursor (λ told q opens. opens.files told) h.queue h.opens; is = h.is }
 
   pub adds_same : (v : QueueView) (a b : S) → Nothing store a b → Adds store [] v v a b
-  adds_same v a b same told before h = subst (λ rows. Holds store v rows b) (sym (append-nil before)) (holds_same v before a b same h)
+  adds_same v a b same told = record { is = refl; fits = refl; holds = λ before h. subst (λ rows. Holds store v rows b) (sym (append-nil before)) (holds_same v before a b same h) }
 
   pub adds_then : (xs ys : List Row) (u v w : QueueView) (a b c : S) → Adds store xs u v a b → Adds store ys v w b c → Adds store (xs ++ ys) u w a c
-  adds_then xs ys u v w a b c one two told before h = subst (λ rows. Holds store w rows c) (append_assoc before xs ys) (two told (before ++ xs) (one told before h))
+  adds_then xs ys u v w a b c one two told =
+      let x = one told in
+      let y = two told in
+      record {
+        is = y.is ∙ ap (λ q. behind_rows q ys) x.is ∙ sym (rows_behind u xs ys);
+        fits = fits_both u v xs ys x.is x.fits y.fits;
+        holds = λ before h. subst (λ rows. Holds store w rows c) (append_assoc before xs ys) (y.holds (before ++ xs) (x.holds before h));
+      }
 
   pub adds_by : (xs ys : List Row) (v w : QueueView) (a b : S) → (IsTrue store.tells → xs ≡ ys) → Adds store xs v w a b → Adds store ys v w a b
-  adds_by xs ys v w a b same adds told before h = subst (λ rows. Holds store w (before ++ rows) b) (same told) (adds told before h)
+  adds_by xs ys v w a b same adds told = subst (λ rows. Added store rows v w a b) (same told) (adds told)
+
+  -- behind calls that change nothing
+  pub adds_behind : (rows : List Row) (v w : QueueView) (a b c : S) → Nothing store a b → Adds store rows v w b c → Adds store rows v w a c
+  adds_behind rows v w a b c same adds told = let x = adds told in record { is = x.is; fits = x.fits; holds = λ before h. x.holds before (holds_same v before a b same h) }
+
+  -- rows for which no number is left
+  pub spends_then : (xs ys : List Row) (v w : QueueView) (a b : S) → Adds store xs v w a b → Spends store ys w → Spends store (xs ++ ys) v
+  spends_then xs ys v w a b adds out told = let x = adds told in spent_then v w xs ys x.is x.fits (out told)
+
+  pub spends_by : (xs ys : List Row) (v : QueueView) → (IsTrue store.tells → xs ≡ ys) → Spends store xs v → Spends store ys v
+  spends_by xs ys v same out told = subst (λ rows. runs_out v rows ≡ true) (same told) (out told)
 
 -- ---- the rows of a run
 
@@ -64,6 +78,18 @@ given_more true from row rows = by (nat_lt row.number from)
 given_none : (gives : Bool) (from : ℕ) → given gives from [] ≡ []
 given_none true from = refl
 given_none false from = refl
+
+-- the next row and those behind it
+row_then : (file : List ℕ) (gives : Bool) (from : ℕ) (run next : PageRun) (row : PageRow) (given_it : Bool) → IsNextRow file run next row → given_it ≡ (gives && not (nat_lt row.number from))
+    → row_if given_it row ++ given gives from (rows_left file next) ≡ given gives from (rows_left file run)
+row_then file gives from run next row given_it more test =
+    ap (λ b. row_if b row ++ given gives from (rows_left file next)) test ∙ sym (given_more gives from row (rows_left file next)) ∙ ap (given gives from) (sym more.rows)
+
+-- for the next row no number is left
+pub spends_row : {S : Type 0} (store : StoreWords S) (v : QueueView) (file : List ℕ) (gives : Bool) (from : ℕ) (run next : PageRun) (row : PageRow) (given_it : Bool) → IsNextRow file run next row
+    → given_it ≡ (gives && not (nat_lt row.number from)) → Spends store (row_if given_it row) v → Spends store (given gives from (rows_left file run)) v
+spends_row store v file gives from run next row given_it more test out told =
+    subst (λ rows. runs_out v rows ≡ true) (row_then file gives from run next row given_it more test) (spent_more v (row_if given_it row) (given gives from (rows_left file next)) (out told))
 
 -- what was written of a run, and what is left of it
 pub record SoFar (file : List ℕ) (gives : Bool) (from : ℕ) (first run : PageRun) (count place : ℕ) (done : List Row) : Type 0 where
@@ -81,7 +107,7 @@ module _ (file : List ℕ) (gives : Bool) (from : ℕ) (first : PageRun) where
   so_far_more run next count place done row given_it s more test = record {
     is = more.is;
     rows = append_assoc done (row_if given_it row) (given gives from (rows_left file next))
-        ∙ ap (λ l. done ++ l) (ap (λ b. row_if b row ++ given gives from (rows_left file next)) test ∙ sym (given_more gives from row (rows_left file next)) ∙ ap (given gives from) (sym more.rows))
+        ∙ ap (λ l. done ++ l) (row_then file gives from run next row given_it more test)
         ∙ s.rows;
     many = omega (arith, s.many, ap length more.rows);
     left = omega (arith, s.left, more.left);
@@ -183,16 +209,17 @@ module _ (f : Folder) where
 -- ---- the folder that is read stays
 
 -- no file of it is one of those that a call changes
-pub same_folder : {S : Type 0} (store : StoreWords S) (folder other : List ℕ) (a b : S) → AreDifferent folder other → ReadsBeside store (IsOwn (names_in other)) a b → IsTrue store.tells
+pub same_folder : {S : Type 0} (store : StoreWords S) (folder other : List ℕ) (a b : S) → AreDifferent folder other → KeepsOthers store (IsOwn (names_in other)) a b → IsTrue store.tells
     → read_in (names_in folder) (store.seen b) ≡ read_in (names_in folder) (store.seen a)
-same_folder store folder other a b apart beside told = λ i role. beside told (names_in folder role) (apart role) i
+same_folder store folder other a b apart beside told = λ i role. beside.reads told (names_in folder role) (apart role) i
 
-pub salvages_by : (has : Type 0) (Is : ℕ → Type 0) (result : Result ℕ RepairFault) → (has → ⊥) → IfOk result Is → IfErr result (λ fault. fault ≢ r.NotNew) → Salvages has Is result
-salvages_by has Is (Ok count) none is other = (none, is)
-salvages_by has Is (Err r.NotNew) none is other = absurd (other refl)
-salvages_by has Is (Err r.NumbersSpent) none is other = none
-salvages_by has Is (Err r.Store) none is other = tt
-salvages_by has Is (Err r.Memory) none is other = tt
+pub salvages_by : (has : Type 0) (spends : Bool) (Is : ℕ → Type 0) (result : Result ℕ RepairFault) → (has → ⊥) → IfOk result Is → OnOk result (spends ≡ false) → (result ≡ Err r.NumbersSpent → spends ≡ true)
+    → IfErr result (λ fault. fault ≢ r.NotNew) → Salvages has spends Is result
+salvages_by has spends Is (Ok count) none is fits out other = (none, fits, is)
+salvages_by has spends Is (Err r.NotNew) none is fits out other = absurd (other refl)
+salvages_by has spends Is (Err r.NumbersSpent) none is fits out other = (none, out refl)
+salvages_by has spends Is (Err r.Store) none is fits out other = tt
+salvages_by has spends Is (Err r.Memory) none is fits out other = tt
 
 -- why no queue was made
 pub opens_failed : {X : Type 0} (has : Type 0) (Is : X → Type 0) (fault : QueueFault) → ((d : Damage) → fault ≡ q.Damaged d → has) → OpensNew has Is (Err (by_queue fault))
@@ -201,13 +228,29 @@ opens_failed has Is q.Fault damaged = tt
 opens_failed has Is q.Memory damaged = tt
 
 -- and so no row was written
-pub not_opened : {X : Type 0} (has : Type 0) (Is : X → Type 0) (Has : ℕ → Type 0) (fault : RepairFault) → OpensNew has Is (Err fault) → Salvages has Has (Err fault)
-not_opened has Is Has r.NotNew opens = opens
-not_opened has Is Has r.NumbersSpent opens = absurd opens
-not_opened has Is Has r.Store opens = tt
-not_opened has Is Has r.Memory opens = tt
+pub not_opened : {X : Type 0} (has : Type 0) (spends : Bool) (Is : X → Type 0) (Has : ℕ → Type 0) (fault : RepairFault) → OpensNew has Is (Err fault) → Salvages has spends Has (Err fault)
+not_opened has spends Is Has r.NotNew opens = opens
+not_opened has spends Is Has r.NumbersSpent opens = absurd opens
+not_opened has spends Is Has r.Store opens = tt
+not_opened has spends Is Has r.Memory opens = tt
 
 -- ---- answers of calls
+
+-- a fault of the store is no other one
+pub no_store_fault : {X : Type 0} (result : Result X RepairFault) → IfErr result (λ fault. fault ≡ r.Store) → result ≡ Err r.NumbersSpent → ⊥
+no_store_fault (Ok x) fault is = absurd cc
+no_store_fault (Err r.NumbersSpent) fault is = absurd cc
+no_store_fault (Err r.NotNew) fault is = absurd cc
+no_store_fault (Err r.Store) fault is = absurd cc
+no_store_fault (Err r.Memory) fault is = absurd cc
+
+pub not_a_file : {X : Type 0} (result : Result X RepairFault) → IfErr result (λ fault. fault ≡ r.Store) → IfErr result (λ fault. fault ≢ r.NotNew)
+not_a_file (Ok x) fault = tt
+not_a_file (Err e) fault = λ other. absurd cc
+
+pub on_ok_all : {T E : Type 0} (P : Type 0) (result : Result T E) → P → OnOk result P
+on_ok_all P (Ok x) p = p
+on_ok_all P (Err e) p = tt
 
 pub on_ok_so : {T E : Type 0} (P Q : Type 0) (result : Result T E) → OnOk result P → (P → Q) → OnOk result Q
 on_ok_so P Q (Ok x) p so = so p
@@ -221,6 +264,6 @@ module _ {S : Type 0} (store : StoreWords S) where
   -- behind calls that change nothing
   pub adds_when : {T E : Type 0} (xs ys : List Row) (v w : QueueView) (old mid new : S) (Is : Type 0) (result : Result T E) → Nothing store old mid → (IsTrue store.tells → OnOk result (Adds store xs v w mid new))
       → (Is → IsTrue store.tells → xs ≡ ys) → OnOk result (Is → Adds store ys v w old new)
-  adds_when xs ys v w old mid new Is (Ok x) nothing adds same = λ is told before h.
-      subst (λ (rows : List Row). Holds store w (before ++ rows) new) (same is told) (adds told told before (holds_same store v before old mid nothing h))
+  adds_when xs ys v w old mid new Is (Ok x) nothing adds same = λ is told.
+      adds_by store xs ys v w old new (same is) (adds_behind store xs v w old mid new nothing (adds told)) told
   adds_when xs ys v w old mid new Is (Err e) nothing adds same = tt

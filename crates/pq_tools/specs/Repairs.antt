@@ -2,6 +2,8 @@
 use Rattle.std.specs.Prelude.{◌≡◌, ◌⊎◌, ℕ, suc, ◌+◌, ◌&&◌, nat_lt, not, if◌then◌else◌, Bool, true, false, IsTrue, IsSome, List, [], ◌∷◌, ◌++◌, length, Option, Result, Ok, Err, ⊤}
 use Rattle.io_traits.specs.Folders.{Content, IsPart}
 use Rattle.io_traits.specs.declared.sinks.Sink.{Ghosts as SinkWords}
+use Rattle.store_trait.specs.Images.{Image}
+use Rattle.store_trait.specs.Moments.{NowOrSynced}
 use Rattle.store_trait.specs.declared.stores.Store.{Ghosts as StoreWords}
 use Rattle.store_disk.specs.declared.faults.QueueFault.{QueueFault}
 use Rattle.store_disk.specs.declared.faults.QueueFault.TheVariants as q
@@ -22,6 +24,7 @@ use Rattle.pq_tools.specs.Orders.{Ordered}
 use Rattle.pq_tools.specs.PageRuns.{IsNextRow, IsRun, rows_left}
 use Rattle.pq_tools.specs.declared.salvaging.PageRun.{PageRun}
 use Rattle.pq_tools.specs.Salvage.{open_from, renumbered, salvage, taken_by}
+use Rattle.pq_tools.specs.Numbers.{behind_rows, new_queue, runs_out, spends_numbers}
 use Rattle.pq_tools.specs.Statuses.{rows_line}
 use Rattle.pq_tools.specs.declared.fault.RepairFault.{RepairFault}
 use Rattle.pq_tools.specs.declared.fault.RepairFault.TheVariants as r
@@ -75,9 +78,23 @@ module _ {S : Type 0} (store : StoreWords S) where
     pub opens : Opens store v queue s
     pub is : IsNewQueue queue rows
 
-  -- behind those that it has come these
+  -- it has numbers for these rows, and behind those that it has they come
+  pub record Added (rows : List Row) (v w : QueueView) (old new : S) : Type 0 where
+    pub is : w ≡ behind_rows v rows
+    pub fits : runs_out v rows ≡ false
+    pub holds : (before : List Row) → Holds v before old → Holds w (before ++ rows) new
+
   abbrev pub Adds : List Row → QueueView → QueueView → S → S → Type 0
-  Adds rows v w old new = IsTrue store.tells → (before : List Row) → Holds v before old → Holds w (before ++ rows) new
+  Adds rows v w old new = IsTrue store.tells → Added rows v w old new
+
+  -- it has no number left for one of these
+  abbrev pub Spends : List Row → QueueView → Type 0
+  Spends rows v = IsTrue store.tells → runs_out v rows ≡ true
+
+  -- it was made in this folder, and has no rows
+  pub record IsMade (folder : List ℕ) (v : QueueView) (s : S) : Type 0 where
+    pub is : v ≡ new_queue folder
+    pub holds : Holds v [] s
 
   pub record Steps (file : List ℕ) (gives : Bool) (from : ℕ) (run next : PageRun) (v w : QueueView) (old new : S) (more : Bool) : Type 0 where
     pub done : List Row
@@ -131,13 +148,13 @@ OpensNew has Is (Err r.NumbersSpent) = ⊥
 OpensNew has Is (Err r.Store) = ⊤
 OpensNew has Is (Err r.Memory) = ⊤
 
--- So many rows were written, where the folder of the new queue had no file.
-abbrev pub Salvages : Type 0 → (ℕ → Type 0) → Result ℕ RepairFault → Type 0
-Salvages has Is (Ok count) = (has → ⊥) × Is count
-Salvages has Is (Err r.NotNew) = has
-Salvages has Is (Err r.NumbersSpent) = has → ⊥
-Salvages has Is (Err r.Store) = ⊤
-Salvages has Is (Err r.Memory) = ⊤
+-- So many rows were written, where the folder of the new queue had no file, and that has numbers for them.
+abbrev pub Salvages : Type 0 → Bool → (ℕ → Type 0) → Result ℕ RepairFault → Type 0
+Salvages has spends Is (Ok count) = (has → ⊥) × (spends ≡ false) × Is count
+Salvages has spends Is (Err r.NotNew) = has
+Salvages has spends Is (Err r.NumbersSpent) = (has → ⊥) × (spends ≡ true)
+Salvages has spends Is (Err r.Store) = ⊤
+Salvages has spends Is (Err r.Memory) = ⊤
 
 abbrev pub status_by : List ℕ → List ℕ → RepairFault → ToolStatus
 status_by id folder r.Store = s.StoreFault id
@@ -150,14 +167,25 @@ abbrev pub IsOfRepair : Ordered → List ℕ → Type 0
 IsOfRepair (Ok order) name = IsOwn (names_in order.repaired) name
 IsOfRepair (Err why) name = ⊥
 
+-- the queue that words order to be repaired has the same files in both images
+abbrev pub IsUnrepaired : Ordered → Image → Image → Type 0
+IsUnrepaired (Ok order) i d = (role : Role) → i (names_in order.folder role) ≡ d (names_in order.folder role)
+IsUnrepaired (Err why) i d = ⊤
+
+-- that queue is in an image as a stop might have left it before, or as it was read then, at rest
+abbrev pub LeavesQueue : {S : Type 0} → StoreWords S → Ordered → S → Image → Type 0
+LeavesQueue store ordered old i = (d : Image) × NowOrSynced store old d × IsUnrepaired ordered i d
+
 module _ {S O : Type 0} (store : StoreWords S) (sink : SinkWords O) where
   -- How the repair of a queue ends. The rows that were written are told; or nothing was printed, and a fault is told.
   pub data Repairs (order : ToolOrder) (old new : S) (out_old out_new : O) (status : ToolStatus) : Type 0 where
     rows_told : (count : ℕ) → (IsTrue store.tells → HasFile order.repaired (store.seen old) → ⊥)
+        → (IsTrue store.tells → spends_numbers order.repaired (read_in (names_in order.folder) (store.seen old)) ≡ false)
         → (IsTrue store.tells → IsRepaired (read_in (names_in order.folder) (store.seen old)) (read_in (names_in order.repaired) (store.seen new)) count)
         → Prints sink (rows_line count) s.Done out_old out_new status → Repairs order old new out_old out_new status
     not_new : status ≡ s.NotNew order.repaired → (IsTrue store.tells → HasFile order.repaired (store.seen old)) → PrintsNone sink out_old out_new → Repairs order old new out_old out_new status
-    spent : status ≡ s.NumbersSpent order.id → (IsTrue store.tells → HasFile order.repaired (store.seen old) → ⊥) → PrintsNone sink out_old out_new → Repairs order old new out_old out_new status
+    spent : status ≡ s.NumbersSpent order.id → (IsTrue store.tells → HasFile order.repaired (store.seen old) → ⊥)
+        → (IsTrue store.tells → spends_numbers order.repaired (read_in (names_in order.folder) (store.seen old)) ≡ true) → PrintsNone sink out_old out_new → Repairs order old new out_old out_new status
     failed : (status ≡ s.StoreFault order.id) ⊎ (status ≡ s.NoMemory) → PrintsNone sink out_old out_new → Repairs order old new out_old out_new status
 
   abbrev pub RepairsAs : Ordered → S → S → O → O → ToolStatus → Type 0

@@ -7,6 +7,7 @@
 mod checking;
 mod counting;
 mod fault;
+pub mod laws;
 mod orders;
 mod printing;
 mod repairing;

@@ -1,14 +1,17 @@
-ghost use Rattle.std.specs.Prelude.{◌≡◌, ◌≢◌, ◌==◌, length, IsTrue, IfOk, IfErr, Err, List, [], map, string_bytes, true};
+ghost use Rattle.std.specs.Prelude.{◌≡◌, ◌≢◌, ◌==◌, length, IsTrue, IfOk, IfErr, OnOk, Err, List, [], map, string_bytes, true, false};
 ghost use Rattle.io_traits.specs.Counts.{HasCause};
 ghost use Rattle.io_traits.specs.Folders.{Lists, folder_start};
-ghost use Rattle.store_trait.specs.Moments.{ReadsBeside};
+ghost use Rattle.store_trait.specs.Moments.{EachMoment, LeavesBeside, ReadsBeside};
 ghost use Rattle.queue_laws.specs.Folders.{IsOwn, names_in};
 ghost use Rattle.queue_laws.specs.Found.{Row};
 ghost use Rattle.queue_core.specs.Marks.{read_in};
+ghost use Rattle.queue_core.specs.Others.{KeepsOthers};
 ghost use Rattle.persistent_queue.specs.Opens.{IsReady};
 ghost use Rattle.logstash_settings.specs.Words.{answer_of};
+ghost use Rattle.pq_tools.specs.Numbers.{runs_out, spends_numbers};
 ghost use Rattle.pq_tools.specs.Orders.{repaired};
-ghost use Rattle.pq_tools.specs.Repairs.{AreDifferent, HasFile, HasRows, Holds, IsOfRepair, IsRepaired, OpensNew, Repairs, RepairsAs, Salvages, by_queue, status_by};
+ghost use Rattle.pq_tools.specs.Repairs.{AreDifferent, HasFile, HasRows, Holds, IsMade, IsOfRepair, IsRepaired, LeavesQueue, OpensNew, Repairs, RepairsAs, Salvages, Spends, by_queue, status_by};
+ghost use Rattle.pq_tools.specs.Salvage.{salvage};
 ghost use Rattle.pq_tools.specs.Statuses.{is_store_fault};
 ghost use Rattle.pq_tools.specs.declared.fault.RepairFault.TheVariants as r;
 ghost use Rattle.pq_tools.specs.declared.status.ToolStatus.TheVariants as s;
@@ -40,7 +43,9 @@ const LIMITS: Limits = Limits {
 /// and those of pages that name no inputs come by `unknown`.
 ///
 /// At `Done` the output took `rows <n>` and a newline, with the number of rows of the new queue, which are
-/// settled. `NotNew` comes exactly where the folder of the new queue has a file.
+/// settled. `NotNew` comes exactly where the folder of the new queue has a file, and `NumbersSpent` exactly where
+/// the new queue has no number left for one of these rows, or none for the page that the row needs; but for a
+/// fault of the store, and want of memory.
 pub fn pqrepair<S: Store, O: Sink>(
     alloc: Global,
     words: &[String],
@@ -50,8 +55,16 @@ pub fn pqrepair<S: Store, O: Sink>(
     ensures ends { RepairsAs S.Store O.Sink
         (repaired (answer_of (map string_bytes words.now)))
         store.old store.new out.old out.new result }
+
+    // All files but those of the new queue read as before, and a stop leaves them as it might have left them. So it
+    // leaves the queue that is to be repaired.
     ensures beside { ReadsBeside S.Store
         (IsOfRepair (repaired (answer_of (map string_bytes words.now)))) store.old store.new }
+    ensures beside_moments { EachMoment S.Store store.old store.new (LeavesBeside S.Store
+        (IsOfRepair (repaired (answer_of (map string_bytes words.now)))) store.old) }
+    ensures queue_moments { EachMoment S.Store store.old store.new (LeavesQueue S.Store
+        (repaired (answer_of (map string_bytes words.now))) store.old) }
+
     ensures store { HasCause (S.faults store.old) (S.faults store.new)
         (is_store_fault result ≡ true) }
     ensures out { HasCause (O.faults out.old) (O.faults out.new) (result ≡ s.OutputFault) }
@@ -73,7 +86,7 @@ fn repair<S: Store, O: Sink>(
     requires repaired { folder_start order.repaired ≡ order.repaired }
     requires apart { AreDifferent order.folder order.repaired }
     ensures ends { Repairs S.Store O.Sink order store.old store.new out.old out.new result }
-    ensures beside { ReadsBeside S.Store (IsOwn (names_in order.repaired)) store.old store.new }
+    ensures beside { KeepsOthers S.Store (IsOwn (names_in order.repaired)) store.old store.new }
     ensures store { HasCause (S.faults store.old) (S.faults store.new)
         (is_store_fault result ≡ true) }
     ensures out { HasCause (O.faults out.old) (O.faults out.new) (result ≡ s.OutputFault) }
@@ -112,9 +125,10 @@ fn salvage<S: Store>(
     requires repaired { folder_start repaired.now ≡ repaired.now }
     requires apart { AreDifferent folder.now repaired.now }
     ensures rows { IsTrue S.tells → Salvages (HasFile repaired.now (S.seen store.old))
+        (spends_numbers repaired.now (read_in (names_in folder.now) (S.seen store.old)))
         (IsRepaired (read_in (names_in folder.now) (S.seen store.old))
         (read_in (names_in repaired.now) (S.seen store.new))) result }
-    ensures beside { ReadsBeside S.Store (IsOwn (names_in repaired.now)) store.old store.new }
+    ensures beside { KeepsOthers S.Store (IsOwn (names_in repaired.now)) store.old store.new }
     ensures cause { HasCause (S.faults store.old) (S.faults store.new) (result ≡ Err r.Store) }
 {
     match open_new(alloc, store, repaired) {
@@ -136,8 +150,12 @@ fn fill<S: Store>(
     ensures rows { IfOk result (λ count. IsTrue S.tells → Holds S.Store queue [] store.old
         → IsRepaired (read_in (names_in folder.now) (S.seen store.old))
         (read_in (names_in queue.folder) (S.seen store.new)) count) }
+    ensures fits { OnOk result (IsTrue S.tells
+        → runs_out queue (salvage (read_in (names_in folder.now) (S.seen store.old))) ≡ false) }
+    ensures spent { result ≡ Err r.NumbersSpent → Spends S.Store
+        (salvage (read_in (names_in folder.now) (S.seen store.old))) queue }
     ensures fault { IfErr result (λ fault. fault ≢ r.NotNew) }
-    ensures beside { ReadsBeside S.Store (IsOwn (names_in queue.folder)) store.old store.new }
+    ensures beside { KeepsOthers S.Store (IsOwn (names_in queue.folder)) store.old store.new }
     ensures cause { HasCause (S.faults store.old) (S.faults store.new) (result ≡ Err r.Store) }
 {
     let mut queue = queue;
@@ -153,8 +171,8 @@ fn settle<S: Store>(store: &mut S, queue: &mut Queue) -> Result<u64, RepairFault
     ensures rows { IfOk result (λ count. IsTrue S.tells → (rows : List Row)
         → Holds S.Store queue.old rows store.old
         → HasRows (read_in (names_in queue.old.folder) (S.seen store.new)) rows count) }
-    ensures fault { IfErr result (λ fault. fault ≢ r.NotNew) }
-    ensures beside { ReadsBeside S.Store (IsOwn (names_in queue.old.folder)) store.old store.new }
+    ensures fault { IfErr result (λ fault. fault ≡ r.Store) }
+    ensures beside { KeepsOthers S.Store (IsOwn (names_in queue.old.folder)) store.old store.new }
     ensures cause { HasCause (S.faults store.old) (S.faults store.new) (result ≡ Err r.Store) }
 {
     match queue.mark(store) {
@@ -166,11 +184,11 @@ fn settle<S: Store>(store: &mut S, queue: &mut Queue) -> Result<u64, RepairFault
 /// Makes a queue in a folder that has no file.
 fn open_new<S: Store>(alloc: Global, store: &mut S, folder: &str) -> Result<Queue, RepairFault>
     requires { folder_start folder.now ≡ folder.now }
-    ensures holds { IsTrue S.tells → OpensNew (HasFile folder.now (S.seen store.old))
-        (λ queue. Holds S.Store queue [] store.new) result }
+    ensures made { IsTrue S.tells → OpensNew (HasFile folder.now (S.seen store.old))
+        (λ queue. IsMade S.Store folder.now queue store.new) result }
     ensures ready { IfOk result (λ queue. IsReady S.Store queue store.new) }
     ensures folder { IfOk result (λ queue. queue.folder ≡ folder.now) }
-    ensures beside { ReadsBeside S.Store (IsOwn (names_in folder.now)) store.old store.new }
+    ensures beside { KeepsOthers S.Store (IsOwn (names_in folder.now)) store.old store.new }
     ensures cause { HasCause (S.faults store.old) (S.faults store.new) (result ≡ Err r.Store) }
 {
     match store.list(alloc, folder) {
@@ -188,12 +206,12 @@ fn open_listed<S: Store>(
     names: &[Text],
 ) -> Result<Queue, RepairFault>
     requires { folder_start folder.now ≡ folder.now }
-    ensures holds { IsTrue S.tells → Lists (S.seen store.old) folder.now names.now
+    ensures made { IsTrue S.tells → Lists (S.seen store.old) folder.now names.now
         → OpensNew (HasFile folder.now (S.seen store.old))
-        (λ queue. Holds S.Store queue [] store.new) result }
+        (λ queue. IsMade S.Store folder.now queue store.new) result }
     ensures ready { IfOk result (λ queue. IsReady S.Store queue store.new) }
     ensures folder { IfOk result (λ queue. queue.folder ≡ folder.now) }
-    ensures beside { ReadsBeside S.Store (IsOwn (names_in folder.now)) store.old store.new }
+    ensures beside { KeepsOthers S.Store (IsOwn (names_in folder.now)) store.old store.new }
     ensures cause { HasCause (S.faults store.old) (S.faults store.new) (result ≡ Err r.Store) }
 {
     if are_none(names) {
@@ -213,12 +231,12 @@ fn are_none(names: &[Text]) -> bool
 /// Makes a queue in a folder whose files were listed: there is none.
 fn open_empty<S: Store>(alloc: Global, store: &mut S, folder: &str) -> Result<Queue, RepairFault>
     requires { folder_start folder.now ≡ folder.now }
-    ensures holds { IsTrue S.tells → Lists (S.seen store.old) folder.now []
+    ensures made { IsTrue S.tells → Lists (S.seen store.old) folder.now []
         → OpensNew (HasFile folder.now (S.seen store.old))
-        (λ queue. Holds S.Store queue [] store.new) result }
+        (λ queue. IsMade S.Store folder.now queue store.new) result }
     ensures ready { IfOk result (λ queue. IsReady S.Store queue store.new) }
     ensures folder { IfOk result (λ queue. queue.folder ≡ folder.now) }
-    ensures beside { ReadsBeside S.Store (IsOwn (names_in folder.now)) store.old store.new }
+    ensures beside { KeepsOthers S.Store (IsOwn (names_in folder.now)) store.old store.new }
     ensures cause { HasCause (S.faults store.old) (S.faults store.new) (result ≡ Err r.Store) }
 {
     match Queue::open_on(alloc, store, folder, LIMITS) {

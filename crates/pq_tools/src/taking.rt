@@ -1,18 +1,18 @@
 // The rows of a folder's pages, written to a new queue.
-ghost use Rattle.std.specs.Prelude.{◌≡◌, ◌≢◌, ◌≤◌, ◌+◌, ◌∷◌, ◌&&◌, [], length, max, nat_lt, not, IsTrue, IfOk, IfErr, OnOk, Err};
+ghost use Rattle.std.specs.Prelude.{◌≡◌, ◌≢◌, ◌⊎◌, ◌≤◌, ℕ, ◌+◌, ◌∷◌, ◌&&◌, List, [], length, max, nat_lt, not, IsTrue, IfOk, IfErr, OnOk, Err};
 ghost use Rattle.io_traits.specs.Counts.{HasCause};
 ghost use Rattle.io_traits.specs.Folders.{folder_start};
 ghost use Rattle.io_traits.specs.Reads.{bytes_of};
 ghost use Rattle.store_trait.specs.Calls.{ChangesNothing};
-ghost use Rattle.store_trait.specs.Moments.{ReadsBeside};
 ghost use Rattle.queue_checkpoint.specs.Checkpoints.{newest_in};
 ghost use Rattle.queue_laws.specs.Folders.{IsOwn, checkpoint, head, names_in, page};
 ghost use Rattle.queue_laws.specs.Found.{row_of};
 ghost use Rattle.queue_core.specs.Listing.{IsListed};
 ghost use Rattle.queue_core.specs.Marks.{read_in};
+ghost use Rattle.queue_core.specs.Others.{KeepsOthers};
 ghost use Rattle.persistent_queue.specs.Opens.{IsReady};
 ghost use Rattle.pq_tools.specs.PageRuns.{IsFirstRun, IsRun, rows_left};
-ghost use Rattle.pq_tools.specs.Repairs.{Adds, AreDifferent, Numbered, Steps, given, row_if, salvaged_of};
+ghost use Rattle.pq_tools.specs.Repairs.{Adds, AreDifferent, Numbered, Spends, Steps, given, row_if, salvaged_of};
 ghost use Rattle.pq_tools.specs.Salvage as spec;
 ghost use Rattle.pq_tools.specs.Salvage.{by_head, by_own, end_with, named, rows_in, salvage, taken};
 ghost use Rattle.pq_tools.specs.declared.fault.RepairFault.TheVariants as r;
@@ -46,9 +46,11 @@ pub(crate) fn take_pages<S: Store>(
     ensures adds { OnOk result (Adds S.Store
         (salvage (read_in (names_in folder.now) (S.seen store.old)))
         queue.old queue.new store.old store.new) }
+    ensures spent { result ≡ Err r.NumbersSpent → Spends S.Store
+        (salvage (read_in (names_in folder.now) (S.seen store.old))) queue.old }
     ensures ready { OnOk result (IsReady S.Store queue.new store.new) }
     ensures folder { queue.new.folder ≡ queue.old.folder }
-    ensures beside { ReadsBeside S.Store (IsOwn (names_in queue.old.folder)) store.old store.new }
+    ensures beside { KeepsOthers S.Store (IsOwn (names_in queue.old.folder)) store.old store.new }
     ensures fault { IfErr result (λ fault. fault ≢ r.NotNew) }
     ensures cause { HasCause (S.faults store.old) (S.faults store.new) (result ≡ Err r.Store) }
 {
@@ -73,9 +75,12 @@ fn take_all<S: Store>(
         (IsListed (read_in (names_in folder.now) (S.seen store.old)) listing.now → Adds S.Store
         (salvage (read_in (names_in folder.now) (S.seen store.old)))
         queue.old queue.new store.old store.new) }
+    ensures spent { result ≡ Err r.NumbersSpent
+        → IsListed (read_in (names_in folder.now) (S.seen store.old)) listing.now → Spends S.Store
+        (salvage (read_in (names_in folder.now) (S.seen store.old))) queue.old }
     ensures ready { OnOk result (IsReady S.Store queue.new store.new) }
     ensures folder { queue.new.folder ≡ queue.old.folder }
-    ensures beside { ReadsBeside S.Store (IsOwn (names_in queue.old.folder)) store.old store.new }
+    ensures beside { KeepsOthers S.Store (IsOwn (names_in queue.old.folder)) store.old store.new }
     ensures fault { IfErr result (λ fault. fault ≢ r.NotNew) }
     ensures cause { HasCause (S.faults store.old) (S.faults store.new) (result ≡ Err r.Store) }
 {
@@ -101,9 +106,13 @@ fn take_listed<S: Store>(
         → OnOk result (Adds S.Store
         (salvaged_of (read_in (names_in folder.now) (S.seen store.old)) 0 numbers.now)
         queue.old queue.new store.old store.new) }
+    ensures spent { result ≡ Err r.NumbersSpent
+        → newest_in (bytes_of (S.seen store.old (names_in folder.now head))) ≡ newest
+        → Spends S.Store
+        (salvaged_of (read_in (names_in folder.now) (S.seen store.old)) 0 numbers.now) queue.old }
     ensures ready { OnOk result (IsReady S.Store queue.new store.new) }
     ensures folder { queue.new.folder ≡ queue.old.folder }
-    ensures beside { ReadsBeside S.Store (IsOwn (names_in queue.old.folder)) store.old store.new }
+    ensures beside { KeepsOthers S.Store (IsOwn (names_in queue.old.folder)) store.old store.new }
     ensures fault { IfErr result (λ fault. fault ≢ r.NotNew) }
     ensures cause { HasCause (S.faults store.old) (S.faults store.new) (result ≡ Err r.Store) }
 {
@@ -129,9 +138,14 @@ fn take_numbered<S: Store>(
     requires apart { AreDifferent folder.now queue.old.folder }
     ensures taken { IfOk result (λ behind. Numbered S.Store folder.now number newest end behind
         queue.old queue.new store.old store.new) }
+    ensures spent { result ≡ Err r.NumbersSpent
+        → newest_in (bytes_of (S.seen store.old (names_in folder.now head))) ≡ newest
+        → (numbers : List ℕ) → Spends S.Store
+        (salvaged_of (read_in (names_in folder.now) (S.seen store.old)) end (number ∷ numbers))
+        queue.old }
     ensures ready { OnOk result (IsReady S.Store queue.new store.new) }
     ensures folder { queue.new.folder ≡ queue.old.folder }
-    ensures beside { ReadsBeside S.Store (IsOwn (names_in queue.old.folder)) store.old store.new }
+    ensures beside { KeepsOthers S.Store (IsOwn (names_in queue.old.folder)) store.old store.new }
     ensures fault { IfErr result (λ fault. fault ≢ r.NotNew) }
     ensures cause { HasCause (S.faults store.old) (S.faults store.new) (result ≡ Err r.Store) }
 {
@@ -153,7 +167,7 @@ fn open_from<S: Store>(
         (newest_in (bytes_of (S.seen store.old (names_in folder.now (checkpoint number)))))
         (by_head number newest)) }
     ensures same { ChangesNothing S.tells S.seen S.moment S.may_leave store.old store.new }
-    ensures fault { IfErr result (λ fault. fault ≢ r.NotNew) }
+    ensures fault { IfErr result (λ fault. (fault ≡ r.Store) ⊎ (fault ≡ r.Memory)) }
     ensures cause { HasCause (S.faults store.old) (S.faults store.new) (result ≡ Err r.Store) }
 {
     let name = checkpoint_name(alloc, folder, number)?;
@@ -197,9 +211,11 @@ fn take_page<S: Store>(
         queue.old queue.new store.old store.new) }
     ensures end { IfOk result (λ behind. IsTrue S.tells
         → behind ≡ end_with end (rows_in (bytes_of (S.seen store.old name.now)))) }
+    ensures spent { result ≡ Err r.NumbersSpent → Spends S.Store
+        (taken end from (rows_in (bytes_of (S.seen store.old name.now)))) queue.old }
     ensures ready { OnOk result (IsReady S.Store queue.new store.new) }
     ensures folder { queue.new.folder ≡ queue.old.folder }
-    ensures beside { ReadsBeside S.Store (IsOwn (names_in queue.old.folder)) store.old store.new }
+    ensures beside { KeepsOthers S.Store (IsOwn (names_in queue.old.folder)) store.old store.new }
     ensures fault { IfErr result (λ fault. fault ≢ r.NotNew) }
     ensures cause { HasCause (S.faults store.old) (S.faults store.new) (result ≡ Err r.Store) }
 {
@@ -227,9 +243,12 @@ fn take_run<S: Store>(
     ensures end { IfOk result (λ behind. IsTrue S.tells
         → IsFirstRun (bytes_of (S.seen store.old name.now)) run
         → behind ≡ end_with end (rows_in (bytes_of (S.seen store.old name.now)))) }
+    ensures spent { result ≡ Err r.NumbersSpent
+        → IsFirstRun (bytes_of (S.seen store.old name.now)) run → Spends S.Store
+        (taken end from (rows_in (bytes_of (S.seen store.old name.now)))) queue.old }
     ensures ready { OnOk result (IsReady S.Store queue.new store.new) }
     ensures folder { queue.new.folder ≡ queue.old.folder }
-    ensures beside { ReadsBeside S.Store (IsOwn (names_in queue.old.folder)) store.old store.new }
+    ensures beside { KeepsOthers S.Store (IsOwn (names_in queue.old.folder)) store.old store.new }
     ensures fault { IfErr result (λ fault. fault ≢ r.NotNew) }
     ensures cause { HasCause (S.faults store.old) (S.faults store.new) (result ≡ Err r.Store) }
 {
@@ -274,9 +293,12 @@ fn take_rows<S: Store>(
         → IsRun (bytes_of (S.seen store.old name.now)) first
         → count ≡ length (rows_left (bytes_of (S.seen store.old name.now)) first)) }
     ensures few { IfOk result (λ count. count ≤ first.left) }
+    ensures spent { result ≡ Err r.NumbersSpent
+        → IsRun (bytes_of (S.seen store.old name.now)) first → Spends S.Store
+        (given gives from (rows_left (bytes_of (S.seen store.old name.now)) first)) queue.old }
     ensures ready { OnOk result (IsReady S.Store queue.new store.new) }
     ensures folder { queue.new.folder ≡ queue.old.folder }
-    ensures beside { ReadsBeside S.Store (IsOwn (names_in queue.old.folder)) store.old store.new }
+    ensures beside { KeepsOthers S.Store (IsOwn (names_in queue.old.folder)) store.old store.new }
     ensures fault { IfErr result (λ fault. fault ≢ r.NotNew) }
     ensures cause { HasCause (S.faults store.old) (S.faults store.new) (result ≡ Err r.Store) }
 {
@@ -307,9 +329,12 @@ fn take_row<S: Store>(
     requires ready { IsReady S.Store queue.old store.old }
     ensures step { IfOk result (λ more. Steps S.Store (bytes_of (S.seen store.old name.now)) gives from
         run.old run.new queue.old queue.new store.old store.new more) }
+    ensures spent { result ≡ Err r.NumbersSpent
+        → IsRun (bytes_of (S.seen store.old name.now)) run.old → Spends S.Store
+        (given gives from (rows_left (bytes_of (S.seen store.old name.now)) run.old)) queue.old }
     ensures ready { OnOk result (IsReady S.Store queue.new store.new) }
     ensures folder { queue.new.folder ≡ queue.old.folder }
-    ensures beside { ReadsBeside S.Store (IsOwn (names_in queue.old.folder)) store.old store.new }
+    ensures beside { KeepsOthers S.Store (IsOwn (names_in queue.old.folder)) store.old store.new }
     ensures fault { IfErr result (λ fault. fault ≢ r.NotNew) }
     ensures cause { HasCause (S.faults store.old) (S.faults store.new) (result ≡ Err r.Store) }
 {
@@ -341,9 +366,10 @@ fn write_given<S: Store>(
     requires ready { IsReady S.Store queue.old store.old }
     ensures adds { OnOk result (Adds S.Store (row_if gives row.now)
         queue.old queue.new store.old store.new) }
+    ensures spent { result ≡ Err r.NumbersSpent → Spends S.Store (row_if gives row.now) queue.old }
     ensures ready { OnOk result (IsReady S.Store queue.new store.new) }
     ensures folder { queue.new.folder ≡ queue.old.folder }
-    ensures beside { ReadsBeside S.Store (IsOwn (names_in queue.old.folder)) store.old store.new }
+    ensures beside { KeepsOthers S.Store (IsOwn (names_in queue.old.folder)) store.old store.new }
     ensures fault { IfErr result (λ fault. fault ≢ r.NotNew) }
     ensures cause { HasCause (S.faults store.old) (S.faults store.new) (result ≡ Err r.Store) }
 {
@@ -364,9 +390,10 @@ fn write_row<S: Store>(
     requires ready { IsReady S.Store queue.old store.old }
     ensures adds { OnOk result (Adds S.Store (row_of row.now ∷ [])
         queue.old queue.new store.old store.new) }
+    ensures spent { result ≡ Err r.NumbersSpent → Spends S.Store (row_of row.now ∷ []) queue.old }
     ensures ready { OnOk result (IsReady S.Store queue.new store.new) }
     ensures folder { queue.new.folder ≡ queue.old.folder }
-    ensures beside { ReadsBeside S.Store (IsOwn (names_in queue.old.folder)) store.old store.new }
+    ensures beside { KeepsOthers S.Store (IsOwn (names_in queue.old.folder)) store.old store.new }
     ensures fault { IfErr result (λ fault. fault ≢ r.NotNew) }
     ensures cause { HasCause (S.faults store.old) (S.faults store.new) (result ≡ Err r.Store) }
 {

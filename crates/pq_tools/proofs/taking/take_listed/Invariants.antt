@@ -1,10 +1,10 @@
 use Rattle.std.proofs.Common.{◌≡◌, ◌++◌, drop, IsTrue, List}
 use Rattle.io_traits.specs.Reads.{bytes_of}
-use Rattle.store_trait.specs.Moments.{ReadsBeside}
 use Rattle.queue_checkpoint.specs.Checkpoints.{newest_in}
 use Rattle.queue_laws.specs.Folders.{IsOwn, head, names_in}
 use Rattle.queue_laws.specs.Found.{Row}
 use Rattle.queue_core.specs.Marks.{read_in}
+use Rattle.queue_core.specs.Others.{KeepsOthers}
 use Rattle.persistent_queue.specs.Opens.{IsReady}
 use Rattle.pq_tools.specs.Repairs.{Adds, salvaged_of}
 use Rattle.pq_tools.proofs.taking.take_listed.Given as goal
@@ -13,7 +13,7 @@ abbrev pub invariant-loop-number : goal.invariant-loop-number
 invariant-loop-number g l = record {
   ready : IsReady g.S.Store l.queue l.store;
   folder : l.queue.folder ≡ l.fn.queue.folder;
-  beside : ReadsBeside g.S.Store (IsOwn (names_in l.fn.queue.folder)) l.fn.store l.store;
+  beside : KeepsOthers g.S.Store (IsOwn (names_in l.fn.queue.folder)) l.fn.store l.store;
   faults : g.S.Store.faults l.store ≡ g.S.Store.faults l.fn.store;
   done : List Row;
   adds : Adds g.S.Store done l.fn.queue l.queue l.fn.store l.store;

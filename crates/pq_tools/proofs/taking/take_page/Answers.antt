@@ -3,10 +3,11 @@ use Rattle.io_traits.specs.Folders.{Content}
 use Rattle.io_traits.specs.Reads.{bytes_of}
 use Rattle.queue_laws.specs.Folders.{IsOwn, names_in}
 use Rattle.queue_core.proofs.QueueReady.{if_ok_so}
+use Rattle.queue_core.proofs.OtherFiles.{others_looked, others_then}
 use Rattle.pq_tools.specs.PageRuns.{BeginsRun, IsFirstRun}
 use Rattle.pq_tools.specs.Salvage.{end_with, rows_in, taken}
 use Rattle.pq_tools.specs.declared.salvaging.PageRun.{PageRun}
-use Rattle.pq_tools.proofs.Takings.{adds_by, adds_same, holds_same, none_taken, on_ok_so, reads_same, reads_then}
+use Rattle.pq_tools.proofs.Takings.{adds_behind, adds_by, adds_same, none_taken, on_ok_so, spends_by}
 use Rattle.pq_tools.proofs.taking.take_page.Goals as goal
 
 pub returns-in-Some-clause-adds : goal.returns-in-Some-clause-adds
@@ -19,11 +20,22 @@ returns-in-Some-clause-adds g c =
     let w = c.take_run.new.queue in
     let same = c.begin_run.ensures.same in
     on_ok_so _ _ c.take_run.result c.take_run.ensures.adds
-    (λ adds told before h.
+    (λ adds told.
     let first = subst (λ (content : Content). IsFirstRun (bytes_of (content name)) c.in-Some.begun) (sym (same.reads told))
     (subst (λ (o : Option PageRun). BeginsRun (bytes_of (g.S.Store.seen old name)) o) c.in-Some.is (c.in_ok-begun.ensures.rows told)) in
-    adds_by g.S.Store (taken c.args.end c.args.from (rows_in (bytes_of (g.S.Store.seen mid name)))) (taken c.args.end c.args.from (rows_in (bytes_of (g.S.Store.seen old name)))) v w mid new
-    (λ t. ap (λ (content : Content). taken c.args.end c.args.from (rows_in (bytes_of (content name)))) (same.reads t)) (adds first) told before (holds_same g.S.Store v before old mid same h))
+    adds_by g.S.Store (taken c.args.end c.args.from (rows_in (bytes_of (g.S.Store.seen mid name)))) (taken c.args.end c.args.from (rows_in (bytes_of (g.S.Store.seen old name)))) v w old new
+    (λ t. ap (λ (content : Content). taken c.args.end c.args.from (rows_in (bytes_of (content name)))) (same.reads t))
+    (adds_behind g.S.Store (taken c.args.end c.args.from (rows_in (bytes_of (g.S.Store.seen mid name)))) v w old mid new same (adds first)) told)
+
+pub returns-in-Some-clause-spent : goal.returns-in-Some-clause-spent
+returns-in-Some-clause-spent g c err told =
+    let name = c.args.name.now in
+    let old = c.args.store.now in
+    let same = c.begin_run.ensures.same in
+    let first = subst (λ (content : Content). IsFirstRun (bytes_of (content name)) c.in-Some.begun) (sym (same.reads told))
+    (subst (λ (o : Option PageRun). BeginsRun (bytes_of (g.S.Store.seen old name)) o) c.in-Some.is (c.in_ok-begun.ensures.rows told)) in
+    spends_by g.S.Store (taken c.args.end c.args.from (rows_in (bytes_of (g.S.Store.seen c.begin_run.new.store name)))) (taken c.args.end c.args.from (rows_in (bytes_of (g.S.Store.seen old name)))) c.args.queue.now
+    (λ t. ap (λ (content : Content). taken c.args.end c.args.from (rows_in (bytes_of (content name)))) (same.reads t)) (c.take_run.ensures.spent err first) told
 
 pub returns-in-Some-clause-end : goal.returns-in-Some-clause-end
 returns-in-Some-clause-end g c =
@@ -51,7 +63,7 @@ returns-in-None-clause-end g c told =
 pub returns-in-Some-clause-beside : goal.returns-in-Some-clause-beside
 returns-in-Some-clause-beside g c =
     let Mine = IsOwn (names_in c.args.queue.now.folder) in
-    reads_then g.S.Store Mine c.args.store.now c.begin_run.new.store c.take_run.new.store (reads_same g.S.Store Mine c.args.store.now c.begin_run.new.store c.begin_run.ensures.same) c.take_run.ensures.beside
+    others_then g.S.Store g.met.S.Store.images_tell Mine c.args.store.now c.begin_run.new.store c.take_run.new.store (others_looked g.S.Store g.met.S.Store.images_tell Mine c.args.store.now c.begin_run.new.store c.begin_run.ensures.same) c.take_run.ensures.beside
 
 pub returns-in-None-clause-beside : goal.returns-in-None-clause-beside
-returns-in-None-clause-beside g c = reads_same g.S.Store (IsOwn (names_in c.args.queue.now.folder)) c.args.store.now c.begin_run.new.store c.begin_run.ensures.same
+returns-in-None-clause-beside g c = others_looked g.S.Store g.met.S.Store.images_tell (IsOwn (names_in c.args.queue.now.folder)) c.args.store.now c.begin_run.new.store c.begin_run.ensures.same

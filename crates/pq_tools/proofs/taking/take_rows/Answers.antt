@@ -1,18 +1,20 @@
-use Rattle.std.proofs.Common.{[], ◌++◌, Bool, List, ℕ, refl, ◌∙◌, subst, arith}
+use Rattle.std.proofs.Common.{rules, ◌≡◌, [], ◌++◌, Bool, Err, List, ℕ, refl, ◌∙◌, subst, arith}
 use Rattle.io_traits.specs.Reads.{bytes_of}
-use Rattle.store_trait.specs.Moments.{ReadsBeside}
 use Rattle.store_disk.proofs.Looking.{nothing_yet}
 use Rattle.queue_laws.specs.Folders.{IsOwn, names_in}
+use Rattle.queue_core.specs.Others.{KeepsOthers}
+use Rattle.queue_core.proofs.OtherFiles.{others_looked, others_then}
 use Rattle.pq_tools.specs.PageRuns.{IsRun, rows_left}
-use Rattle.pq_tools.specs.Repairs.{Stepped, given}
-use Rattle.pq_tools.proofs.Takings.{adds_by, adds_same, adds_then, all_counted, all_written, at_last, none_behind, reads_same, reads_then, same_file, so_far_first, so_far_taken}
+use Rattle.pq_tools.specs.Repairs.{Spends, Stepped, given}
+use Rattle.pq_tools.specs.declared.fault.RepairFault.TheVariants as r
+use Rattle.pq_tools.proofs.Takings.{adds_by, adds_same, adds_then, all_counted, all_written, at_last, none_behind, same_file, so_far_first, so_far_taken, spends_by, spends_then}
 use Rattle.pq_tools.proofs.taking.take_rows.Goals as goal
 
 pub loop-init : goal.loop-init
 loop-init g c = record {
   ready = c.requires.ready;
   folder = refl;
-  beside = reads_same g.S.Store (IsOwn (names_in c.args.queue.now.folder)) c.args.store.now c.args.store.now (nothing_yet g.S.Store c.args.store.now);
+  beside = others_looked g.S.Store g.met.S.Store.images_tell (IsOwn (names_in c.args.queue.now.folder)) c.args.store.now c.args.store.now (nothing_yet g.S.Store c.args.store.now);
   faults = refl;
   few = omega arith;
   done = [];
@@ -29,8 +31,8 @@ loop-preserved g c =
     record {
       ready = c.in_ok-more.ensures.ready;
       folder = c.take_row.ensures.folder ∙ i.folder;
-      beside = reads_then g.S.Store Mine c.args.store.now c.loop.store c.take_row.new.store i.beside
-          (subst (λ (n : List ℕ). ReadsBeside g.S.Store (IsOwn (names_in n)) c.loop.store c.take_row.new.store) i.folder c.take_row.ensures.beside);
+      beside = others_then g.S.Store g.met.S.Store.images_tell Mine c.args.store.now c.loop.store c.take_row.new.store i.beside
+          (subst (λ (n : List ℕ). KeepsOthers g.S.Store (IsOwn (names_in n)) c.loop.store c.take_row.new.store) i.folder c.take_row.ensures.beside);
       faults = c.in_ok-more.ensures.cause.same (λ f. absurd cc) ∙ i.faults;
       few = omega (arith, i.few);
       done = i.done ++ s.done;
@@ -81,13 +83,13 @@ returns-in_err-more-clause-folder g c = c.take_row.ensures.folder ∙ c.loop.inv
 
 pub returns-else-more-clause-beside : goal.returns-else-more-clause-beside
 returns-else-more-clause-beside g c =
-    reads_then g.S.Store (IsOwn (names_in c.args.queue.now.folder)) c.args.store.now c.loop.store c.take_row.new.store c.loop.invariant.beside
-    (subst (λ (n : List ℕ). ReadsBeside g.S.Store (IsOwn (names_in n)) c.loop.store c.take_row.new.store) c.loop.invariant.folder c.take_row.ensures.beside)
+    others_then g.S.Store g.met.S.Store.images_tell (IsOwn (names_in c.args.queue.now.folder)) c.args.store.now c.loop.store c.take_row.new.store c.loop.invariant.beside
+    (subst (λ (n : List ℕ). KeepsOthers g.S.Store (IsOwn (names_in n)) c.loop.store c.take_row.new.store) c.loop.invariant.folder c.take_row.ensures.beside)
 
 pub returns-in_err-more-clause-beside : goal.returns-in_err-more-clause-beside
 returns-in_err-more-clause-beside g c =
-    reads_then g.S.Store (IsOwn (names_in c.args.queue.now.folder)) c.args.store.now c.loop.store c.take_row.new.store c.loop.invariant.beside
-    (subst (λ (n : List ℕ). ReadsBeside g.S.Store (IsOwn (names_in n)) c.loop.store c.take_row.new.store) c.loop.invariant.folder c.take_row.ensures.beside)
+    others_then g.S.Store g.met.S.Store.images_tell (IsOwn (names_in c.args.queue.now.folder)) c.args.store.now c.loop.store c.take_row.new.store c.loop.invariant.beside
+    (subst (λ (n : List ℕ). KeepsOthers g.S.Store (IsOwn (names_in n)) c.loop.store c.take_row.new.store) c.loop.invariant.folder c.take_row.ensures.beside)
 
 pub returns-clause-adds : goal.returns-clause-adds
 returns-clause-adds g c is =
@@ -107,3 +109,16 @@ returns-clause-count g c told is =
     let sf = i.so_far told is in
     all_counted file c.args.gives c.args.from c.args.first c.loop.run c.loop.count c.loop.counter i.done sf
     (at_last file c.args.gives c.args.from c.args.first c.loop.run c.loop.count c.loop.counter i.done sf (omega (arith, c.loop-test.false)))
+
+pub returns-in_err-more-clause-spent : goal.returns-in_err-more-clause-spent
+returns-in_err-more-clause-spent g c same is told =
+    let out_is : c.take_row.result ≡ Err r.NumbersSpent = search (same, c.in_err-more.was, c.from_residual.ensures, rules) in
+    let i = c.loop.invariant in
+    let name = c.args.name.now in
+    let file = bytes_of (g.S.Store.seen c.args.store.now name) in
+    let v = c.args.queue.now in
+    let sf = i.so_far told is in
+    let here = same_file g.S.Store (IsOwn (names_in v.folder)) name c.args.store.now c.loop.store c.requires.apart i.beside told in
+    let rest = given c.args.gives c.args.from (rows_left file c.loop.run) in
+    let out = subst (λ (f : List ℕ). IsRun f c.loop.run → Spends g.S.Store (given c.args.gives c.args.from (rows_left f c.loop.run)) c.loop.queue) here (c.take_row.ensures.spent out_is) sf.is in
+    spends_by g.S.Store (i.done ++ rest) (given c.args.gives c.args.from (rows_left file c.args.first)) v (λ t. sf.rows) (spends_then g.S.Store i.done rest v c.loop.queue c.args.store.now c.loop.store i.adds out) told

@@ -1,8 +1,8 @@
 use Rattle.std.proofs.Common.{◌≡◌, ◌≤◌, IsTrue, List}
 use Rattle.io_traits.specs.Reads.{bytes_of}
-use Rattle.store_trait.specs.Moments.{ReadsBeside}
 use Rattle.queue_laws.specs.Folders.{IsOwn, names_in}
 use Rattle.queue_laws.specs.Found.{Row}
+use Rattle.queue_core.specs.Others.{KeepsOthers}
 use Rattle.persistent_queue.specs.Opens.{IsReady}
 use Rattle.pq_tools.specs.PageRuns.{IsRun}
 use Rattle.pq_tools.specs.Repairs.{Adds}
@@ -13,7 +13,7 @@ abbrev pub invariant-loop : goal.invariant-loop
 invariant-loop g l = record {
   ready : IsReady g.S.Store l.queue l.store;
   folder : l.queue.folder ≡ l.fn.queue.folder;
-  beside : ReadsBeside g.S.Store (IsOwn (names_in l.fn.queue.folder)) l.fn.store l.store;
+  beside : KeepsOthers g.S.Store (IsOwn (names_in l.fn.queue.folder)) l.fn.store l.store;
   faults : g.S.Store.faults l.store ≡ g.S.Store.faults l.fn.store;
   few : l.count ≤ l.counter;
   done : List Row;

@@ -1,0 +1,11 @@
+//! Laws of repairs: what follows of any queue that is repaired.
+ghost use Rattle.std.specs.Prelude.{◌≡◌, ◌<◌, ◌-◌, ◌^◌, ℕ, List, length, false};
+ghost use Rattle.queue_laws.specs.Folders.{Folder};
+ghost use Rattle.pq_tools.specs.Numbers.{spends_numbers};
+ghost use Rattle.pq_tools.specs.Salvage.{salvage};
+
+/// Fewer than 2^32 - 1 rows have numbers in a new queue, and so have the pages that they need.
+pub fn few_rows_have_numbers()
+    ensures { (target : List ℕ) (folder : Folder) → length (salvage folder) < 2 ^ 32 - 1
+        → spends_numbers target folder ≡ false }
+{}
