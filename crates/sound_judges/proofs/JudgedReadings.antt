@@ -17,7 +17,7 @@ use Rattle.history_judges.specs.declared.state.Written.{Written as KeptWritten}
 use Rattle.history_judges.proofs.FoundRows.{in_mapped, mapped_in}
 use Rattle.run_laws.specs.Sources.{Sources}
 use Rattle.run_laws.specs.Watched.{Differ}
-use Rattle.sound_judges.specs.Positions.{ToldReading, IsRowWith, AreSettled, IsReadWith, AreReadWith}
+use Rattle.sound_judges.specs.Positions.{ToldReading, IsRowWith, AreSettledRows, IsReadWith, AreReadWith}
 use Rattle.sound_judges.specs.ReadFiles.{told_of}
 use Rattle.sound_judges.specs.declared.watched.FileReading.{FileReading}
 
@@ -34,30 +34,30 @@ rows_found P rows ws same = (
 module _ (s : State) (p : Plugin) (ns : List ℕ) (es : List Ev) where
   -- the same of what stands from a place on
   abbrev pub SettledFrom : ℕ → Type 0
-  SettledFrom i = AreSettled s p ns es ↔ AreSettled s p (drop i ns) (drop i es)
+  SettledFrom i = AreSettledRows s p ns es ↔ AreSettledRows s p (drop i ns) (drop i es)
 
   module _ (i : ℕ) (e : Ev) (within : i < length ns) (also : i < length es) (is : e ≡ get_or es i e) (so_far : SettledFrom i) where
     abbrev Here : Type 0
-    Here = (get_or ns i 0 ≤ s.front) × Some_of (IsRowWith p (get_or ns i 0) e) s.rows × AreSettled s p (drop (suc i) ns) (drop (suc i) es)
+    Here = (get_or ns i 0 ≤ s.front) × Some_of (IsRowWith p (get_or ns i 0) e) s.rows × AreSettledRows s p (drop (suc i) ns) (drop (suc i) es)
 
-    here : AreSettled s p (drop i ns) (drop i es) ≡ Here
-    here = ap (λ ms. AreSettled s p ms (drop i es)) (drop-cons ns i 0 within)
-        ∙ ap (λ fs. AreSettled s p (get_or ns i 0 ∷ drop (suc i) ns) fs) (drop-cons es i e also ∙ ap (λ f. f ∷ drop (suc i) es) (sym is))
+    here : AreSettledRows s p (drop i ns) (drop i es) ≡ Here
+    here = ap (λ ms. AreSettledRows s p ms (drop i es)) (drop-cons ns i 0 within)
+        ∙ ap (λ fs. AreSettledRows s p (get_or ns i 0 ∷ drop (suc i) ns) fs) (drop-cons es i e also ∙ ap (λ f. f ∷ drop (suc i) es) (sym is))
 
     pub settled_on : (j : ℕ) → j ≡ suc i → get_or ns i 0 ≤ s.front → Some_of (IsRowWith p (get_or ns i 0) e) s.rows → SettledFrom j
     settled_on j j_is low some =
         subst SettledFrom (sym j_is) (λ a. (subst (λ A. A) here (so_far.0 a)).2, λ a. so_far.1 (subst (λ A. A) (sym here) (low, some, a)))
 
-    pub settled_stops : (Some_of (IsRowWith p (get_or ns i 0) e) s.rows → ⊥) → IsTrue false ↔ AreSettled s p ns es
+    pub settled_stops : (Some_of (IsRowWith p (get_or ns i 0) e) s.rows → ⊥) → IsTrue false ↔ AreSettledRows s p ns es
     settled_stops none = (λ t. absurd (false≢true t), λ a. absurd (none (subst (λ A. A) here (so_far.0 a)).1))
 
-settled_length : (s : State) (p : Plugin) (ns : List ℕ) (es : List Ev) → AreSettled s p ns es → length ns ≡ length es
+settled_length : (s : State) (p : Plugin) (ns : List ℕ) (es : List Ev) → AreSettledRows s p ns es → length ns ≡ length es
 settled_length s p [] [] are = refl
 settled_length s p [] (e ∷ es) are = absurd are
 settled_length s p (n ∷ ns) [] are = absurd are
 settled_length s p (n ∷ ns) (e ∷ es) are = ap suc (settled_length s p ns es are.2)
 
-pub none_settled : (s : State) (p : Plugin) (ns : List ℕ) (es : List Ev) → (length ns ≡ length es → ⊥) → IsTrue false ↔ AreSettled s p ns es
+pub none_settled : (s : State) (p : Plugin) (ns : List ℕ) (es : List Ev) → (length ns ≡ length es → ⊥) → IsTrue false ↔ AreSettledRows s p ns es
 none_settled s p ns es other = (λ t. absurd (false≢true t), λ a. absurd (other (settled_length s p ns es a)))
 
 -- ---- readings

@@ -11,7 +11,7 @@ use Rattle.history_laws.specs.Lists.{IsIn}
 use Rattle.history_laws.specs.States.{Written, State, start, after}
 use Rattle.run_laws.specs.Sources.{Sources}
 use Rattle.run_laws.specs.Watched.{Reading, Differ, CameBy, IsRead, IsSettledRow}
-use Rattle.sound_judges.specs.Positions.{ToldReading, AreSettled, IsReadWith, SoundWithSomeReadings}
+use Rattle.sound_judges.specs.Positions.{ToldReading, AreSettledRows, IsReadWith, SoundWithSomeReadings}
 
 -- each of these, and one more in front
 with_one : {X : Type 0} (P : X → Type 0) (x : X) (xs : List X) → P x → ((y : X) → IsIn y xs → P y) → (y : X) → IsIn y (x ∷ xs) → P y
@@ -25,7 +25,7 @@ module _ (listening : Listening) (sources : Sources) (makes : Makes) (told : Lis
   -- ---- readings, told
 
   settled_rows : (p : Plugin) (ws : List Written) → ((w : Written) → IsIn w ws → CameBy p w) → ((w : Written) → IsIn w ws → IsSettledRow listening sources makes told w)
-      → AreSettled s p (map (λ (w : Written). w.number) ws) (map (λ (w : Written). w.event) ws)
+      → AreSettledRows s p (map (λ (w : Written). w.number) ws) (map (λ (w : Written). w.event) ws)
   settled_rows p [] came settled = tt
   settled_rows p (w ∷ ws) came settled = (
     (settled w (inl refl)).1,
@@ -47,7 +47,7 @@ module _ (listening : Listening) (sources : Sources) (makes : Makes) (told : Lis
       let one : ToldReading = record { statement = is.statement; source = is.source; polls = is.polls; numbers = map (λ (w : Written). w.number) r.rows } in
       let here : IsReadWith listening sources s one = record {
         ended = is.ended;
-        rows = subst (AreSettled s is.statement (map (λ (w : Written). w.number) r.rows)) is.events (settled_rows is.statement r.rows is.came (settled r (inl refl)));
+        rows = subst (AreSettledRows s is.statement (map (λ (w : Written). w.number) r.rows)) is.events (settled_rows is.statement r.rows is.came (settled r (inl refl)));
       } in
       record {
         readings = one ∷ more.readings;
@@ -65,7 +65,7 @@ module _ (listening : Listening) (sources : Sources) (makes : Makes) (told : Lis
     pub came : (w : Written) → IsIn w rows → CameBy p w
     pub settled : (w : Written) → IsIn w rows → IsSettledRow listening sources makes told w
 
-  rows_of : (p : Plugin) (ns : List ℕ) (es : List Ev) → AreSettled s p ns es → Rows p ns es
+  rows_of : (p : Plugin) (ns : List ℕ) (es : List Ev) → AreSettledRows s p ns es → Rows p ns es
   rows_of p [] [] are = record { rows = []; numbers = refl; events = refl; came = λ w i. absurd i; settled = λ w i. absurd i }
   rows_of p [] (e ∷ es) are = absurd are
   rows_of p (n ∷ ns) [] are = absurd are

@@ -32,11 +32,11 @@ pub record IsRowWith (p : Plugin) (number : ℕ) (event : Ev) (w : Written) : Ty
   pub came : CameBy p w
 
 -- of each of these numbers there is a settled row that holds the event at its place
-abbrev pub AreSettled : State → Plugin → List ℕ → List Ev → Type 0
-AreSettled s p [] [] = ⊤
-AreSettled s p [] (e ∷ es) = ⊥
-AreSettled s p (n ∷ ns) [] = ⊥
-AreSettled s p (n ∷ ns) (e ∷ es) = (n ≤ s.front) × Some_of (IsRowWith p n e) s.rows × AreSettled s p ns es
+abbrev pub AreSettledRows : State → Plugin → List ℕ → List Ev → Type 0
+AreSettledRows s p [] [] = ⊤
+AreSettledRows s p [] (e ∷ es) = ⊥
+AreSettledRows s p (n ∷ ns) [] = ⊥
+AreSettledRows s p (n ∷ ns) (e ∷ es) = (n ≤ s.front) × Some_of (IsRowWith p n e) s.rows × AreSettledRows s p ns es
 
 module _ (listening : Listening) (sources : Sources) where
   -- what an input of the statement makes of the reading by itself
@@ -47,7 +47,7 @@ module _ (listening : Listening) (sources : Sources) where
     -- the reading came to its end, and its rows are what is made of it
     pub record IsReadWith (r : ToldReading) : Type 0 where
       pub ended : is_ended r.polls ≡ true
-      pub rows : AreSettled s r.statement r.numbers (events_read r)
+      pub rows : AreSettledRows s r.statement r.numbers (events_read r)
 
     -- the bytes are those of these readings, whose rows are all different
     pub record AreReadWith (bytes : List ℕ) (readings : List ToldReading) : Type 0 where

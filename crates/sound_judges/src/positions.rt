@@ -10,7 +10,7 @@ ghost use Rattle.run_laws.specs.Watched as spec;
 ghost use Rattle.history_judges.specs.Finding.{Some_of, Each_of};
 ghost use Rattle.history_judges.specs.Inputs as inputs;
 ghost use Rattle.history_judges.specs.States.{state_of, written_of};
-ghost use Rattle.sound_judges.specs.Positions.{IsRowWith, AreSettled, IsReadWith, AreReadWith, PositionSoundWith};
+ghost use Rattle.sound_judges.specs.Positions.{IsRowWith, AreSettledRows, IsReadWith, AreReadWith, PositionSoundWith};
 ghost use Rattle.sound_judges.specs.ReadFiles.{watched_of, told_of, HaveBytes, PositionsSoundWith, IsOnly, Reach, AddsPiece};
 ghost use Rattle.sound_judges.specs.Tables.{Shows};
 
@@ -275,7 +275,7 @@ fn are_settled(
     events: &[Event],
 ) -> Result<bool, AllocError>
     ensures { IfOk result (λ are. (p : Plugin) → statement.now ≡ inputs.alone p → IsTrue are
-        ↔ AreSettled (state_of state.now) p numbers.now events.now) }
+        ↔ AreSettledRows (state_of state.now) p numbers.now events.now) }
 {
     if numbers.len() != events.len() {
         return Ok(false);
