@@ -1,8 +1,35 @@
 """Judges the histories of `histories` by the tables of legal histories, apart from the program: python3 histories.py.
 
-Nothing is due of a batch in these histories, so a batch is done once it is back, and no delivery or letter is ever due.
+A configuration has one input. Its filters are none, or one condition that asks whether the message is above 5, and so is
+wrong where the message is no number; its outputs are none, or one, to which each event goes. An output `box` answers for
+each event, and `sink` is an output to nowhere.
+
+Rows that tell bodies apart which are wrong:
+
+- the rows of a batch are acknowledged when it is read: `an early acknowledgement`, and once it is back: `an
+  acknowledgement before its last delivery`
+- an event whose condition is wrong is dropped: `an event whose condition is wrong is dropped`, and delivered: `an event
+  whose condition is wrong is delivered`
+- a batch goes by the newest configuration: `a batch by the newest configuration`
+- a mark goes past rows that are not acknowledged, which are lost behind a stop: `a mark past a gap`
+- letters are told of events that a box took: `a letter of an event that was taken`
+- a letter that has to be shed is told, and one that needn't: `a letter that was shed is told`, `a place behind the letters`
+
+Rows of whole runs:
+
+- batches end out of order, and a stop comes: `batches end out of order and a stop comes`, with all deliveries in `batches
+  end out of order, a stop comes and all is delivered again`
+- another configuration comes while a batch is out: `two batches by two configurations`, `two batches that go home in the
+  other order`
+- a stop comes between a delivery to a file and its acknowledgement: `a delivery that a stop cut short is made again`
+- a box takes all, or rejects an event: `a box takes all`, `a box rejects one`
 """
+import itertools
+import re
 import sys
+
+OPENINGS = ("hold", "drop_newer", "drop_older")
+PLACES = {"deliver": "stdout", "file": "file", "box": "box", "address": "pipeline", "nowhere": "sink"}
 
 
 class Fault(Exception):
@@ -14,8 +41,34 @@ def want(holds, reason):
         raise Fault(reason)
 
 
+def words_of(text):
+    return [word for word in text.split(",") if word]
+
+
 def ints(text):
-    return [int(word) for word in text.split(",") if word]
+    return [int(word) for word in words_of(text)]
+
+
+def first(words, n):
+    return words[n] if len(words) > n else ""
+
+
+def kept(places, items):
+    return [item for at, item in enumerate(items) if at not in places]
+
+
+def is_number(text):
+    return re.fullmatch("[0-9]+", text) is not None
+
+
+def due(config, texts):
+    # letters are written as the message of their event and what is said of it
+    dead = [text for text in texts if "if" in config and not is_number(text)]
+    left = [("letters", [[text] for text in dead])] if dead else []
+    for place in config:
+        passing = [text for text in texts if text not in dead]
+        left += [(place, passing)] if place != "if" and passing else []
+    return left
 
 
 class Pipeline:
@@ -24,44 +77,53 @@ class Pipeline:
         self.rows, self.front, self.acked = [], 0, set()
         self.read, self.used, self.out = set(), set(), {}
         self.low = self.high = 1
+        # what the next entry has to go with: nothing, what was shed, or letters of a rejection
+        self.between = None
 
     def runs(self):
         want(self.plan is not None, "NotAdopted")
+        want(self.between is None, "Unfinished")
 
     def tell(self, kind, words):
-        getattr(self, kind if kind not in ("hold", "drop_newer", "drop_older") else "opened")(kind, words)
+        if kind in OPENINGS:
+            self.opened(kind, words)
+        elif kind in PLACES:
+            self.deliver(PLACES[kind], words)
+        else:
+            getattr(self, "read_batch" if kind == "read" else kind)(words)
 
-    def opened(self, kind, words):
-        found = [(int(number), text) for number, text in (word.split("=") for word in words)]
-        numbers = [number for number, _ in found]
-        want(all(row in self.rows for row in found), "Unknown")
+    def opened(self, policy, words):
+        found = [(int(number), *row) for number, *row in (word.split("=") for word in words)]
+        numbers = [row[0] for row in found]
+        # each configuration has one input, which has this id
+        want(all(row[:2] in self.rows and row[2:] in ((), ("input_1",)) for row in found), "Unknown")
         want(all(a < b for a, b in zip(numbers, numbers[1:])), "Order")
-        kept = lambda row: row in found or row[0] in self.acked
-        want(all(kept(row) for row in self.rows if row[0] <= self.front), "Lost")
-        want(all(kept(row) for row in self.rows if any(row[0] < n for n in numbers)), "Gap")
+        stands = lambda row: row[0] in numbers or row[0] in self.acked
+        want(all(stands(row) for row in self.rows if row[0] <= self.front), "Lost")
+        want(all(stands(row) for row in self.rows if any(row[0] < n for n in numbers)), "Gap")
         top = max([self.front] + numbers)
         self.rows = [row for row in self.rows if row[0] <= top]
         self.acked = {n for n in self.acked if n <= top and n not in numbers}
         self.read, self.used, self.out = set(), set(), {}
-        self.low, self.plan, self.inputs, self.policy = top + 1, None, [], kind
+        self.low, self.plan, self.inputs, self.policy, self.between = top + 1, None, [], policy, None
 
-    def adopt(self, kind, words):
-        generation, name = int(words[0]), words[1]
+    def adopt(self, words):
+        generation, name, config = int(words[0]), words[1], words[2:]
         want(self.policy is not None, "NotOpened")
+        want(self.between is None, "Unfinished")
         if self.plan is not None:
-            want(name != self.plan[1], "Same")
+            want((name, config) != self.plan[1:], "Same")
             want(generation == self.plan[0] + 1, "Generation")
-        self.plan = (generation, name)
+        self.plan = (generation, name, config)
         self.number(name)
 
     def number(self, name):
-        # a configuration has one input, whose name is its whole statement; an input is its number, that and whether it
-        # is open
-        kept = [n for n, other, is_open in self.inputs if is_open and other == name]
-        number = kept[0] if kept else len(self.inputs)
+        # an input is its number, its name, which is its whole statement, and whether it is open
+        same = [n for n, other, is_open in self.inputs if is_open and other == name]
+        number = same[0] if same else len(self.inputs)
         self.inputs = [(number, name, True)] + [(n, other, False) for n, other, _ in self.inputs if n != number]
 
-    def accept(self, kind, words):
+    def accept(self, words):
         number = int(words[0])
         self.runs()
         want(self.low <= number <= self.high, "Number")
@@ -71,62 +133,98 @@ class Pipeline:
         self.rows.append((number, words[1]))
         self.low = self.high = number + 1
 
-    def mark(self, kind, words):
+    def mark(self, words):
         front = int(words[0])
         self.runs()
         want(self.low - 1 <= front <= self.high - 1, "Number")
         self.front, self.low, self.high = front, front + 1, front + 1
 
-    def assure(self, kind, words):
+    def assure(self, words):
         self.runs()
         want(int(words[0]) == self.front, "Front")
 
-    def read_batch(self, kind, words):
-        batch, generation, numbers = int(words[0]), int(words[1]), ints(words[2] if len(words) > 2 else "")
+    def read_batch(self, words):
+        batch, generation, numbers = int(words[0]), int(words[1]), ints(first(words, 2))
         self.runs()
         want(generation == self.plan[0], "Generation")
         want(batch not in self.used, "Used")
         want(numbers, "Empty")
-        unread = [n for n, _ in self.rows if n not in self.acked and n not in self.read]
-        want(numbers == unread[: len(numbers)], "NotFirst")
+        unread = [(n, text) for n, text in self.rows if n not in self.acked and n not in self.read]
+        rows = unread[: len(numbers)]
+        want(numbers == [n for n, _ in rows], "NotFirst")
         self.read |= set(numbers)
         self.used.add(batch)
-        self.out[batch] = {"numbers": numbers, "back": False}
+        self.out[batch] = {"numbers": numbers, "texts": [text for _, text in rows], "config": self.plan[2], "left": None}
 
-    def back(self, kind, words):
+    def back(self, words):
         batch, verdicts = int(words[0]), int(words[1])
         self.runs()
         want(batch in self.out, "NotOut")
-        want(not self.out[batch]["back"], "BackAgain")
+        out = self.out[batch]
+        want(out["left"] is None, "BackAgain")
         want(verdicts == 0, "Verdicts")
-        self.out[batch]["back"] = True
+        out["left"] = due(out["config"], out["texts"])
 
-    def home(self, batch):
+    def left(self, batch):
+        # what is due of the batch and not told yet
         want(batch in self.out, "NotOut")
-        want(self.out[batch]["back"], "NotBack")
+        want(self.out[batch]["left"] is not None, "NotBack")
+        return self.out[batch]["left"]
 
-    def shed(self, kind, words):
-        batch, older, newer = int(words[0]), int(words[1]), ints(words[2] if len(words) > 2 else "")
+    def shed(self, words):
+        batch, older, newer = int(words[0]), int(words[1]), ints(first(words, 2))
         self.runs()
         want(self.policy == "drop_older" or self.policy == "drop_newer" and older == 0, "Policy")
         want(older or newer, "Nothing")
-        self.home(batch)
+        left = self.left(batch)
         want(all(a < b for a, b in zip(newer, newer[1:])), "Order")
-        want(False, "Places")
+        want(left and left[0][0] in ("letters", "box") and all(n < len(left[0][1]) for n in newer), "Places")
+        self.between = ("shed", batch, newer)
 
-    def deliver(self, kind, words):
-        self.home(int(words[0]))
-        want(False, "NotDue")
+    def letters(self, words):
+        batch, told = int(words[0]), [word.split("=", 1) for word in words_of(first(words, 1))]
+        left = self.left(batch)
+        want(self.between is None or self.between[:2] == ("shed", batch), "Shed")
+        newer = self.between[2] if self.between else []
+        want(left, "NotDue")
+        place, items = left[0]
+        if place == "letters":
+            want(all(n < len(items) for n in newer) and told == kept(newer, items), "NotDue")
+            left.pop(0)
+            self.between = None
+        else:
+            want(place == "box" and self.may_reject(items, newer, told), "NotDue")
+            self.between = ("rejecting", batch, newer, told)
 
-    letters = deliver
+    def may_reject(self, texts, newer, told):
+        # letters of some events in their order, less those at these places, of which nothing is told
+        places = range(len(texts))
+        some = (list(chosen) for n in places for chosen in itertools.combinations(texts, n + 1))
+        fits = lambda chosen: all(n < len(chosen) for n in newer) and kept(newer, chosen) == [letter[0] for letter in told]
+        return all(len(letter) == 2 for letter in told) and any(fits(chosen) for chosen in some)
 
-    def ack(self, kind, words):
+    def deliver(self, place, words):
+        batch, texts, fates = int(words[0]), words_of(words[1]), words_of(first(words, 2))
+        left = self.left(batch)
+        want(left and left[0] == (place, texts), "NotDue")
+        want(len(fates) == (len(texts) if place == "box" else 0), "Fates")
+        rejected = [[text, fate] for text, fate in zip(texts, fates) if "=" in fate]
+        if rejected:
+            want(self.between and self.between[:2] == ("rejecting", batch), "Rejections")
+            newer, told = self.between[2:]
+            want(all(n < len(rejected) for n in newer) and kept(newer, rejected) == told, "Rejections")
+        else:
+            want(self.between is None, "Rejections")
+        left.pop(0)
+        self.between = None
+
+    def ack(self, words):
         batch = int(words[0])
         self.runs()
-        self.home(batch)
+        want(not self.left(batch), "Untold")
         self.acked |= set(self.out.pop(batch)["numbers"])
 
-    def purge(self, kind, words):
+    def purge(self, words):
         self.runs()
 
 
@@ -135,7 +233,7 @@ def judged(told):
     for place, entry in enumerate(told.split(";")):
         kind, *words = entry.split(" ")
         try:
-            pipeline.tell("read_batch" if kind == "read" else kind, words)
+            pipeline.tell(kind, words)
         except Fault as fault:
             return f"{place} {fault}"
     return "legal"

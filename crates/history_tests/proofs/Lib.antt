@@ -1,1 +1,2 @@
-pub mod Nothing
+mod Delivered
+mod Derived

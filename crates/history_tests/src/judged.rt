@@ -1,11 +1,11 @@
 //! Histories, one a row, and what the judges say of each: a name, and behind `:` entries with `;` between them. Events are
-//! written as the text of their `message`, configurations as the name of their one input.
+//! written as their `message`, configurations by the names of what they have (see `configs`).
 
-use crate::meaning::NoOutputs;
-use config_tree::{Config, Plugin, Settings};
+use crate::configs::{ADDRESS, BOX, FILE, config_of, draws};
+use crate::meaning::OneOutput;
 use element_code::Origin;
-use event_tree::{DeadList, DeadPart, Event, Events, Path, Text, Value};
-use foreign_parts::{Place, Verdict};
+use event_tree::{DeadList, DeadPart, Event, Events, Number, Path, Text, Value};
+use foreign_parts::{Fate, Fates, Place, Verdict};
 use history_book::{KeptEntry, ParcelAt};
 use history_judges::first_fault;
 use persistent_queue::QueueRow;
@@ -13,15 +13,15 @@ use plain_data::Items;
 use settings_lines::Policy;
 use std::alloc::{AllocError, Global};
 
-/// The bytes that the dead letters may have in each history.
-const LIMIT: u64 = 88;
+// How many bytes the dead letters may have in each history.
+const LIMIT: u64 = 180;
 
 /// What the judges say of the history of a row.
 pub fn add_judged(to: &mut String, row: &str) -> Result<(), AllocError> {
     let alloc = *to.allocator();
     let (name, told) = row.split_once(':').unwrap_or((row, ""));
     let entries = entries_of(alloc, told)?;
-    match first_fault(alloc, &NoOutputs, entries.as_slice())? {
+    match first_fault(alloc, &OneOutput, entries.as_slice())? {
         None => write!(to, "{name}: legal"),
         Some(fault) => write!(to, "{name}: {} {:?}", fault.place, fault.reason),
     }
@@ -36,7 +36,7 @@ fn entries_of(alloc: Global, told: &str) -> Result<Items<KeptEntry>, AllocError>
     Ok(entries)
 }
 
-fn first_word(line: &str) -> (&str, &str) {
+pub fn first_word(line: &str) -> (&str, &str) {
     line.split_once(' ').unwrap_or((line, ""))
 }
 
@@ -63,7 +63,16 @@ fn later_entry(alloc: Global, kind: &str, rest: &str) -> Result<KeptEntry, Alloc
     match kind {
         "back" => back(alloc, number, rest),
         "shed" => shed(alloc, number, rest),
-        "deliver" => deliver(alloc, number, rest),
+        "deliver" => deliver(alloc, number, Place::Stdout, rest),
+        "file" => deliver(alloc, number, Place::File(Text::of(alloc, FILE)?), rest),
+        "address" => deliver(
+            alloc,
+            number,
+            Place::Address(Text::of(alloc, ADDRESS)?),
+            rest,
+        ),
+        "nowhere" => deliver(alloc, number, Place::Discard, rest),
+        "box" => deliver(alloc, number, Place::Foreign(BOX), rest),
         "letters" => letters(alloc, number, rest),
         "ack" => Ok(KeptEntry::Ack { batch: number }),
         "mark" => Ok(KeptEntry::Mark { front: number }),
@@ -75,14 +84,22 @@ fn later_entry(alloc: Global, kind: &str, rest: &str) -> Result<KeptEntry, Alloc
     }
 }
 
-fn event_of(alloc: Global, text: &str) -> Result<Event, AllocError> {
+/// An event whose `message` is this text, or the number that it writes.
+pub fn event_of(alloc: Global, text: &str) -> Result<Event, AllocError> {
     let mut event = Event::new(alloc);
-    let Ok(path) = Path::read(alloc, "message") else {
-        return Err(AllocError);
+    let value = match Number::read(text) {
+        Some(number) => Value::Num(number),
+        None => Value::Text(Text::of(alloc, text)?),
     };
-    let value = Value::Text(Text::of(alloc, text)?);
-    match event.put(&path, value) {
+    match event.put(&message(alloc)?, value) {
         Ok(()) => Ok(event),
+        Err(_) => Err(AllocError),
+    }
+}
+
+pub fn message(alloc: Global) -> Result<Path, AllocError> {
+    match Path::read(alloc, "message") {
+        Ok(path) => Ok(path),
         Err(_) => Err(AllocError),
     }
 }
@@ -115,16 +132,12 @@ fn events_of(alloc: Global, text: &str) -> Result<Events, AllocError> {
     Ok(events)
 }
 
-// `NUMBER=TEXT` for each row, with blanks between them.
+// `NUMBER=TEXT` for each row, with blanks between them; and behind it `=ID`, where it names its input.
 fn opened(alloc: Global, text: &str, policy: Policy) -> Result<KeptEntry, AllocError> {
     let mut rows = Items::new(alloc);
     for word in text.split(' ') {
-        if let Some((number, message)) = word.split_once('=') {
-            rows.push(QueueRow {
-                number: number.parse().unwrap_or(0),
-                origin: Origin::Unknown,
-                event: event_of(alloc, message)?,
-            })?;
+        if let Some((number, row)) = word.split_once('=') {
+            rows.push(row_of(alloc, number.parse().unwrap_or(0), row)?)?;
         }
     }
     Ok(KeptEntry::Opened {
@@ -134,23 +147,26 @@ fn opened(alloc: Global, text: &str, policy: Policy) -> Result<KeptEntry, AllocE
     })
 }
 
+fn row_of(alloc: Global, number: u64, row: &str) -> Result<QueueRow, AllocError> {
+    let (text, origin) = match row.split_once('=') {
+        Some((text, id)) => (text, Origin::Id(Text::of(alloc, id)?)),
+        None => (row, Origin::Unknown),
+    };
+    let event = event_of(alloc, text)?;
+    Ok(QueueRow {
+        number,
+        origin,
+        event,
+    })
+}
+
+// `GENERATION`, and behind it the configuration.
 fn adopt(alloc: Global, text: &str) -> Result<KeptEntry, AllocError> {
-    let (generation, name) = first_number(text);
-    let mut inputs = Items::with_capacity(alloc, 1)?;
-    inputs.push(Plugin {
-        name: Text::of(alloc, name)?,
-        settings: Settings {
-            list: Items::new(alloc),
-        },
-    })?;
+    let (generation, config) = first_number(text);
     Ok(KeptEntry::Adopt {
         generation,
-        config: Config {
-            inputs,
-            filters: Items::new(alloc),
-            outputs: Items::new(alloc),
-        },
-        draws: Items::new(alloc),
+        config: config_of(alloc, config)?,
+        draws: draws(alloc)?,
     })
 }
 
@@ -209,26 +225,68 @@ fn shed(alloc: Global, batch: u64, text: &str) -> Result<KeptEntry, AllocError> 
     })
 }
 
-fn deliver(alloc: Global, batch: u64, text: &str) -> Result<KeptEntry, AllocError> {
+// Events, and behind them what a box answers of each: `took`, or a status and what is said of it, as `400=bad`.
+fn deliver(alloc: Global, batch: u64, place: Place, text: &str) -> Result<KeptEntry, AllocError> {
+    let (events, fates) = first_word(text);
+    let events = events_of(alloc, events)?;
+    let fates = fates_of(alloc, fates)?;
     Ok(KeptEntry::Deliver {
         batch,
-        place: Place::Stdout,
-        events: events_of(alloc, text)?,
-        fates: Items::new(alloc),
+        place,
+        events,
+        fates,
     })
+}
+
+fn fates_of(alloc: Global, text: &str) -> Result<Fates, AllocError> {
+    let mut fates = Fates::new(alloc);
+    for word in text.split(',') {
+        if !word.is_empty() {
+            fates.push(fate_of(alloc, word)?)?;
+        }
+    }
+    Ok(fates)
+}
+
+fn fate_of(alloc: Global, word: &str) -> Result<Fate, AllocError> {
+    match word.split_once('=') {
+        Some((status, said)) => Ok(Fate::Rejected(
+            status.parse().unwrap_or(0),
+            Text::of(alloc, said)?,
+        )),
+        None => Ok(Fate::Took),
+    }
 }
 
 fn letters(alloc: Global, batch: u64, text: &str) -> Result<KeptEntry, AllocError> {
     let mut letters = DeadList::new(alloc);
-    letters.push(letter_of(alloc, text)?)?;
+    for word in text.split(',') {
+        if !word.is_empty() {
+            letters.push(part_of(alloc, word)?)?;
+        }
+    }
     Ok(KeptEntry::Letters { batch, letters })
 }
 
-fn letter_of(alloc: Global, text: &str) -> Result<DeadPart, AllocError> {
+// `TEXT`, an event whose condition was wrong; or `TEXT=STATUS=SAID`, one that the box rejected.
+fn part_of(alloc: Global, word: &str) -> Result<DeadPart, AllocError> {
+    match word.split_once('=') {
+        Some((text, answer)) => rejected(alloc, text, answer),
+        None => Ok(DeadPart {
+            kind: Text::of(alloc, "if")?,
+            id: Text::of(alloc, "filter_if_1")?,
+            reason: Text::of(alloc, "order of text and number")?,
+            event: event_of(alloc, word)?,
+        }),
+    }
+}
+
+fn rejected(alloc: Global, text: &str, answer: &str) -> Result<DeadPart, AllocError> {
+    let (status, said) = answer.split_once('=').unwrap_or((answer, ""));
     Ok(DeadPart {
-        kind: Text::of(alloc, "if")?,
-        id: Text::of(alloc, "filter_if_1")?,
-        reason: Text::of(alloc, "order of text and number")?,
+        kind: Text::of(alloc, "box")?,
+        id: Text::of(alloc, "output_1")?,
+        reason: Text::from_string(format!(in alloc; "status {status}: {said}")?),
         event: event_of(alloc, text)?,
     })
 }

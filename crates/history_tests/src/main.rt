@@ -5,8 +5,10 @@
 //! What is expected of the histories is what `data/histories.py` says, which goes by the tables of legal histories alone.
 #![tactic(auto)]
 
+mod configs;
 mod judged;
 mod meaning;
+mod parting;
 
 use config_tree::Config;
 use element_code::Origin;
