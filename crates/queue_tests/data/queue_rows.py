@@ -472,6 +472,9 @@ for version in [1, 2]:
     broken = [overlaid(44, bytes(4), slot(turn, *said)) for turn in [0, 1]]
     damage(two, 0, 0, crc32(broken[0][:44]), broken[1], HEAD, broken[0])
     damage(two, 0, 1, 0, b"x", HEAD, slot(1, *said))
+    # with fewer bytes than a slot has, and nothing beside page 0, the folder is new: its rows are gone
+    cut = (slot(0, *said) + slot(1, *said))[:30]
+    run((1000, AMPLE), {"page.0": two, HEAD: cut}, "u t:9 w:i", expected="open; 0; none; 1; ")
 
 more = folder((1, 3, 3, 0, 1), b"\2", p0=TWO, c0=slot(0, *ALL))
 run((59, AMPLE), more, "u t:9", expected="open; 2; 1i 2i; ")
