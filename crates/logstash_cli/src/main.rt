@@ -1,6 +1,6 @@
-//! The program `logstash`: runs or tests what its words ask for, over the real stdin, stdout, stderr and clock, with no boxes
-//! of its own. What it does is the contract of the call that it makes: `logstash`, `test_config`, or a tool for
-//! queues, as `which` says.
+//! The program `logstash`: runs or tests what its words ask for, over the real stdin, stdout, stderr and clock, with 64
+//! outputs `elasticsearch` as boxes. What it does is the contract of the call that it makes: `logstash`, `test_config`,
+//! or a tool for queues, as `which` says.
 #![tactic(auto)]
 
 mod standard;
@@ -9,6 +9,7 @@ mod tools;
 use foreign_parts::{Boxes, Rack};
 use io_real::{StdinSource, SystemClock, WriteSink};
 use logstash_top::{Status, ThinWorld, Which, logstash, test_config, which};
+use out_bulk::{Bulk, TcpPeer};
 use standard::StandardOutput;
 use std::env;
 use std::io::{self, ErrorKind, Stdin};
@@ -17,6 +18,12 @@ use tools::{check, repair};
 
 /// The status of want of memory.
 const NO_MEMORY: u8 = 8;
+
+/// The name of the output that sends events to Elasticsearch.
+const BULK: &str = "elasticsearch";
+
+/// How many of it configurations may take.
+const BULK_OUTPUTS: usize = 64;
 
 /// The real outside.
 type RealWorld<'a> = ThinWorld<
@@ -27,10 +34,20 @@ type RealWorld<'a> = ThinWorld<
 
 fn main(rt: HostRuntime) -> ExitCode {
     let Ok((words, call, world)) = beginning(&rt) else {
-        let _ = eprintln!(rt; "logstash: no memory");
-        return ExitCode::from(NO_MEMORY);
+        return no_memory(&rt);
     };
     let mut rack = Rack::new(rt.alloc());
+    for _ in 0..BULK_OUTPUTS {
+        let Ok(net) = rt.clone() else {
+            return no_memory(&rt);
+        };
+        let Ok(output) = Box::new(rt.alloc(), Bulk::new(rt.alloc(), TcpPeer::new(net))) else {
+            return no_memory(&rt);
+        };
+        if rack.add_output(BULK, output).is_err() {
+            return no_memory(&rt);
+        }
+    }
     let mut world = world;
     let status = match call {
         Which::Test => tested(&rt, &words, world, &mut rack),
@@ -39,6 +56,12 @@ fn main(rt: HostRuntime) -> ExitCode {
         Which::Run | Which::Apart => logstash(&rt, rt.alloc(), &words, &mut world, &mut rack),
     };
     ExitCode::from(status.number())
+}
+
+/// Tells that memory ran out.
+fn no_memory(rt: &HostRuntime) -> ExitCode {
+    let _ = eprintln!(rt; "logstash: no memory");
+    ExitCode::from(NO_MEMORY)
 }
 
 /// Tests the configuration that the words name, over the real stdout and stderr.
