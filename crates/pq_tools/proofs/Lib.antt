@@ -8,3 +8,4 @@ pub mod FewRows
 pub mod NewQueues
 pub mod Takings
 pub mod EmptyFolders
+pub mod DamagesDiffer

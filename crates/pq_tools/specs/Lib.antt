@@ -6,3 +6,4 @@ pub mod Salvage
 pub mod Numbers
 pub mod PageRuns
 pub mod Repairs
+pub mod Damages

@@ -12,3 +12,4 @@ pub mod StatementNumbers
 pub mod ToldReadings
 pub mod FindingStatements
 pub mod JudgedReadings
+pub mod SoundPipelines

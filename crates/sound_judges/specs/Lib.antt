@@ -7,3 +7,4 @@ pub mod Sounding
 pub mod Statements
 pub mod Positions
 pub mod ReadFiles
+pub mod Pipelines

@@ -1,5 +1,6 @@
 //! What holds of the judges' definitions. Each function here does nothing: its clauses are theorems.
 ghost use Rattle.sound_judges.specs.Appends.{LettersCanBeTold};
+ghost use Rattle.sound_judges.specs.Pipelines.{SoundWithSomeWitnesses};
 ghost use Rattle.sound_judges.specs.Positions.{SoundWithSomeReadings};
 ghost use Rattle.sound_judges.specs.Sounding.{SoundWithSomeLetters};
 
@@ -17,4 +18,10 @@ pub fn what_is_sound_is_so_with_some_letters()
 /// The recorded position of a watched file agrees with a history exactly where it does so with some readings.
 pub fn what_is_sound_is_so_with_some_readings()
     ensures { SoundWithSomeReadings }
+{}
+
+/// All that a pipeline keeps agrees with its history exactly where it does so with some letters that were appended and
+/// some readings of each file that it watches.
+pub fn what_is_sound_is_so_with_some_witnesses()
+    ensures { SoundWithSomeWitnesses }
 {}

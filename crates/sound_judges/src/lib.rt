@@ -1,7 +1,8 @@
 //! Judges of what a stop leaves: plain, slow code beside the definitions of when that agrees with a history, equal to
 //! them. What a stop leaves is a table of files in memory.
 //!
-//! - [`is_sound`] judges a pipeline: its history, its queue, its files and its dead letters. Its parts stand beside it:
+//! - [`pipeline_is_sound`] judges all that a pipeline keeps.
+//! - [`is_sound`] judges its history, its queue, its files and its dead letters. Its parts stand beside it:
 //!   [`queue_is_sound`], [`files_are_sound`] and [`letters_are_sound`].
 //! - [`position_is_sound`] judges the recorded position of a file that it watches, and [`positions_are_sound`] those of
 //!   several.
@@ -25,6 +26,7 @@ mod held;
 pub mod laws;
 mod letters;
 mod line;
+mod pipeline;
 mod places;
 mod positions;
 mod queue_rows;
@@ -40,6 +42,7 @@ pub use finding::file_content;
 pub use held::HeldLetters;
 pub use letters::holds_letters;
 pub use line::{AppendedLetters, files_are_sound, is_sound, letters_are_sound, queue_is_sound};
+pub use pipeline::{Witnesses, pipeline_is_sound};
 pub use places::{FilePlace, Places};
 pub use positions::{position_is_sound, positions_are_sound};
 pub use queue_rows::{FoundRows, found_rows};
