@@ -15,6 +15,8 @@ Rows that tell bodies apart which are wrong:
 - letters are told of events that a box took: `a letter of an event that was taken`
 - a letter that has to be shed is told, and one that needn't: `a letter that was shed is told`, `a place behind the letters`
 
+`scenes` shows of a stop's image that the same bodies aren't sound, and letters past the limit without a shedding.
+
 Rows of whole runs:
 
 - batches end out of order, and a stop comes: `batches end out of order and a stop comes`, with all deliveries in `batches
@@ -239,6 +241,7 @@ def judged(told):
     return "legal"
 
 
-for row in open(sys.path[0] + "/histories").read().splitlines():
-    name, told = row.split(":", 1)
-    print(f"{name}: {judged(told)}")
+if __name__ == "__main__":
+    for row in open(sys.path[0] + "/histories").read().splitlines():
+        name, told = row.split(":", 1)
+        print(f"{name}: {judged(told)}")

@@ -1,4 +1,4 @@
--- What configurations mean in histories that are written by hand: each filter lets each event pass.
+-- What configurations mean in histories that are written by hand, where each filter lets each event pass, and what outputs write.
 use Rattle.std.specs.Prelude.{◌≡◌, ◌∷◌, ◌⊎◌, [], ℕ, List, Option, Some, None, flat_map, codes}
 use Rattle.event_tree.specs.Events.{Ev}
 use Rattle.event_tree.specs.declared.lists.DeadPart.{DeadPart}
@@ -10,14 +10,20 @@ use Rattle.config_tree.specs.declared.tree.Statement.TheVariants as statement
 use Rattle.condition_eval.specs.Truths.{truth}
 use Rattle.condition_eval.specs.declared.truth.Truth.{Truth}
 use Rattle.condition_eval.specs.declared.truth.Truth.TheVariants as says
+use Rattle.element_code.specs.Parts.{event_spelling}
 use Rattle.foreign_parts.specs.declared.place.Place.{Place}
 use Rattle.event_flow.specs.Flows.{Gives, wrong_letter}
 use Rattle.event_flow.specs.Ids.{plugin_id, condition_id}
 use Rattle.event_flow.specs.Meaning.{Makes, Due, some_events}
 use Rattle.event_flow.specs.Places.{Draws, places_of}
+use Rattle.history_laws.specs.Contents.{Bytes}
 
 abbrev pub passes : Makes
 passes p e = Gives (e ∷ [])
+
+-- each event as a queue spells it
+abbrev pub spelled : Bytes
+spelled config id es = flat_map event_spelling es
 
 -- ---- filters that are none, or one condition
 

@@ -13,8 +13,8 @@ use plain_data::Items;
 use settings_lines::Policy;
 use std::alloc::{AllocError, Global};
 
-// How many bytes the dead letters may have in each history.
-const LIMIT: u64 = 180;
+/// How many bytes the dead letters may have in each history.
+pub const LIMIT: u64 = 180;
 
 /// What the judges say of the history of a row.
 pub fn add_judged(to: &mut String, row: &str) -> Result<(), AllocError> {
@@ -40,12 +40,12 @@ pub fn first_word(line: &str) -> (&str, &str) {
     line.split_once(' ').unwrap_or((line, ""))
 }
 
-fn first_number(line: &str) -> (u64, &str) {
+pub fn first_number(line: &str) -> (u64, &str) {
     let (word, rest) = first_word(line);
     (word.parse().unwrap_or(0), rest)
 }
 
-fn entry_of(alloc: Global, text: &str) -> Result<KeptEntry, AllocError> {
+pub fn entry_of(alloc: Global, text: &str) -> Result<KeptEntry, AllocError> {
     let (kind, rest) = first_word(text);
     match kind {
         "hold" => opened(alloc, rest, Policy::Hold),
@@ -124,7 +124,7 @@ fn places_of(alloc: Global, text: &str) -> Result<Items<usize>, AllocError> {
     Ok(places)
 }
 
-fn events_of(alloc: Global, text: &str) -> Result<Events, AllocError> {
+pub fn events_of(alloc: Global, text: &str) -> Result<Events, AllocError> {
     let mut events = Events::new(alloc);
     for word in text.split(',') {
         events.push(event_of(alloc, word)?)?;
@@ -269,7 +269,7 @@ fn letters(alloc: Global, batch: u64, text: &str) -> Result<KeptEntry, AllocErro
 }
 
 // `TEXT`, an event whose condition was wrong; or `TEXT=STATUS=SAID`, one that the box rejected.
-fn part_of(alloc: Global, word: &str) -> Result<DeadPart, AllocError> {
+pub fn part_of(alloc: Global, word: &str) -> Result<DeadPart, AllocError> {
     match word.split_once('=') {
         Some((text, answer)) => rejected(alloc, text, answer),
         None => Ok(DeadPart {

@@ -3,12 +3,18 @@
 //! `judged`): that it is legal, or the place of the first entry that isn't, and why.
 //!
 //! What is expected of the histories is what `data/histories.py` says, which goes by the tables of legal histories alone.
+//! Behind these it prints what the judges say of what a stop leaves in the scenes of `data/scenes` (see `scene`), of which
+//! `data/scenes.py` says what is expected.
 #![tactic(auto)]
 
+mod calls;
 mod configs;
 mod judged;
+mod letters;
 mod meaning;
 mod parting;
+mod scene;
+mod writing;
 
 use config_tree::Config;
 use element_code::Origin;
@@ -34,6 +40,11 @@ fn main(rt: HostRuntime) -> io::Result<()> {
     for row in fs::read_to_string(&rt, "histories")?.lines() {
         let mut answer = String::new(rt.alloc());
         judged::add_judged(&mut answer, row)?;
+        println!(rt; "{answer}")?;
+    }
+    for row in fs::read_to_string(&rt, "scenes")?.lines() {
+        let mut answer = String::new(rt.alloc());
+        scene::add_scene(&mut answer, row)?;
         println!(rt; "{answer}")?;
     }
     Ok(())

@@ -1,0 +1,8 @@
+use Rattle.std.proofs.Common.{sym, subst}
+use Rattle.persistent_queue.specs.Opens.{IsSlotted}
+use Rattle.persistent_queue.specs.Views.{QueueView}
+use Rattle.persistent_queue.proofs.Acknowledging.{still_slotted}
+use Rattle.history_tests.proofs.calls.acknowledge.Goals as goal
+
+pub returns : goal.returns
+returns c content slotted = subst (λ (v : QueueView). IsSlotted v content) (sym c.acknowledge.ensures) (still_slotted _ c.args.queue.now content slotted)
