@@ -1,2 +1,3 @@
 mod Delivered
 mod Derived
+mod Unheard

@@ -10,6 +10,7 @@
 mod calls;
 mod configs;
 mod judged;
+mod laws;
 mod letters;
 mod meaning;
 mod parting;
