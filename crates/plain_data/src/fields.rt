@@ -8,6 +8,7 @@ ghost use Rattle.plain_data.specs.MemberImpls.{ClonesAreSame, member_clone, memb
 ghost use Rattle.plain_data.specs.MemberLends.{lends_member_value};
 ghost use Rattle.plain_data.specs.Members.{Rises, AllBelow, get_member, insert_member, remove_member};
 
+use crate::order::text_order;
 use crate::text::Text;
 use std::alloc::{AllocError, Global};
 use std::cmp::Ordering;
@@ -127,7 +128,7 @@ impl<V> Fields<V> {
         ensures { IsTrue result ↔ AllBelow self.now key.now }
     {
         match self.members.last() {
-            Some((last, _)) => last.as_str() < key,
+            Some((last, _)) => text_order(last.as_str(), key).is_lt(),
             None => true,
         }
     }
@@ -240,7 +241,7 @@ fn find<V>(members: &[(Text, V)], key: &str) -> Result<usize, usize>
     let mut high = members.len();
     while low < high {
         let middle = low + (high - low) / 2;
-        match key.cmp(members[middle].0.as_str()) {
+        match text_order(key, members[middle].0.as_str()) {
             Ordering::Less => high = middle,
             Ordering::Equal => return Ok(middle),
             Ordering::Greater => low = middle + 1,

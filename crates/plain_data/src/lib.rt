@@ -19,11 +19,13 @@ mod boxed;
 mod fields;
 mod items;
 pub mod laws;
+mod order;
 mod text;
 
 pub use boxed::Boxed;
 pub use fields::Fields;
 pub use items::Items;
+pub use order::text_order;
 pub use text::Text;
 
 /// Texts in order: names of files, of fields, of plugins.

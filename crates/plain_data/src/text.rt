@@ -8,6 +8,7 @@ ghost use Rattle.std.proofs.Common.{refl, rules};
 ghost use Rattle.std.specs.Cmp.Rules.{hashing};
 ghost use Rattle.plain_data.specs.Keys.{text_cmp};
 
+use crate::order::text_order;
 use std::alloc::{AllocError, Global};
 use std::cmp::Ordering;
 use std::fmt;
@@ -131,7 +132,7 @@ impl Ord for Text {
     ghost matches_eq = { texts_ties };
 
     fn cmp(&self, other: &Self) -> Ordering {
-        self.as_str().cmp(other.as_str())
+        text_order(self.as_str(), other.as_str())
     }
 }
 

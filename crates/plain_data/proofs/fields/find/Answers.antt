@@ -15,7 +15,7 @@ loop-low-preserved-in-Less g c =
     let i = c.loop-low.low + (c.loop-low.high - c.loop-low.low) / 2 in
     let lt : i < length ms = omega (arith, c.loop-low.invariant.within) in
     let h : slice_get ms i ≡ Some m = slice_get_read ms (length ms) i m refl lt c.index-members-middle.is in
-    let e : text_cmp c.args.key.now m.0 ≡ Less = ap (λ x. text_cmp c.args.key.now x.0) c.index-members-middle.is ∙ ap (text_cmp c.args.key.now) (sym c.as_str.ensures) ∙ sym c.cmp.ensures ∙ c.in-Less.is in
+    let e : text_cmp c.args.key.now m.0 ≡ Less = ap (λ x. text_cmp c.args.key.now x.0) c.index-members-middle.is ∙ ap (text_cmp c.args.key.now) (sym c.as_str.ensures) ∙ sym c.text_order.ensures ∙ c.in-Less.is in
     record { front = c.loop-low.invariant.front; back = find_member-below c.args.key.now ms i m h e; within = omega arith }
 
 pub returns-in-Equal : goal.returns-in-Equal
@@ -25,7 +25,7 @@ returns-in-Equal g c =
     let i = c.loop-low.low + (c.loop-low.high - c.loop-low.low) / 2 in
     let lt : i < length ms = omega (arith, c.loop-low.invariant.within) in
     let h : slice_get ms i ≡ Some m = slice_get_read ms (length ms) i m refl lt c.index-members-middle.is in
-    let e : text_cmp c.args.key.now m.0 ≡ Equal = ap (λ x. text_cmp c.args.key.now x.0) c.index-members-middle.is ∙ ap (text_cmp c.args.key.now) (sym c.as_str.ensures) ∙ sym c.cmp.ensures ∙ c.in-Equal.is in
+    let e : text_cmp c.args.key.now m.0 ≡ Equal = ap (λ x. text_cmp c.args.key.now x.0) c.index-members-middle.is ∙ ap (text_cmp c.args.key.now) (sym c.as_str.ensures) ∙ sym c.text_order.ensures ∙ c.in-Equal.is in
     found_at c.args.key.now ms i (find_member-at c.args.key.now ms i m c.requires h e)
 
 pub loop-low-preserved : goal.loop-low-preserved
@@ -35,7 +35,7 @@ loop-low-preserved g c =
     let i = c.loop-low.low + (c.loop-low.high - c.loop-low.low) / 2 in
     let lt : i < length ms = omega (arith, c.loop-low.invariant.within) in
     let h : slice_get ms i ≡ Some m = slice_get_read ms (length ms) i m refl lt c.index-members-middle.is in
-    let e : text_cmp c.args.key.now m.0 ≡ Greater = ap (λ x. text_cmp c.args.key.now x.0) c.index-members-middle.is ∙ ap (text_cmp c.args.key.now) (sym c.as_str.ensures) ∙ sym c.cmp.ensures ∙ c.in-Greater.is in
+    let e : text_cmp c.args.key.now m.0 ≡ Greater = ap (λ x. text_cmp c.args.key.now x.0) c.index-members-middle.is ∙ ap (text_cmp c.args.key.now) (sym c.as_str.ensures) ∙ sym c.text_order.ensures ∙ c.in-Greater.is in
     record { front = omega (arith, find_member-above c.args.key.now ms i m c.requires h e); back = c.loop-low.invariant.back; within = c.loop-low.invariant.within }
 
 pub returns : goal.returns

@@ -12,5 +12,5 @@ returns-in-Some g c =
     let last = c.in-Some.field-0.now in
     let read : slice_get c.deref.result.now (length c.deref.result.now - 1) ≡ Some last = sym c.last.ensures.value ∙ ap option_copied c.in-Some.is in
     let is = subst (λ l. slice_get l (length l - 1) ≡ Some last) c.deref.ensures.value read in
-    let tested = c.lt.ensures ∙ ap (λ l. is_lt (text_cmp l k)) c.as_str.ensures in
-    subst (λ ms. IsTrue c.lt.result ↔ AllBelow ms k) c.self.view_is (AllBelow-decided c.self.inside.members.items k last c.lt.result c.self.invariant is tested)
+    let tested = c.is_lt.ensures ∙ ap is_lt c.text_order.ensures ∙ ap (λ l. is_lt (text_cmp l k)) c.as_str.ensures in
+    subst (λ ms. IsTrue c.is_lt.result ↔ AllBelow ms k) c.self.view_is (AllBelow-decided c.self.inside.members.items k last c.is_lt.result c.self.invariant is tested)
