@@ -16,3 +16,4 @@ pub mod EventGets
 pub mod ValueLemmas
 pub mod TemplateLaws
 pub mod Going
+pub mod Days

@@ -1,5 +1,5 @@
 -- The formats of `%{+..}`, and the text of a moment in one: the pattern letters of Java's DateTimeFormatter that this product has, in UTC.
-use Rattle.std.specs.Prelude.{◌≡◌, ℕ, ◌-◌, ◌<◌, ◌⊎◌, length, slice_index, ◌/◌, ◌%◌, ◌==◌, ◌&&◌, ◌||◌, nat_le, ℤ, List, [], ◌∷◌, flat_map, Bool, true, if◌then◌else◌, codes, bytes_eq, take, drop, Option, Some, None, option_map, option_and_then}
+use Rattle.std.specs.Prelude.{◌≡◌, ℕ, ◌-◌, ◌<◌, ◌⊎◌, length, slice_index, ◌/◌, ◌%◌, ◌==◌, ◌&&◌, ◌||◌, nat_le, ℤ, List, [], ◌∷◌, flat_map, Bool, true, false, if◌then◌else◌, codes, bytes_eq, take, drop, Option, Some, None, option_map, option_and_then}
 use Rattle.std.specs.Option.{option_or}
 use Rattle.event_json.specs.TimeText.{two_digits, four_digits, nine_digits, year_of, month_of, day_in_month, nanos_in_day}
 use Rattle.event_text.specs.declared.date_format.DatePart.{DatePart}
@@ -87,3 +87,14 @@ part_in text d.Minute = take 2 (drop 14 text)
 part_in text d.Second = take 2 (drop 17 text)
 part_in text d.Millisecond = take 3 (drop 20 text)
 part_in text (d.Plain run) = run
+
+-- the day of a moment alone says what such a part is
+abbrev pub is_of_day : DatePart → Bool
+is_of_day d.Year = true
+is_of_day d.Month = true
+is_of_day d.Day = true
+is_of_day d.Hour = false
+is_of_day d.Minute = false
+is_of_day d.Second = false
+is_of_day d.Millisecond = false
+is_of_day (d.Plain run) = true

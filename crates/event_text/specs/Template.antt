@@ -1,6 +1,7 @@
 -- What a template's text says, part by part, and the text that an event fills it to.
 use Rattle.std.specs.Str.{IsCharBoundary}
 use Rattle.std.specs.Prelude.{◌≡◌, ◌≢◌, ◌<◌, ◌≤◌, ℕ, zero, suc, ◌+◌, ◌-◌, ◌==◌, ◌&&◌, slice_index, true, ℤ, List, [], ◌∷◌, ◌++◌, length, take, drop, flat_map, Bool, false, if◌then◌else◌, codes, Option, Some, None, option_map, option_and_then}
+use Rattle.std.specs.List.{list_all}
 use Rattle.std.specs.Option.{option_or}
 use Rattle.event_tree.specs.Characters.{plus, percent, opening_brace, closing_brace}
 use Rattle.event_tree.specs.Events.{Ev, event_at}
@@ -8,7 +9,8 @@ use Rattle.event_tree.specs.Paths.{over}
 use Rattle.event_tree.specs.declared.value.Value.{Value, out-Value}
 use Rattle.event_tree.specs.declared.value.Value.TheOpen.{Value-F}
 use Rattle.event_text.specs.PathReading.{way_in}
-use Rattle.event_text.specs.DateFormats.{format_of, date_text_of}
+use Rattle.event_json.specs.TimeText.{day_of}
+use Rattle.event_text.specs.DateFormats.{format_of, date_text_of, is_of_day}
 use Rattle.event_text.specs.Shown.{shown}
 use Rattle.event_text.specs.declared.template.TemplatePart.{TemplatePart}
 use Rattle.event_text.specs.declared.template.TemplatePart.TheVariants as p
@@ -113,6 +115,16 @@ template_part_text e (p.Date parts inner) = or_written inner (option_map (date_t
 -- the text that an event fills the parts of a template to
 abbrev pub text : List TemplatePart → Ev → List ℕ
 text pieces e = flat_map (template_part_text e) pieces
+
+-- of an event the day of its moment alone says what the text of such a part is
+abbrev pub is_daily : TemplatePart → Bool
+is_daily (p.Plain run) = true
+is_daily (p.Field way inner) = false
+is_daily (p.Date parts inner) = list_all is_of_day parts
+
+-- the day of an event's moment, where that alone says what text an event fills these parts to
+abbrev pub day_in : List TemplatePart → Ev → Option ℤ
+day_in pieces e = if list_all is_daily pieces then option_map day_of (moment_of e) else None
 
 -- a run of plain text as parts: none where it is empty
 abbrev pub plain_parts : List ℕ → List TemplatePart

@@ -1,5 +1,5 @@
 -- Laws of texts that are paths, numbers, templates or formats, each a statement on all of them.
-use Rattle.std.specs.Prelude.{◌≡◌, ◌≢◌, ◌<◌, ℕ, false, List, [], ◌∷◌, ◌++◌, length, slice_index, ⊤, Option, Some, None, IfSome}
+use Rattle.std.specs.Prelude.{◌≡◌, ◌≢◌, ◌<◌, ℕ, ℤ, false, List, [], ◌∷◌, ◌++◌, length, slice_index, ⊤, Option, Some, None, IfSome}
 use Rattle.event_tree.specs.Number.{Num, IsLeast}
 use Rattle.event_tree.specs.NumberTexts.{NumberReads, IsI64}
 use Rattle.event_tree.specs.PathTexts.{IsPathText, IsPathFault}
@@ -7,11 +7,12 @@ use Rattle.event_tree.specs.declared.fault.PathFault.{PathFault}
 use Rattle.event_tree.specs.declared.fault.PathFault.TheVariants.{Memory}
 use Rattle.event_json.specs.Json.{number_text}
 use Rattle.event_tree.specs.Characters.{plus, percent, opening_brace, closing_brace}
-use Rattle.event_tree.specs.Events.{Way}
+use Rattle.event_tree.specs.Events.{Ev, Way}
 use Rattle.event_text.specs.PathReading.{parts_in, way_in, fault_in}
 use Rattle.event_text.specs.DateFormats.{kind, runs, part_of, parts_of, format_of}
-use Rattle.event_text.specs.Template.{opens, template_parts, template_part_of, date_part_of, as_written, plain_parts, with_plain}
+use Rattle.event_text.specs.Template.{opens, template_parts, template_part_of, date_part_of, as_written, plain_parts, with_plain, day_in, text}
 use Rattle.event_text.specs.declared.date_format.DatePart.{DatePart}
+use Rattle.event_text.specs.declared.template.TemplatePart.{TemplatePart}
 use Rattle.event_text.specs.declared.template.TemplatePart.TheVariants as p
 
 -- a text is a path in one way at most
@@ -97,3 +98,8 @@ RunsAreParts = (run rest : List ℕ) (part : DatePart) (parts : List DatePart) �
 -- a text that begins with a run which is no part is no format
 abbrev pub OtherRunsAreRefused : Type 0
 OtherRunsAreRefused = (run rest : List ℕ) → IsOneRun run → BeginsOther run rest → part_of run ≡ None → format_of (run ++ rest) ≡ None
+
+-- events with the same day fill parts for which the day alone counts to the same text
+abbrev pub DaysHaveOneText : Type 0
+DaysHaveOneText = (pieces : List TemplatePart) (event other : Ev) (day : ℤ)
+    → day_in pieces event ≡ Some day → day_in pieces other ≡ Some day → text pieces event ≡ text pieces other

@@ -1,6 +1,7 @@
 ghost use Rattle.std.specs.Prelude.{◌≡◌, ◌<◌, ◌≤◌, length, IfOk, IsAscii};
+ghost use Rattle.std.specs.List.{list_all};
 ghost use Rattle.event_text.specs.Adds.{AddsText};
-ghost use Rattle.event_text.specs.DateFormats.{kind, IsRun, IsCut, part_of, letters_part, format_of, part_in, date_text_of};
+ghost use Rattle.event_text.specs.DateFormats.{kind, is_of_day, IsRun, IsCut, part_of, letters_part, format_of, part_in, date_text_of};
 
 use event_json::time_text;
 use plain_data::{Items, Text};
@@ -26,6 +27,25 @@ pub enum DatePart {
     Millisecond,
     /// Characters that are no letters of ASCII, which stand for themselves.
     Plain(Text),
+}
+
+impl DatePart {
+    // Whether the day of a moment alone says what it is.
+    fn is_of_day(&self) -> bool
+        ensures { result ≡ is_of_day self.now }
+    {
+        match self {
+            DatePart::Year | DatePart::Month | DatePart::Day | DatePart::Plain(_) => true,
+            DatePart::Hour | DatePart::Minute | DatePart::Second | DatePart::Millisecond => false,
+        }
+    }
+}
+
+// Whether the day of a moment alone says what each of these is.
+pub(crate) fn are_of_day(parts: &[DatePart]) -> bool
+    ensures { result ≡ list_all is_of_day parts.now }
+{
+    parts.iter().all(|part| part.is_of_day())
 }
 
 // The parts of a format, or none where the text is no format.

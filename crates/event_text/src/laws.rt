@@ -6,7 +6,7 @@ ghost use Rattle.std.specs.Prelude.{◌≡◌, ℕ, List, Some, flat_map};
 ghost use Rattle.event_tree.specs.Number.{Num};
 ghost use Rattle.event_tree.specs.NumberTexts.{NumberReads, IsI64};
 ghost use Rattle.event_json.specs.Json.{number_text};
-ghost use Rattle.event_text.specs.TextLaws.{PathsAreOne, PathsAreComputed, FaultyTextsAreNoPaths, FaultsAreOne, FaultsAreComputed, PathsHaveNoFault, NumbersAreOne, NumberTextsReadAsNoOther, DatesAreRead, FieldsAreRead, OthersStay, UnclosedStays, UnopenedStays, PlainTextsAreOnePiece, RunsAreParts, OtherRunsAreRefused};
+ghost use Rattle.event_text.specs.TextLaws.{PathsAreOne, PathsAreComputed, FaultyTextsAreNoPaths, FaultsAreOne, FaultsAreComputed, PathsHaveNoFault, NumbersAreOne, NumberTextsReadAsNoOther, DatesAreRead, FieldsAreRead, OthersStay, UnclosedStays, UnopenedStays, PlainTextsAreOnePiece, RunsAreParts, OtherRunsAreRefused, DaysHaveOneText};
 ghost use Rattle.event_text.specs.Template.{template_parts, written, AreRead};
 
 /// A text is a path in one way at most, which is the one that is computed, and it is none where a
@@ -60,4 +60,9 @@ pub fn placeholders_are_read()
 pub fn formats_are_read_run_by_run()
     ensures part { RunsAreParts }
     ensures other { OtherRunsAreRefused }
+{}
+
+/// Events of the same day fill a template for which the day alone counts (`Template::day_of`) to the same text.
+pub fn a_day_has_one_text()
+    ensures { DaysHaveOneText }
 {}

@@ -1,9 +1,10 @@
 ghost use Rattle.std.specs.Prelude.{◌≡◌, ◌<◌, ◌≤◌, ◌+◌, ◌++◌, length, drop, MatchOption, IfOk, IfSome, IsTrue, OnOk, None};
+ghost use Rattle.std.specs.List.{list_all};
 ghost use Rattle.event_tree.specs.declared.value.Value.{out-Value};
 ghost use Rattle.event_text.specs.Adds.{AddsText};
-ghost use Rattle.event_text.specs.Template.{text, template_parts, template_part_of, date_part_of, field_part_of, IsNextClose, Encloses, opens, placeholder, plain_parts, IsPlaced, template_part_text, as_written, moment_of, time_in};
+ghost use Rattle.event_text.specs.Template.{text, template_parts, template_part_of, date_part_of, field_part_of, IsNextClose, Encloses, opens, placeholder, plain_parts, IsPlaced, template_part_text, as_written, moment_of, time_in, day_in, is_daily};
 
-use crate::date_format::{DatePart, add_date, read_format};
+use crate::date_format::{DatePart, add_date, are_of_day, read_format};
 use crate::path_text::path_in;
 use crate::shown::add_shown;
 use event_tree::{Event, Path, Value};
@@ -73,6 +74,39 @@ impl Template {
             add_piece(&mut filled, piece, event)?;
         }
         Ok(Text::from_string(filled))
+    }
+
+    /// The day of the event's moment, counted from 1970-01-01, where of the event nothing else counts for the text: the template has
+    /// no field, and of dates the year, the month and the day. `None` where more counts, or the event has no moment.
+    ///
+    /// Events with the same day fill the template to the same text, so that one of them is filled for all (`laws::a_day_has_one_text`).
+    pub fn day_of(&self, event: &Event) -> Option<i128>
+        ensures { result ≡ day_in self.now event.now }
+    {
+        if !are_daily(self.pieces.as_slice()) {
+            return None;
+        }
+        Some(event_time(event)?.nanos().div_euclid(DAY))
+    }
+}
+
+/// The nanoseconds of a day.
+const DAY: i128 = 86_400_000_000_000;
+
+// Whether of an event the day of its moment alone says what the text of each of these is.
+fn are_daily(pieces: &[TemplatePart]) -> bool
+    ensures { result ≡ list_all is_daily pieces.now }
+{
+    pieces.iter().all(|piece| is_daily(piece))
+}
+
+fn is_daily(piece: &TemplatePart) -> bool
+    ensures { result ≡ is_daily piece.now }
+{
+    match piece {
+        TemplatePart::Plain(_) => true,
+        TemplatePart::Field(_, _) => false,
+        TemplatePart::Date(parts, _) => are_of_day(parts.as_slice()),
     }
 }
 
