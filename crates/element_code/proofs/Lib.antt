@@ -1,3 +1,4 @@
+pub mod Ascii
 pub mod Leaves
 pub mod LastKeys
 pub mod Loops
@@ -14,6 +15,7 @@ pub mod PartLists
 pub mod RisingKeys
 pub mod LeafPlaces
 pub mod Places
+pub mod Behind
 pub mod MemberPlaces
 pub mod EventPlaces
 pub mod NextParts

@@ -1,4 +1,4 @@
--- What `decode` and `decode_row` answer.
+-- What `decode`, `decode_row` and the tests beside them answer.
 use Rattle.std.specs.Prelude.{◌≡◌, ℕ, ◌≤◌, List, length, Result, Ok, Err, ⊤}
 use Rattle.event_tree.specs.Events.{Ev, IsEvent}
 use Rattle.element_code.specs.Parts.{event_spelling}
@@ -26,3 +26,7 @@ ReadsWhatIsSpelled read bytes = (e : Ev) → IsWhole e → event_spelling e ≡ 
 -- the event that has this spelling is what was read, unless memory ran out: whatever calls made it
 abbrev pub ReadsEachEvent : Result Ev ElementFault → List ℕ → Type 0
 ReadsEachEvent read bytes = (e : Ev) → IsEvent e → event_spelling e ≡ bytes → ReadsAs read e
+
+-- these bytes spell an event
+abbrev pub SpellsEvent : List ℕ → Type 0
+SpellsEvent bytes = (e : Ev) × IsWhole e × (event_spelling e ≡ bytes) × (length bytes ≤ 16777216)

@@ -73,6 +73,10 @@ row_at bytes = origin_at bytes >>= λ o. (short_event_at o.1 >>= λ e. Ok (row o
 abbrev pub ReadsEachRow : Result Row ElementFault → List ℕ → Type 0
 ReadsEachRow read bytes = (origin : List ℕ) (e : Ev) → RowBody bytes origin e → ReadsAs read (row origin e)
 
+-- these bytes are the body of a row
+abbrev pub SpellsRow : List ℕ → Type 0
+SpellsRow bytes = (origin : List ℕ) × (e : Ev) × RowBody bytes origin e
+
 -- no body of a row begins another
 abbrev pub NoRowBeginsAnother : Type 0
 NoRowBeginsAnother =

@@ -6,14 +6,14 @@ ghost use Rattle.byte_reader.specs.Gives.{Gives};
 ghost use Rattle.element_code.specs.Reading.{fits, number_in, time_in, text_in, leaf_at, is_above, last_key, key_at, members_at, list_at, object_at, value_at, event_at};
 
 use crate::tags;
+use crate::utf8::text_of;
 use byte_reader::{Stop, read_front, read_run, read_u32};
 use byteorder::{BigEndian, ByteOrder};
 use event_tree::{Event, Fields, Instant, Items, Number, Text, Value};
 use std::alloc::Global;
-use std::str;
 
 // How many levels may nest in the two objects of an event, which are the first.
-const INNER_LEVELS: usize = 127;
+pub(crate) const INNER_LEVELS: usize = 127;
 
 // For how many items or members room is made at once: no more than a few, since the bytes may say any
 // count.
@@ -34,7 +34,7 @@ fn fitting_of(behind: &[u8], found: Option<Value>) -> Result<Value, Stop>
     }
 }
 
-fn number_from(bytes: &[u8]) -> Option<Value>
+pub(crate) fn number_from(bytes: &[u8]) -> Option<Value>
     requires { length bytes.now ≡ 9 }
     ensures { result ≡ number_in bytes.now }
 {
@@ -50,7 +50,7 @@ fn number_from(bytes: &[u8]) -> Option<Value>
     Some(Value::Num(number))
 }
 
-fn time_from(bytes: &[u8]) -> Option<Value>
+pub(crate) fn time_from(bytes: &[u8]) -> Option<Value>
     requires { length bytes.now ≡ 12 }
     ensures { result ≡ time_in bytes.now }
 {
@@ -66,9 +66,9 @@ fn time_from(bytes: &[u8]) -> Option<Value>
 fn text_from(alloc: Global, bytes: &[u8]) -> Result<Option<Value>, Stop>
     ensures { Gives (λ x. x) result (Ok (text_in bytes.now)) }
 {
-    match str::from_utf8(bytes) {
-        Ok(text) => Ok(Some(Value::Text(Text::of(alloc, text)?))),
-        Err(_) => Ok(None),
+    match text_of(bytes) {
+        Some(text) => Ok(Some(Value::Text(Text::of(alloc, text)?))),
+        None => Ok(None),
     }
 }
 
@@ -119,7 +119,7 @@ fn key_of<'b>(
 {
     let (own, behind) = read_run(bytes)?;
     let fault = Stop::Left(bytes.len() - 4);
-    let Ok(key) = str::from_utf8(own) else {
+    let Some(key) = text_of(own) else {
         return Err(fault);
     };
     if !is_next(fields, key) {

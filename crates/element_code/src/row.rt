@@ -1,4 +1,4 @@
-ghost use Rattle.std.specs.Prelude.{◌≡◌, ◌+◌, ◌++◌, ◌≤◌, length, Ok, OnOk, OnErr, IfOk};
+ghost use Rattle.std.specs.Prelude.{◌≡◌, ◌≢◌, ◌+◌, ◌++◌, ◌≤◌, length, Ok, Err, OnOk, OnErr, IfOk};
 ghost use Rattle.event_tree.specs.Events.{event_size};
 ghost use Rattle.byte_reader.specs.Gives.{Gives};
 ghost use Rattle.element_code.specs.Adds.{Writes};
@@ -9,10 +9,10 @@ use crate::decoding::MOST_BYTES;
 use crate::encoding::{add_event, add_key};
 use crate::fault::ElementFault;
 use crate::reading::event_of;
+use crate::utf8::text_of;
 use byte_reader::{Stop, read_front, read_u32};
 use event_tree::{Event, Text};
 use std::alloc::{AllocError, Global};
-use std::str;
 
 /// The input of a row.
 #[derive(Drop)]
@@ -104,14 +104,16 @@ pub fn decode_row(alloc: Global, bytes: &[u8]) -> Result<Row, ElementFault>
 fn row_of(alloc: Global, bytes: &[u8]) -> Result<Row, Stop>
     ensures { Gives (λ row. row) result (row_at bytes.now) }
 {
-    let (origin, body) = origin_of(alloc, bytes)?;
+    let (own, body) = origin_of(bytes)?;
+    let origin = Text::of(alloc, own)?;
     let event = short_event_of(alloc, body)?;
     Ok(Row { origin, event })
 }
 
 // Bytes behind their length, which is one from 1 to 255.
 fn short_run_of(bytes: &[u8]) -> Result<(&[u8], &[u8]), Stop>
-    ensures { Gives (λ x. (x.0.now, x.1.now)) result (short_run_at bytes.now) }
+    ensures reads { Gives (λ x. (x.0.now, x.1.now)) result (short_run_at bytes.now) }
+    ensures memory { result ≢ Err Stop.Memory }
 {
     let (length, rest) = read_u32(bytes)?;
     if length == 0 || length > MOST_ORIGIN_BYTES {
@@ -120,14 +122,16 @@ fn short_run_of(bytes: &[u8]) -> Result<(&[u8], &[u8]), Stop>
     read_front(rest, length as usize)
 }
 
-fn origin_of(alloc: Global, bytes: &[u8]) -> Result<(Text, &[u8]), Stop>
-    ensures { Gives (λ x. (x.0, x.1.now)) result (origin_at bytes.now) }
+// The origin of a row, and the bytes behind it.
+pub(crate) fn origin_of(bytes: &[u8]) -> Result<(&str, &[u8]), Stop>
+    ensures reads { Gives (λ x. (x.0.now, x.1.now)) result (origin_at bytes.now) }
+    ensures memory { result ≢ Err Stop.Memory }
 {
     let (own, behind) = short_run_of(bytes)?;
-    let Ok(origin) = str::from_utf8(own) else {
+    let Some(origin) = text_of(own) else {
         return Err(Stop::Left(bytes.len() - LENGTH_BYTES));
     };
-    Ok((Text::of(alloc, origin)?, behind))
+    Ok((origin, behind))
 }
 
 // An event of no more bytes than one may have.
