@@ -11,9 +11,13 @@ use Rattle.out_bulk.specs.Settings.{Target}
 abbrev pub action_of : List ℕ → List ℕ
 action_of name = codes "{\"index\":{\"_index\":" ++ (json (v.Text name) ++ codes "}}")
 
+-- the line of an event's action
+abbrev pub action_line : Target → Ev → List ℕ
+action_line t e = action_of (text t.index e) ++ line_feed ∷ []
+
 -- two lines for an event: its action, and its JSON text without `@metadata`
 abbrev pub lines_of : Target → Ev → List ℕ
-lines_of t e = action_of (text t.index e) ++ (line_feed ∷ (json e.fields ++ line_feed ∷ []))
+lines_of t e = action_line t e ++ (json e.fields ++ line_feed ∷ [])
 
 abbrev pub body_of : Target → List Ev → List ℕ
 body_of t es = flat_map (lines_of t) es

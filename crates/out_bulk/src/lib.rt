@@ -1,6 +1,7 @@
 //! The output `elasticsearch`, which sends batches by requests of Elasticsearch's bulk API.
 #![tactic(auto)]
 
+mod action;
 mod bulk;
 mod fates;
 mod hosts;

@@ -2,14 +2,14 @@ ghost use Rattle.std.specs.Prelude.{◌≡◌, ◌++◌, length, IfOk, OnOk};
 ghost use Rattle.std.specs.Fmt.{decimal};
 ghost use Rattle.out_bulk.specs.Fates.{open_in};
 ghost use Rattle.out_bulk.specs.Requests as spec;
-ghost use Rattle.event_text.specs.Template.{text};
 ghost use Rattle.out_bulk.specs.Settings.{first_host, target_of};
-ghost use Rattle.out_bulk.specs.Written.{IsRequest};
+ghost use Rattle.out_bulk.specs.Written.{IsKeptLine, IsRequest};
 
+use crate::action::ActionLine;
 use crate::fates::is_settled;
 use crate::settings::BulkSettings;
 use event_text::write_json;
-use event_tree::{Event, Value};
+use event_tree::Event;
 use foreign_parts::Fate;
 use itoa::Buffer;
 use plain_data::Text;
@@ -61,20 +61,6 @@ fn first(hosts: &[Text]) -> &str
     }
 }
 
-// The name of the index of an event.
-fn index_of(
-    alloc: Global,
-    settings: &Option<BulkSettings>,
-    event: &Event,
-) -> Result<Text, AllocError>
-    ensures { IfOk result (λ name. name ≡ text (target_of settings.now).index event.now) }
-{
-    match settings {
-        Some(settings) => settings.index.fill(event),
-        None => Text::of(alloc, ""),
-    }
-}
-
 fn add_head(to: &mut Vec<u8>, host: &str, length: usize) -> Result<(), AllocError>
     ensures { OnOk result (to.new.items ≡ to.old.items ++ spec.head_of host.now length) }
 {
@@ -98,36 +84,32 @@ fn add_events(
     ensures count { IfOk result (λ count. count ≡ length (open_in events.now settled.now)) }
 {
     let mut count = 0;
+    let mut action = ActionLine::new(*to.allocator());
     for place in 0..events.len() {
         if is_settled(settled, place) {
             continue;
         }
-        add_event(to, settings, &events[place])?;
+        add_event(to, &mut action, settings, &events[place])?;
         count += 1;
     }
     Ok(count)
 }
 
+// Adds the lines of an event.
 fn add_event(
     to: &mut Vec<u8>,
+    action: &mut ActionLine,
     settings: &Option<BulkSettings>,
     event: &Event,
 ) -> Result<(), AllocError>
-    ensures { OnOk result (to.new.items
+    requires { IsKeptLine (target_of settings.now) action.old }
+    ensures kept { IsKeptLine (target_of settings.now) action.new }
+    ensures lines { OnOk result (to.new.items
         ≡ to.old.items ++ spec.lines_of (target_of settings.now) event.now) }
 {
-    add_action(to, index_of(*to.allocator(), settings, event)?)?;
-    to.push(b'\n')?;
+    action.set(settings, event)?;
+    to.extend_from_slice(action.as_bytes())?;
     write_json(event.fields(), to)?;
     to.push(b'\n')?;
-    Ok(())
-}
-
-fn add_action(to: &mut Vec<u8>, index: Text) -> Result<(), AllocError>
-    ensures { OnOk result (to.new.items ≡ to.old.items ++ spec.action_of index) }
-{
-    to.extend_from_slice(b"{\"index\":{\"_index\":")?;
-    write_json(&Value::Text(index), to)?;
-    to.extend_from_slice(b"}}")?;
     Ok(())
 }
