@@ -1,5 +1,6 @@
 -- What the body of a row says, by what `decode` and `decode_row` answer.
-use Rattle.std.proofs.Common.{◌≡◌, ◌≢◌, ◌⊎◌, inl, inr, ℕ, ◌-◌, ◌≤◌, ◌==◌, nat_lt, true, false, List, length, Result, Ok, Err, refl, sym, ap, ◌∙◌, subst, arith}
+use Rattle.std.specs.Prelude.{IfSome}
+use Rattle.std.proofs.Common.{◌≡◌, ◌≢◌, ◌↔◌, ◌⊎◌, inl, inr, ℕ, ◌-◌, ◌≤◌, ◌==◌, nat_lt, true, false, List, length, Option, Some, None, Result, Ok, Err, refl, sym, ap, ◌∙◌, subst, arith}
 use Rattle.std.proofs.lemmas.Bool.{cond-true, cond-false, cases_lt, eq-eqb}
 use Rattle.std.proofs.lemmas.Bool.Decides.{nat_tests}
 use Rattle.crc_frame.proofs.Numbers.{IsBytes}
@@ -10,7 +11,7 @@ use Rattle.element_code.specs.Parts.{event_spelling}
 use Rattle.element_code.specs.Values.{IsWhole}
 use Rattle.element_code.specs.Reading.{event_at}
 use Rattle.element_code.specs.Faults.{IsRefusedAt, long}
-use Rattle.element_code.specs.RowBodies.{RowBody, IsRowRefusedAt, short_event_at, row_at}
+use Rattle.element_code.specs.RowBodies.{RowBody, SpellsRow, IsRowRefusedAt, short_event_at, row_at}
 use Rattle.element_code.specs.declared.row.Origin.{Origin}
 use Rattle.element_code.specs.declared.row.Origin.TheVariants.{Unknown, Id}
 use Rattle.element_code.specs.declared.row.Row.{Row}
@@ -19,11 +20,11 @@ use Rattle.element_code.proofs.Sound.{event_sound}
 use Rattle.element_code.proofs.EventPlaces.{event_stops}
 use Rattle.element_code.proofs.OnePlace.{one_place, spelled_at_none}
 use Rattle.element_code.proofs.RowReads.{row_again, row_sound, row_stops, one_row_place, row_body_at_none}
-use Rattle.element_code.specs.Gives.{IsAt}
+use Rattle.element_code.specs.Gives.{IsAt, SpellsEvent}
 use Rattle.element_code.specs.declared.fault.ElementFault.{ElementFault}
 use Rattle.element_code.specs.declared.fault.ElementFault.TheVariants.{At}
 use Rattle.element_code.specs.declared.fault.ElementFault.TheVariants.{Memory as NoMemory}
-use Rattle.queue_page.specs.Answers.{TellsBody}
+use Rattle.queue_page.specs.Answers.{TellsBody, StopsBody}
 use Rattle.queue_page.specs.Bodies.{IsEventBody, IsBody, body_at}
 
 -- what is refused is refused there
@@ -102,6 +103,15 @@ body_lost_event version bytes NoMemory is fit refused = refused
 pub body_lost_row : (version : ℕ) (bytes : List ℕ) (fault : ElementFault) → version ≢ 1 → IsBytes bytes → IsAt {X = Row} (Err fault) (IsRowRefusedAt bytes) → TellsBody {X = Origin × Ev} (length bytes) (Err fault) (body_at version bytes)
 body_lost_row version bytes (At at) is fit refused = row_refused version bytes at is fit refused
 body_lost_row version bytes NoMemory is fit refused = refused
+
+-- a test of the bytes alone tells where they stop being one
+pub event_stops_body : (version : ℕ) (bytes : List ℕ) (fault : Option ℕ) → version ≡ 1 → IsBytes bytes → fault ≡ None ↔ SpellsEvent bytes → IfSome fault (IsRefusedAt bytes) → StopsBody {X = Origin × Ev} (length bytes) fault (body_at version bytes)
+event_stops_body version bytes None is fit none at = let s = none.0 refl in ((Unknown, s.0), event_said version bytes s.0 is s.1 s.2 s.3)
+event_stops_body version bytes (Some place) is fit none at = event_refused version bytes place is fit at
+
+pub row_stops_body : (version : ℕ) (bytes : List ℕ) (fault : Option ℕ) → version ≢ 1 → IsBytes bytes → fault ≡ None ↔ SpellsRow bytes → IfSome fault (IsRowRefusedAt bytes) → StopsBody {X = Origin × Ev} (length bytes) fault (body_at version bytes)
+row_stops_body version bytes None is fit none at = let s = none.0 refl in ((Id s.0, s.1), row_said version bytes s.0 s.1 is s.2)
+row_stops_body version bytes (Some place) is fit none at = row_refused version bytes place is fit at
 
 -- ---- what is read is a body
 

@@ -14,7 +14,7 @@ use Rattle.queue_page.specs.Bodies.{body_at}
 use Rattle.queue_page.specs.Views.{BlockView}
 use Rattle.queue_page.specs.Blocks.{IsFront, left_of, window_of}
 use Rattle.queue_page.proofs.Fronts.{length-left}
-use Rattle.queue_page.specs.Elements.{number_of, size_of, total_of, body_of, stored_crc, computed_crc, is_element, head_at, frame_at, element_at, misfit, and_then, row_by, body_misfit}
+use Rattle.queue_page.specs.Elements.{number_of, size_of, total_of, body_of, stored_crc, computed_crc, is_element, head_at, frame_at, element_at, next_of, misfit, and_then, row_by, body_misfit}
 use Rattle.queue_page.specs.declared.fault.Misfit.{Misfit}
 use Rattle.queue_page.specs.declared.fault.RowFault.{RowFault}
 use Rattle.queue_page.specs.declared.fault.RowFault.TheVariants as r
@@ -89,22 +89,15 @@ module _ (version number place : ℕ) (frame : List ℕ) where
   unfolding frame_at
   frame_good same = cond-true _ _ _ (eq-eqb _ _ same)
 
-  -- as the code has its numbers
-  pub code_damaged : (stored computed : ℕ) → stored ≡ stored_crc frame → computed ≡ computed_crc frame → stored ≢ computed
-      → frame_at version number place frame ≡ Err (misfit place stored computed)
-  code_damaged stored computed s c other =
-      frame_bad (λ same. other (s ∙ same ∙ sym c)) ∙ ap₂ (λ (x y : ℕ). Err (misfit place x y)) (sym s) (sym c)
+  -- as the code tells it of a body
+  pub code_row : (body : List ℕ) (said : Origin × Ev) → stored_crc frame ≡ computed_crc frame → body ≡ body_of frame → body_at version body ≡ Ok said → frame_at version number place frame ≡ row_by number place frame (Ok said)
+  code_row body said same is read = frame_good same ∙ ap (row_by number place frame) (ap (body_at version) (sym is) ∙ read)
 
-  pub code_row : (stored computed : ℕ) (body : List ℕ) (origin : Origin) (event : Ev) → stored ≡ stored_crc frame → computed ≡ computed_crc frame → stored ≡ computed → body ≡ body_of frame
-      → body_at version body ≡ Ok (origin, event) → frame_at version number place frame ≡ Ok (record { number = number; origin = origin; event = event; next = place + length frame })
-  code_row stored computed body origin event s c same is said =
-      frame_good (sym s ∙ same ∙ c) ∙ ap (row_by number place frame) (ap (body_at version) (sym is) ∙ said)
-
-  pub code_refused : (stored computed : ℕ) (body : List ℕ) (at : ℕ) → stored ≡ stored_crc frame → computed ≡ computed_crc frame → stored ≡ computed → body ≡ body_of frame
-      → at ≤ length body → body_at version body ≡ Err (length body - at) → frame_at version number place frame ≡ Err (body_misfit place (length body) at)
-  code_refused stored computed body at s c same is low said =
+  pub code_refused : (body : List ℕ) (at : ℕ) → stored_crc frame ≡ computed_crc frame → body ≡ body_of frame → at ≤ length body → body_at version body ≡ Err (length body - at)
+      → frame_at version number place frame ≡ Err (body_misfit place (length body) at)
+  code_refused body at same is low read =
       let there : length body - (length body - at) ≡ at = omega (arith, low) in
-      frame_good (sym s ∙ same ∙ c) ∙ ap (row_by number place frame) (ap (body_at version) (sym is) ∙ said)
+      frame_good same ∙ ap (row_by number place frame) (ap (body_at version) (sym is) ∙ read)
       ∙ ap (λ (b : List ℕ). Err (body_misfit place (length b) (length b - (length body - at)))) (sym is)
       ∙ ap (λ (k : ℕ). Err (body_misfit place (length body) k)) there
 
@@ -166,17 +159,32 @@ unfolding element_at
 element_is version number place bytes left total is head =
     ap (λ (h : Result ℕ Misfit). and_then h (λ t. frame_at version number place (take t bytes))) (ap (λ n. head_at number place n bytes) (sym is) ∙ head)
 
+-- the frame in what a block holds is that of the element
+pub element_framed : (version number place end total : ℕ) (file window held : List ℕ) → end ≤ length file → head_at number place (end - place) (left_of file place end) ≡ Ok total → held ≡ window
+    → take total window ≡ take total (left_of file place end) → frame_at version number place (take total held) ≡ element_at version number place (left_of file place end)
+element_framed version number place end total file window held within head is same =
+    ap (frame_at version number place) (ap (take total) is ∙ same)
+    ∙ sym (element_is version number place (left_of file place end) (end - place) total (sym (length-left file place end within)) head)
+
 pub element_misfit : (version number place : ℕ) (bytes : List ℕ) (left : ℕ) (fault : Misfit) → left ≡ length bytes → head_at number place left bytes ≡ Err fault → element_at version number place bytes ≡ Err fault
 unfolding element_at
 element_misfit version number place bytes left fault is head =
     ap (λ (h : Result ℕ Misfit). and_then h (λ t. frame_at version number place (take t bytes))) (ap (λ n. head_at number place n bytes) (sym is) ∙ head)
 
 -- what was told of the head is told of the element, where it is at fault
-pub tells_element : (version number place : ℕ) (bytes : List ℕ) (left : ℕ) (fault : RowFault) → left ≡ length bytes → Tells (λ total. total) (Err fault) (head_at number place left bytes)
+pub tells_element : {Y : Type 0} (view : Y → Y) (f : PageRow → Result Y Misfit) (version number place : ℕ) (bytes : List ℕ) (left : ℕ) (fault : RowFault) → left ≡ length bytes → Tells (λ total. total) (Err fault) (head_at number place left bytes)
+    → Tells view (Err fault) (and_then (element_at version number place bytes) f)
+tells_element view f version number place bytes left (r.Misfit m) is told = ap (λ e. and_then e f) (element_misfit version number place bytes left m is told)
+tells_element view f version number place bytes left r.Fault is told = told
+tells_element view f version number place bytes left r.Memory is told = told
+
+and_then_all : (read : Result PageRow Misfit) → and_then read (λ row. Ok row) ≡ read
+and_then_all (Ok row) = refl
+and_then_all (Err m) = refl
+
+pub tells_row : (version number place : ℕ) (bytes : List ℕ) (left : ℕ) (fault : RowFault) → left ≡ length bytes → Tells (λ total. total) (Err fault) (head_at number place left bytes)
     → Tells (λ (row : PageRow). row) (Err fault) (element_at version number place bytes)
-tells_element version number place bytes left (r.Misfit m) is told = element_misfit version number place bytes left m is told
-tells_element version number place bytes left r.Fault is told = told
-tells_element version number place bytes left r.Memory is told = told
+tells_row version number place bytes left fault is told = subst (Tells (λ (row : PageRow). row) (Err fault)) (and_then_all (element_at version number place bytes)) (tells_element (λ (row : PageRow). row) (λ row. Ok row) version number place bytes left fault is told)
 
 -- ---- what was read of an element
 
@@ -186,6 +194,18 @@ and_then_ok (Err e) f y h = absurd cc
 
 abbrev ok_misfit : ℕ → Result ℕ Misfit
 ok_misfit n = Ok n
+
+-- the row of which the place behind it was told
+pub next_row : (read : Result PageRow Misfit) (next : ℕ) → next_of read ≡ Ok next → (row : PageRow) × (read ≡ Ok row) × (next ≡ row.next)
+next_row (Ok row) next h =
+    let made : ok_misfit row.next ≡ ok_misfit next = h in
+    let same : row.next ≡ next = cc in
+    (row, refl, sym same)
+next_row (Err m) next h = let none : Err m ≡ ok_misfit next = h in absurd cc
+
+pub next_misfit : (read : Result PageRow Misfit) (m : Misfit) → next_of read ≡ Err m → read ≡ Err m
+next_misfit (Ok row) m h = let none : ok_misfit row.next ≡ Err m = h in absurd cc
+next_misfit (Err e) m h = let same : e ≡ m = cc in ap Err same
 
 abbrev the_row : ℕ → ℕ → List ℕ → Origin × Ev → PageRow
 the_row number place frame said = record { number = number; origin = said.0; event = said.1; next = place + length frame }

@@ -1,5 +1,5 @@
 -- What a call answers that reads a page, beside what the bytes say.
-use Rattle.std.specs.Prelude.{◌≡◌, ◌≤◌, ℕ, ◌-◌, List, Result, Ok, Err, ⊤}
+use Rattle.std.specs.Prelude.{◌≡◌, ◌≤◌, ℕ, ◌-◌, List, Option, Some, None, Result, Ok, Err, ⊤}
 use Rattle.element_code.specs.declared.fault.ElementFault.{ElementFault}
 use Rattle.element_code.specs.declared.fault.ElementFault.TheVariants.{At}
 use Rattle.element_code.specs.declared.fault.ElementFault.TheVariants.{Memory as NoMemory}
@@ -15,6 +15,11 @@ abbrev pub TellsBody : {X : Type 0} → ℕ → Result X ElementFault → Result
 TellsBody len (Ok said) read = read ≡ Ok said
 TellsBody len (Err (At at)) read = (at ≤ len) × (read ≡ Err (len - at))
 TellsBody len (Err NoMemory) read = ⊤
+
+-- a body stops being one there, if it does, and else something was read of it
+abbrev pub StopsBody : {X : Type 0} → ℕ → Option ℕ → Result X ℕ → Type 0
+StopsBody len (Some at) read = (at ≤ len) × (read ≡ Err (len - at))
+StopsBody {X} len None read = (said : X) × (read ≡ Ok said)
 
 -- what was read is this, or this is at fault, where the store and memory lasted
 abbrev pub Tells : {X Y : Type 0} → (X → Y) → Result X RowFault → Result Y Misfit → Type 0

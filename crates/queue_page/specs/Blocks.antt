@@ -1,5 +1,5 @@
 -- A part of a file that is held in memory.
-use Rattle.std.specs.Prelude.{◌≡◌, ◌≤◌, ◌<◌, ℕ, ◌-◌, min, IsTrue, List, length, take, drop, get_or}
+use Rattle.std.specs.Prelude.{◌≡◌, ◌≤◌, ◌<◌, ℕ, ◌+◌, ◌-◌, min, IsTrue, List, length, take, drop, get_or}
 use Rattle.io_traits.specs.Reads.{bytes_of}
 use Rattle.store_trait.specs.declared.stores.Store.{Ghosts as StoreWords}
 use Rattle.queue_page.specs.Views.{BlockView}
@@ -11,6 +11,12 @@ IsPart file block = block.bytes ≡ take (length block.bytes) (drop block.place 
 -- what it holds from a place on, up to another
 abbrev pub window_of : BlockView → ℕ → ℕ → List ℕ
 window_of block place end = take (end - place) (drop (place - block.place) block.bytes)
+
+-- it holds so many bytes from a place on, which it has from there up to another
+pub record HoldsFrom (block : BlockView) (place end count : ℕ) : Type 0 where
+  pub from : block.place ≤ place
+  pub held : place ≤ block.place + length block.bytes
+  pub enough : count ≤ length (window_of block place end)
 
 -- so many of the first of these bytes, or all, and maybe more of them
 pub record IsFront (bytes : List ℕ) (count : ℕ) (front : List ℕ) : Type 0 where

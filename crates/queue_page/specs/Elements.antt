@@ -68,3 +68,7 @@ frame_at version number place frame =
 -- the row of this number at the front of these bytes, or the element's first fault
 unfoldable pub element_at : ℕ → ℕ → ℕ → List ℕ → Result PageRow Misfit
 element_at version number place bytes = and_then (head_at number place (length bytes) bytes) (λ total. frame_at version number place (take total bytes))
+
+-- the place behind the row that was read
+abbrev pub next_of : Result PageRow Misfit → Result ℕ Misfit
+next_of read = and_then read (λ row. Ok row.next)

@@ -1,11 +1,11 @@
 // One element of a page, read and tested.
-ghost use Rattle.std.specs.Prelude.{◌≡◌, ◌≢◌, ◌≤◌, ◌<◌, ◌+◌, ◌-◌, ◌^◌, drop, take, length, IfOk, Ok, Err};
+ghost use Rattle.std.specs.Prelude.{◌≡◌, ◌≢◌, ◌≤◌, ◌<◌, ◌+◌, ◌-◌, ◌^◌, drop, take, length, IfOk, IfErr, OnOk, Ok, Err};
 ghost use Rattle.io_traits.specs.Counts.{HasCause};
 ghost use Rattle.store_trait.specs.Calls.{ChangesNothing};
-ghost use Rattle.queue_page.specs.Answers.{TellsBody, Tells};
+ghost use Rattle.queue_page.specs.Answers.{TellsBody, StopsBody, Tells, IsNoMisfit};
 ghost use Rattle.queue_page.specs.Bodies.{body_at};
-ghost use Rattle.queue_page.specs.Blocks.{AreBytesIn, IsPart, OnFile, left_of};
-ghost use Rattle.queue_page.specs.Elements.{number_of, size_of, head_at, frame_at, element_at, body_misfit};
+ghost use Rattle.queue_page.specs.Blocks.{AreBytesIn, IsPart, HoldsFrom, OnFile, left_of, window_of};
+ghost use Rattle.queue_page.specs.Elements.{number_of, size_of, body_of, stored_crc, computed_crc, misfit, head_at, frame_at, element_at, next_of, body_misfit};
 ghost use Rattle.queue_page.specs.declared.fault.RowFault.TheVariants as r;
 
 use crate::block::Block;
@@ -13,7 +13,7 @@ use crate::fault::{Misfit, RowFault};
 use crate::row::PageRow;
 use byteorder::{BigEndian, ByteOrder};
 use crc_frame::crc32;
-use element_code::{ElementFault, Origin, decode, decode_row};
+use element_code::{ElementFault, Origin, decode, decode_row, event_fault, row_fault};
 use event_tree::Event;
 use std::alloc::Global;
 use store_disk::Store;
@@ -100,6 +100,17 @@ fn said_in(alloc: Global, version: u8, body: &[u8]) -> Result<(Origin, Event), E
     }
 }
 
+/// Where a body stops being one in a page of this version; none where it says a row.
+fn fault_in(version: u8, body: &[u8]) -> Option<usize>
+    ensures { StopsBody (length body.now) result (body_at version body.now) }
+{
+    if version == 1 {
+        event_fault(body)
+    } else {
+        row_fault(body)
+    }
+}
+
 /// What is wrong with a body of so many bytes that stops being one there.
 fn body_misfit(place: u64, len: u64, at: u64) -> Misfit
     requires { len < 2 ^ 63 }
@@ -112,6 +123,27 @@ fn body_misfit(place: u64, len: u64, at: u64) -> Misfit
     }
 }
 
+/// The body of the element that these bytes are, whose CRC-32 matches.
+fn body_in<'f>(spot: &Spot, frame: &'f [u8]) -> Result<&'f [u8], Misfit>
+    requires long { 16 ≤ length frame.now }
+    ensures body { IfOk result (λ body. body.now ≡ body_of frame.now) }
+    ensures matches { OnOk result (stored_crc frame.now ≡ computed_crc frame.now) }
+    ensures differs { IfErr result (λ fault. (stored_crc frame.now ≢ computed_crc frame.now)
+        × (fault ≡ misfit spot.now.place (stored_crc frame.now) (computed_crc frame.now))) }
+{
+    let (covered, crc) = frame.split_at(frame.len() - CRC_LEN);
+    let stored = BigEndian::read_u32(crc);
+    let computed = crc32(covered);
+    if stored != computed {
+        return Err(Misfit {
+            place: spot.place,
+            found: u64::from(stored),
+            expected: u64::from(computed),
+        });
+    }
+    Ok(&covered[HEAD_LEN..])
+}
+
 /// The row of the element that these bytes are.
 fn row_in(alloc: Global, spot: &Spot, frame: &[u8]) -> Result<PageRow, RowFault>
     requires long { 16 ≤ length frame.now }
@@ -122,17 +154,7 @@ fn row_in(alloc: Global, spot: &Spot, frame: &[u8]) -> Result<PageRow, RowFault>
     ensures bytes { AreBytesIn 0 (length frame.now) frame.now }
     ensures fault { result ≢ Err r.Fault }
 {
-    let (covered, crc) = frame.split_at(frame.len() - CRC_LEN);
-    let stored = BigEndian::read_u32(crc);
-    let computed = crc32(covered);
-    if stored != computed {
-        return Err(RowFault::Misfit(Misfit {
-            place: spot.place,
-            found: u64::from(stored),
-            expected: u64::from(computed),
-        }));
-    }
-    let body = &covered[HEAD_LEN..];
+    let body = body_in(spot, frame)?;
     match said_in(alloc, spot.version, body) {
         Ok((origin, event)) => Ok(PageRow {
             number: spot.number,
@@ -146,6 +168,22 @@ fn row_in(alloc: Global, spot: &Spot, frame: &[u8]) -> Result<PageRow, RowFault>
             at as u64,
         ))),
         Err(ElementFault::Memory) => Err(RowFault::Memory),
+    }
+}
+
+/// Tests the element that these bytes are, of which no row is made, and gives the place behind it.
+fn next_in(spot: &Spot, frame: &[u8]) -> Result<u64, Misfit>
+    requires long { 16 ≤ length frame.now }
+    requires fits { spot.now.place + length frame.now < 2 ^ 64 }
+    ensures next { result ≡ next_of
+        (frame_at spot.now.version spot.now.number spot.now.place frame.now) }
+    ensures behind { IfOk result (λ next. next ≡ spot.now.place + length frame.now) }
+    ensures bytes { AreBytesIn 0 (length frame.now) frame.now }
+{
+    let body = body_in(spot, frame)?;
+    match fault_in(spot.version, body) {
+        None => Ok(spot.place + frame.len() as u64),
+        Some(at) => Err(body_misfit(spot.place, body.len() as u64, at as u64)),
     }
 }
 
@@ -172,38 +210,65 @@ fn read_total<S: Store>(
     Ok(total_at(spot, block.window(spot.place, spot.end))?)
 }
 
-/// Reads an element that has so many bytes as a whole.
+/// Reads an element that has so many bytes as a whole, so that the block holds it.
 fn read_frame<S: Store>(
-    alloc: Global,
     store: &mut S,
     name: &str,
     block: &mut Block,
     spot: &Spot,
     total: u64,
-) -> Result<PageRow, RowFault>
-    requires long { 16 ≤ total }
+) -> Result<(), RowFault>
     requires within { spot.now.place + total ≤ spot.now.end }
-    ensures row { OnFile S.Store store.old name.now block.old (λ file.
+    ensures frame { OnOk result (OnFile S.Store store.old name.now block.old (λ file.
         spot.now.end ≤ length file
-        → Tells (λ row. row) result (frame_at spot.now.version spot.now.number spot.now.place
-        (take total (left_of file spot.now.place spot.now.end)))) }
-    ensures next { IfOk result (λ row. row.next ≡ spot.now.place + total) }
-    ensures bytes { IfOk result (λ row. OnFile S.Store store.old name.now block.old (λ file.
-        spot.now.end ≤ length file → AreBytesIn spot.now.place row.next file)) }
+        → take total (window_of block.new spot.now.place spot.now.end)
+        ≡ take total (left_of file spot.now.place spot.now.end))) }
+    ensures whole { OnFile S.Store store.old name.now block.old (λ file.
+        spot.now.end ≤ length file → IfErr result (λ fault. IsNoMisfit fault)) }
+    ensures held { OnOk result (HoldsFrom block.new spot.now.place spot.now.end total) }
     ensures part { OnFile S.Store store.old name.now block.old (λ file. IsPart file block.new) }
     ensures same { ChangesNothing S.tells S.seen S.moment S.may_leave store.old store.new }
     ensures cause { HasCause (S.faults store.old) (S.faults store.new) (result ≡ Err r.Fault) }
 {
     block.fill(store, name, spot.place, total as usize)?;
-    let bytes = block.window(spot.place, spot.end);
-    if (bytes.len() as u64) < total {
+    let held = block.window(spot.place, spot.end).len() as u64;
+    if held < total {
         return Err(RowFault::Misfit(Misfit {
             place: spot.place,
             found: spot.place.wrapping_add(total),
-            expected: spot.place.wrapping_add(bytes.len() as u64),
+            expected: spot.place.wrapping_add(held),
         }));
     }
-    row_in(alloc, spot, &bytes[..total as usize])
+    Ok(())
+}
+
+/// Reads the element that is wanted there, so that the block holds it, and gives how many bytes it has.
+fn read_whole<S: Store>(
+    store: &mut S,
+    name: &str,
+    block: &mut Block,
+    spot: &Spot,
+) -> Result<u64, RowFault>
+    requires { spot.now.place ≤ spot.now.end }
+    ensures total { OnFile S.Store store.old name.now block.old (λ file.
+        spot.now.end ≤ length file
+        → Tells (λ total. total) result (head_at spot.now.number spot.now.place
+        (spot.now.end - spot.now.place)
+        (left_of file spot.now.place spot.now.end))) }
+    ensures frame { IfOk result (λ total. OnFile S.Store store.old name.now block.old (λ file.
+        spot.now.end ≤ length file
+        → take total (window_of block.new spot.now.place spot.now.end)
+        ≡ take total (left_of file spot.now.place spot.now.end))) }
+    ensures within { IfOk result (λ total. (16 ≤ total) × (spot.now.place + total ≤ spot.now.end)) }
+    ensures held { IfOk result (λ total.
+        HoldsFrom block.new spot.now.place spot.now.end total) }
+    ensures part { OnFile S.Store store.old name.now block.old (λ file. IsPart file block.new) }
+    ensures same { ChangesNothing S.tells S.seen S.moment S.may_leave store.old store.new }
+    ensures cause { HasCause (S.faults store.old) (S.faults store.new) (result ≡ Err r.Fault) }
+{
+    let total = read_total(store, name, block, spot)?;
+    read_frame(store, name, block, spot, total)?;
+    Ok(total)
 }
 
 /// Reads the element that is wanted there.
@@ -227,8 +292,35 @@ pub(crate) fn read_element<S: Store>(
     ensures same { ChangesNothing S.tells S.seen S.moment S.may_leave store.old store.new }
     ensures cause { HasCause (S.faults store.old) (S.faults store.new) (result ≡ Err r.Fault) }
 {
-    let total = read_total(store, name, block, spot)?;
-    read_frame(alloc, store, name, block, spot, total)
+    let total = read_whole(store, name, block, spot)?;
+    let bytes = block.window(spot.place, spot.end);
+    row_in(alloc, spot, &bytes[..total as usize])
+}
+
+/// Tests the element that is wanted there as `read_element` reads it, but no row is made of it, and gives
+/// the place behind it.
+pub(crate) fn test_element<S: Store>(
+    store: &mut S,
+    name: &str,
+    block: &mut Block,
+    spot: &Spot,
+) -> Result<u64, RowFault>
+    requires { spot.now.place ≤ spot.now.end }
+    ensures next { OnFile S.Store store.old name.now block.old (λ file.
+        spot.now.end ≤ length file
+        → Tells (λ next. next) result (next_of (element_at spot.now.version spot.now.number
+        spot.now.place (left_of file spot.now.place spot.now.end)))) }
+    ensures within { IfOk result (λ next. (spot.now.place + 16 ≤ next)
+        × (next ≤ spot.now.end)) }
+    ensures bytes { IfOk result (λ next. OnFile S.Store store.old name.now block.old (λ file.
+        spot.now.end ≤ length file → AreBytesIn spot.now.place next file)) }
+    ensures part { OnFile S.Store store.old name.now block.old (λ file. IsPart file block.new) }
+    ensures same { ChangesNothing S.tells S.seen S.moment S.may_leave store.old store.new }
+    ensures cause { HasCause (S.faults store.old) (S.faults store.new) (result ≡ Err r.Fault) }
+{
+    let total = read_whole(store, name, block, spot)?;
+    let bytes = block.window(spot.place, spot.end);
+    Ok(next_in(spot, &bytes[..total as usize])?)
 }
 
 /// Reads the number of the element that stands there.

@@ -12,7 +12,6 @@ use crate::element::Spot;
 use crate::fault::{Misfit, RowFault};
 use crate::page::Page;
 use crate::run::read_run;
-use std::alloc::Global;
 use store_disk::{PageState, Store};
 
 /// The version of a page whose rows name no input.
@@ -52,7 +51,6 @@ pub(crate) fn is_version(version: u8) -> bool
 
 /// The elements of a page of this version, within its recorded extent.
 fn read_elements<S: Store>(
-    alloc: Global,
     store: &mut S,
     name: &str,
     block: &mut Block,
@@ -77,7 +75,7 @@ fn read_elements<S: Store>(
         place: 1,
         end: state.length,
     };
-    let found = read_run(alloc, store, name, block, first, state.length)?;
+    let found = read_run(store, name, block, first, state.length)?;
     if let Some(misfit) = found.stop {
         return Err(RowFault::Misfit(misfit));
     }
@@ -93,7 +91,6 @@ fn read_elements<S: Store>(
 
 /// The page within its recorded extent, in a file of so many bytes.
 pub(crate) fn read_recorded<S: Store>(
-    alloc: Global,
     store: &mut S,
     name: &str,
     block: &mut Block,
@@ -125,7 +122,7 @@ pub(crate) fn read_recorded<S: Store>(
             expected: u64::from(LAST_VERSION),
         }));
     }
-    read_elements(alloc, store, name, block, state, version)
+    read_elements(store, name, block, state, version)
 }
 
 /// How many more elements a page may take.
@@ -142,7 +139,6 @@ fn room_of(state: &PageState) -> u64
 
 /// The page with the run of elements behind its recorded extent, in a file of so many bytes.
 pub(crate) fn read_behind<S: Store>(
-    alloc: Global,
     store: &mut S,
     name: &str,
     block: &mut Block,
@@ -168,13 +164,12 @@ pub(crate) fn read_behind<S: Store>(
         place: state.length,
         end: len,
     };
-    let found = read_run(alloc, store, name, block, first, room_of(&state))?;
+    let found = read_run(store, name, block, first, room_of(&state))?;
     Ok(page.extended(found.count as u32, found.end))
 }
 
 /// The page in a file of so many bytes; of the head page with the run behind its recorded extent.
 pub(crate) fn read_page<S: Store>(
-    alloc: Global,
     store: &mut S,
     name: &str,
     block: &mut Block,
@@ -192,9 +187,9 @@ pub(crate) fn read_page<S: Store>(
     ensures same { ChangesNothing S.tells S.seen S.moment S.may_leave store.old store.new }
     ensures cause { HasCause (S.faults store.old) (S.faults store.new) (result ≡ Err r.Fault) }
 {
-    let page = read_recorded(alloc, store, name, block, state, len)?;
+    let page = read_recorded(store, name, block, state, len)?;
     if !head {
         return Ok(page);
     }
-    read_behind(alloc, store, name, block, page, len)
+    read_behind(store, name, block, page, len)
 }

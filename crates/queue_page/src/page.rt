@@ -305,7 +305,7 @@ fn scan_file<S: Store>(
     ensures cause { HasCause (S.faults store.old) (S.faults store.new) (result ≡ Err f.Fault) }
 {
     let mut block = Block::new(alloc, BLOCK_LEN)?;
-    match read_page(alloc, store, name, &mut block, state, head, len) {
+    match read_page(store, name, &mut block, state, head, len) {
         Ok(page) => Ok(page),
         Err(fault) => Err(named(alloc, name, fault)),
     }

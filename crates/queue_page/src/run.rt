@@ -8,9 +8,8 @@ ghost use Rattle.queue_page.specs.Answers.{Tells};
 ghost use Rattle.queue_page.specs.declared.fault.RowFault.TheVariants as r;
 
 use crate::block::Block;
-use crate::element::{Spot, read_element};
+use crate::element::{Spot, test_element};
 use crate::fault::{Misfit, RowFault};
-use std::alloc::Global;
 use store_disk::Store;
 
 /// Where a run of elements ends.
@@ -26,7 +25,6 @@ pub(crate) struct RunEnd {
 
 /// Reads at most so many elements, the first of which is wanted there, up to the first that is at fault.
 pub(crate) fn read_run<S: Store>(
-    alloc: Global,
     store: &mut S,
     name: &str,
     block: &mut Block,
@@ -52,11 +50,11 @@ pub(crate) fn read_run<S: Store>(
     let mut spot = first;
     let mut count = 0;
     while count < limit && spot.place < spot.end {
-        match read_element(alloc, store, name, block, &spot) {
-            Ok(row) => {
+        match test_element(store, name, block, &spot) {
+            Ok(next) => {
                 count += 1;
                 spot.number += 1;
-                spot.place = row.next;
+                spot.place = next;
             }
             Err(RowFault::Misfit(misfit)) => {
                 return Ok(RunEnd {
