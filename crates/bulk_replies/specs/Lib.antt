@@ -4,5 +4,8 @@ pub mod Bodies
 pub mod Fronts
 pub mod Heads
 pub mod Answers
+pub mod Taken
+pub mod Plain
+pub mod Sayings
 pub mod Reading
 pub mod Replies

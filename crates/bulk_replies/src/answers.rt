@@ -1,17 +1,51 @@
-ghost use Rattle.std.specs.Prelude.{◌≡◌, IfOk, option_map, map, option_and_then, codes};
-ghost use Rattle.serde_json.specs.Find.{as_array, get};
-ghost use Rattle.serde_json.specs.View.{view, items_view};
+ghost use Rattle.std.specs.Prelude.{◌≡◌, ◌++◌, ◌∷◌, [], IfOk, option_map, map, option_and_then};
+ghost use Rattle.serde_json.specs.Data.{Members, object, put};
+ghost use Rattle.serde_json.specs.Find.{as_array};
 ghost use Rattle.bulk_replies.specs.Answers as spec;
-ghost use Rattle.bulk_replies.specs.Answers.{said_of};
+ghost use Rattle.bulk_replies.specs.Answers.{answers_of, items_answers, said_of};
 ghost use Rattle.bulk_replies.specs.Reading.{SaysOf};
+ghost use Rattle.bulk_replies.specs.Sayings.{answer_of, said_in};
+ghost use Rattle.bulk_replies.specs.Taken.{TakesOr};
 
+use crate::item::{Saying, take_item};
+use crate::passing::{Wanted, pass, take};
 use crate::said::Said;
+use json::{Invalid, Reader, Scratch};
 use plain_data::{Items, Text};
-use serde_json::Value;
 use std::alloc::{AllocError, Global};
+use std::str;
 
 /// How many bytes the reason of a rejection has at most.
 const MOST_REASON: usize = 65_536;
+
+/// Why a part of a body wasn't read.
+enum Fault {
+    /// The body isn't JSON as `serde_json` reads it.
+    Invalid,
+    Memory,
+}
+
+impl From<Invalid> for Fault {
+    ghost use Rattle.std.specs.Prelude.{◌≡◌};
+    ghost use Rattle.bulk_replies.specs.declared.answers.Fault.TheVariants as fault;
+
+    ghost from_gives = { λ _ fault'. fault' ≡ fault.Invalid };
+
+    fn from(_: Invalid) -> Fault {
+        Fault::Invalid
+    }
+}
+
+impl From<AllocError> for Fault {
+    ghost use Rattle.std.specs.Prelude.{◌≡◌};
+    ghost use Rattle.bulk_replies.specs.declared.answers.Fault.TheVariants as fault;
+
+    ghost from_gives = { λ _ fault'. fault' ≡ fault.Memory };
+
+    fn from(_: AllocError) -> Fault {
+        Fault::Memory
+    }
+}
 
 /// What the body of a reply says of so many events. None where it doesn't say it of each of them.
 pub(crate) fn read_answers(
@@ -21,114 +55,116 @@ pub(crate) fn read_answers(
 ) -> Result<Option<Items<Said>>, AllocError>
     ensures { IfOk result (SaysOf count body.now) }
 {
-    match Value::from_slice(alloc, body) {
-        Ok(value) => answers_in(alloc, &value, count),
-        Err(error) if error.is_memory() => Err(AllocError),
+    match str::from_utf8(body) {
+        Ok(text) => answers_in(alloc, text, count),
         Err(_) => Ok(None),
     }
 }
 
-fn answers_in(alloc: Global, value: &Value, count: usize) -> Result<Option<Items<Said>>, AllocError>
-    ensures { IfOk result
-        (λ said. said ≡ option_map (map said_of) (spec.answers_in count (view value.now))) }
+fn answers_in(alloc: Global, text: &str, count: usize) -> Result<Option<Items<Said>>, AllocError>
+    ensures { IfOk result (λ said. said ≡ option_map (map said_of) (answers_of count text.now)) }
 {
-    let Some(items) = items_of(value) else {
-        return Ok(None);
+    let mut scratch = Scratch::new(alloc);
+    let mut reader = Reader::new(text, &mut scratch)?;
+    let said = match take_body(alloc, &mut reader, count) {
+        Ok(said) => said,
+        Err(Fault::Invalid) => return Ok(None),
+        Err(Fault::Memory) => return Err(AllocError),
     };
-    match said_of_each(alloc, items.as_slice())? {
+    if reader.next().is_some() {
+        return Ok(None);
+    }
+    match said {
         Some(said) if said.len() == count => Ok(Some(said)),
         Some(_) | None => Ok(None),
     }
 }
 
-fn items_of(value: &Value) -> Option<&Vec<Value>>
-    ensures { option_map (λ items. items_view items.now.items) result
-        ≡ option_and_then as_array (get (codes "items") (view value.now)) }
+// What the items of the body say.
+fn take_body(
+    alloc: Global,
+    reader: &mut Reader<'_>,
+    count: usize,
+) -> Result<Option<Items<Said>>, Fault>
+    ensures { TakesOr Fault.Memory 127 reader.old reader.new (λ d said. said ≡ said_in d) result }
 {
-    value.get("items")?.as_array()
+    let None = take(reader, Wanted::Object, 127)? else {
+        return Ok(None);
+    };
+    let mut said = None;
+    while let Some(key) = reader.next_key()? {
+        said = with_member(alloc, reader, count, said, key)?;
+    }
+    Ok(said)
 }
 
-#[tactic(auto, using(crate::proofs::ItemRuns::saying))]
-fn said_of_each(alloc: Global, items: &[Value]) -> Result<Option<Items<Said>>, AllocError>
-    ensures { IfOk result
-        (λ said. said ≡ option_map (map said_of) (spec.items_answers (items_view items.now))) }
+// What the items of the body say, with its next member.
+fn with_member(
+    alloc: Global,
+    reader: &mut Reader<'_>,
+    count: usize,
+    said: Option<Items<Said>>,
+    key: &str,
+) -> Result<Option<Items<Said>>, Fault>
+    ensures { TakesOr Fault.Memory 126 reader.old reader.new (λ d more. (ms : Members)
+        → said ≡ said_in (object ms) → more ≡ said_in (object (put key.now d ms))) result }
 {
-    let mut said = Items::with_capacity(alloc, items.len())?;
-    for item in items {
-        let Some(answer) = said_of(alloc, item)? else {
-            return Ok(None);
-        };
-        said.push(answer)?;
+    if key == "items" {
+        return take_items(alloc, reader, count);
     }
+    pass(reader, 126)?;
+    Ok(said)
+}
+
+// What the items say that stand next, of which so many are awaited. None where one of them says nothing.
+fn take_items(
+    alloc: Global,
+    reader: &mut Reader<'_>,
+    count: usize,
+) -> Result<Option<Items<Said>>, Fault>
+    ensures { TakesOr Fault.Memory 126 reader.old reader.new (λ d said. said
+        ≡ option_map (map said_of) (option_and_then items_answers (as_array d))) result }
+{
+    let None = take(reader, Wanted::List, 126)? else {
+        return Ok(None);
+    };
+    let mut said = Some(Items::with_capacity(alloc, count)?);
+    while !reader.take_end_array() {
+        let saying = take_item(reader)?;
+        said = with_one(said, said_of(alloc, saying)?)?;
+    }
+    Ok(said)
+}
+
+fn with_one(said: Option<Items<Said>>, one: Option<Said>) -> Result<Option<Items<Said>>, AllocError>
+    ensures { IfOk result (λ more. more
+        ≡ option_and_then (λ before. option_map (λ s. before ++ s ∷ []) one) said) }
+{
+    let (Some(mut said), Some(one)) = (said, one) else {
+        return Ok(None);
+    };
+    said.push(one)?;
     Ok(Some(said))
 }
 
-// What an item says: its one key has an object with a status.
-fn said_of(alloc: Global, item: &Value) -> Result<Option<Said>, AllocError>
-    ensures { IfOk result (λ said. said ≡ option_map said_of (spec.item_answer (view item.now))) }
+// What an item says: its status tells what it is.
+fn said_of(alloc: Global, saying: Option<Saying<'_>>) -> Result<Option<Said>, AllocError>
+    ensures { IfOk result (λ said. said ≡ option_map said_of (answer_of saying.entry)) }
 {
-    let Some(inner) = only_value(item) else {
-        return Ok(None);
-    };
-    let Some(status) = status_in(inner) else {
+    let Some(
+        Saying {
+            status: Some(status),
+            reason,
+        },
+    ) = saying
+    else {
         return Ok(None);
     };
     Ok(Some(match status {
         200..=299 => Said::Took,
-        400 | 404 => Said::Rejected(status, Text::of(alloc, cut(reason_in(inner)))?),
+        400 | 404 => Said::Rejected(status, Text::of(alloc, cut(reason))?),
         _ => Said::Again,
     }))
-}
-
-// The value of an object that has one key.
-fn only_value(value: &Value) -> Option<&Value>
-    ensures { option_map (λ v. view v.now) result ≡ spec.only_value (view value.now) }
-{
-    let members = value.as_object()?;
-    if members.len() != 1 {
-        return None;
-    }
-    let (_, only) = members.first_key_value()?;
-    Some(only)
-}
-
-fn status_in(value: &Value) -> Option<u16>
-    ensures { result ≡ spec.status_in (view value.now) }
-{
-    let status = value.get("status")?.as_u64()?;
-    if status <= 65_535 {
-        Some(status as u16)
-    } else {
-        None
-    }
-}
-
-// Why an event was refused: the reason of its error, else the type, else nothing.
-fn reason_in(value: &Value) -> &str
-    ensures { result.now ≡ spec.reason_in (view value.now) }
-{
-    match value.get("error") {
-        Some(error) => error_text(error),
-        None => "",
-    }
-}
-
-fn error_text(error: &Value) -> &str
-    ensures { result.now ≡ spec.error_text (view error.now) }
-{
-    if let Some(reason) = text_at(error, "reason") {
-        return reason;
-    }
-    match text_at(error, "type") {
-        Some(kind) => kind,
-        None => "",
-    }
-}
-
-fn text_at<'a>(value: &'a Value, name: &str) -> Option<&'a str>
-    ensures { option_map (λ s. s.now) result ≡ spec.text_at name.now (view value.now) }
-{
-    value.get(name)?.as_str()
 }
 
 // As many whole characters from the front as the longest reason has bytes.

@@ -7,6 +7,8 @@ mod chunks;
 mod fields;
 mod framing;
 mod head;
+mod item;
+mod passing;
 mod reply;
 mod said;
 

@@ -1,0 +1,11 @@
+use Rattle.std.proofs.Common.{length}
+use Rattle.serde_json.specs.Data.{Members, object}
+use Rattle.bulk_replies.specs.Sayings.{AreTexts}
+use Rattle.bulk_replies.proofs.Readings.{Within}
+use Rattle.bulk_replies.proofs.item.take_error.Given as goal
+
+abbrev pub invariant-loop-key : goal.invariant-loop-key
+invariant-loop-key l = (ms : Members) × Within 122 l.fn.reader l.reader ms × AreTexts (object ms) l.texts
+
+abbrev pub decreases-loop-key : goal.decreases-loop-key
+decreases-loop-key l = length l.reader

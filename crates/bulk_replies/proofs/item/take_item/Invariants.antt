@@ -1,0 +1,11 @@
+use Rattle.std.proofs.Common.{length}
+use Rattle.serde_json.specs.Data.{Members}
+use Rattle.bulk_replies.specs.Sayings.{IsOnly}
+use Rattle.bulk_replies.proofs.Readings.{Within}
+use Rattle.bulk_replies.proofs.item.take_item.Given as goal
+
+abbrev pub invariant-loop-key : goal.invariant-loop-key
+invariant-loop-key l = (ms : Members) × Within 124 l.fn.reader l.reader ms × IsOnly ms l.only
+
+abbrev pub decreases-loop-key : goal.decreases-loop-key
+decreases-loop-key l = length l.reader
