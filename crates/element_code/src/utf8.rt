@@ -11,6 +11,7 @@ pub(crate) fn text_of(bytes: &[u8]) -> Option<&str>
         (λ s. (s.now ≡ bytes.now) × IsUtf8 bytes.now) }
 {
     if is_text(bytes) {
+        // SAFETY: proved; the bytes are UTF-8.
         Some(unsafe { str::from_utf8_unchecked(bytes) })
     } else {
         None
