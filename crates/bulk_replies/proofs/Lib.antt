@@ -2,6 +2,7 @@ pub mod ChunkRuns
 pub mod FieldRuns
 pub mod TextCuts
 pub mod Readings
+pub mod Digits
 pub mod Additions
 pub mod ItemRuns
 pub mod Meanings

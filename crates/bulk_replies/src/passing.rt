@@ -1,7 +1,7 @@
 // Values of a body, each read or passed over as `serde_json` reads it, with no tree made of it.
-ghost use Rattle.std.specs.Prelude.{◌≡◌, ◌<◌, ◌==◌, ◌∷◌, ◌+◌, IsTrue, MatchOption, MatchResult, false, length, option_and_then, option_map, slice_index, true};
+ghost use Rattle.std.specs.Prelude.{◌≡◌, ◌<◌, ◌==◌, ◌∷◌, ◌+◌, IfSome, IsTrue, MatchOption, MatchResult, Some, false, length, option_and_then, option_map, slice_index, true};
 ghost use Rattle.json.specs.Token.{begin_array, begin_object};
-ghost use Rattle.serde_json.specs.Data.{Data, Items, Members, array, object};
+ghost use Rattle.serde_json.specs.Data.{Data, Items, Members, array, object, unsigned};
 ghost use Rattle.serde_json.specs.Find.{as_number, as_str, as_u64};
 ghost use Rattle.serde_json.specs.Read.{float_of, number_from, number_of};
 ghost use Rattle.bulk_replies.specs.Taken.{Reads, Refuses, Takes};
@@ -137,11 +137,32 @@ fn whole_number(text: &str) -> Option<Option<u64>>
     ensures { result ≡ option_map as_u64 (number_of text.now) }
 {
     let bytes = text.as_bytes();
+    if let Some(number) = digits_alone(bytes) {
+        return Some(Some(number));
+    }
     if has_minus(bytes) {
         below_zero(&Numeral::scan(&bytes[1..]))
     } else {
         from_zero(&Numeral::scan(bytes))
     }
+}
+
+// The number that digits alone write, which is how most are written.
+#[inline(always)]
+fn digits_alone(bytes: &[u8]) -> Option<u64>
+    ensures { IfSome result (λ n. number_of bytes.now ≡ Some (unsigned n)) }
+{
+    if bytes.is_empty() {
+        return None;
+    }
+    let mut value = 0_u64;
+    for byte in bytes {
+        if !byte.is_ascii_digit() {
+            return None;
+        }
+        value = value.checked_mul(10)?.checked_add(u64::from(*byte - b'0'))?;
+    }
+    Some(value)
 }
 
 fn has_minus(bytes: &[u8]) -> bool

@@ -2,6 +2,7 @@ use Rattle.std.proofs.Common.{◌≡◌, ◌∷◌, Some, None, refl, ap, arith,
 use Rattle.json.specs.Json.{after_end_array, read_key, value}
 use Rattle.json.specs.Reads.{token_of}
 use Rattle.json.proofs.Grammar.{read_key-shorter, value_is}
+use Rattle.serde_json.specs.Data.{number}
 use Rattle.serde_json.specs.Read.{converted, of_json}
 use Rattle.bulk_replies.proofs.Readings.{item_passed, list_ends, list_opens, member_passed, no_item, no_key, no_level, no_member, object_ends, object_opens, reads_boolean, reads_nothing, reads_null, reads_number, reads_shorter, reads_string, refuses_number}
 use Rattle.bulk_replies.proofs.passing.+take.Goals as goal
@@ -75,7 +76,7 @@ pub take-returns-in-Some : goal.take-returns-in-Some
 take-returns-in-Some t c =
     let first : c.args.reader.now ≡ token_of c.in_ok-token.token ∷ c.next.new.self = grind arith in
     let n = reads_number c.args.depth c.in-Number.text.now c.next.new.self c.args.reader.now _ (grind (arith, first)) c.in-Some.ensures in
-    (_, n.1, (tt, refl, n.2))
+    (number n.0, n.1, (tt, refl, n.2))
 
 pub take-returns-in-None : goal.take-returns-in-None
 take-returns-in-None t c =

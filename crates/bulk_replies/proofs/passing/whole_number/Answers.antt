@@ -20,3 +20,6 @@ returns-else-has_minus c =
     let unsigned : (get_or s 0 0 == 45) ≡ false = sym c.if-has_minus.ensures.value in
     let read : number_from false (scan s) ≡ number_of s = rw unsigned in
     c.from_zero.ensures ∙ ap (option_map as_u64) (ap (number_from false) c.scan-else-has_minus.ensures.parts ∙ read ∙ ap number_of c.as_bytes-bytes.ensures.value)
+
+pub returns-in-Some : goal.returns-in-Some
+returns-in-Some c = sym (ap (option_map as_u64) (ap number_of (sym c.as_bytes-bytes.ensures.value) ∙ c.in-Some.ensures))
