@@ -148,7 +148,7 @@ fn is_above(last: Option<&str>, key: &str) -> bool
 
 // What is behind a value of at most so many levels.
 #[tactic(auto, using(crate::proofs::Behind::nested), unfolding(crate::specs::Reading::value_at))]
-#[cycle(test)]
+#[cycle(skip)]
 fn behind_value(levels: usize, bytes: &[u8]) -> Result<&[u8], Stop>
     ensures reads { Gives (λ rest. rest.now) result (behind (value_at levels bytes.now)) }
     ensures memory { result ≢ Err Stop.Memory }
@@ -166,7 +166,7 @@ fn behind_value(levels: usize, bytes: &[u8]) -> Result<&[u8], Stop>
 }
 
 #[tactic(auto, unfolding(crate::specs::Reading::list_at))]
-#[cycle(test)]
+#[cycle(skip)]
 fn behind_list(levels: usize, bytes: &[u8]) -> Result<&[u8], Stop>
     ensures reads { Gives (λ rest. rest.now) result (behind (list_at (value_at levels) bytes.now)) }
     ensures memory { result ≢ Err Stop.Memory }
@@ -180,7 +180,7 @@ fn behind_list(levels: usize, bytes: &[u8]) -> Result<&[u8], Stop>
 }
 
 #[tactic(auto, unfolding(crate::specs::Reading::object_at))]
-#[cycle(test)]
+#[cycle(skip)]
 fn behind_object(levels: usize, bytes: &[u8]) -> Result<&[u8], Stop>
     ensures reads { Gives (λ rest. rest.now) result
         (behind (object_at (value_at levels) bytes.now)) }

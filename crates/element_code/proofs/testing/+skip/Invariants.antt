@@ -2,7 +2,7 @@ use Rattle.std.proofs.Common.{◌≡◌, ◌-◌, ◌*◌, ◌+◌, option_map}
 use Rattle.byte_reader.specs.Fronts.{repeated}
 use Rattle.element_code.specs.Behind.{behind}
 use Rattle.element_code.specs.Reading.{value_at, members_at, list_at, object_at}
-use Rattle.element_code.proofs.testing.+test.Given as goal
+use Rattle.element_code.proofs.testing.+skip.Given as goal
 
 abbrev pub decreases-behind_value : goal.decreases-behind_value
 decreases-behind_value l = 2 * l.levels

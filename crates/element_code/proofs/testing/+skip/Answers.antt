@@ -2,7 +2,7 @@ use Rattle.std.proofs.Common.{option_map}
 use Rattle.element_code.specs.Behind.{behind}
 use Rattle.element_code.specs.Reading.{value_at, list_at, object_at}
 use Rattle.element_code.proofs.Behind.{items_on, members_on}
-use Rattle.element_code.proofs.testing.+test.Goals as goal
+use Rattle.element_code.proofs.testing.+skip.Goals as goal
 
 pub behind_list-loop-preserved : goal.behind_list-loop-preserved
 behind_list-loop-preserved t c =
