@@ -5,7 +5,7 @@ use Rattle.std.specs.Int.Bits.{xor_assoc, xor_zero_r, xor_self}
 use Rattle.std.proofs.lemmas.Nat.{xor_comm, xor_shr, xor_mod, xor_block, mod_below}
 use Rattle.std.proofs.lemmas.Bool.{cases_eq, eq-eqb, ne_eqb, cond-true, cond-false}
 use Rattle.std.proofs.lemmas.Grind.{flat_map-append}
-use Rattle.std.proofs.lemmas.List.{drop_more, drop_all}
+use Rattle.std.proofs.lemmas.List.{drop_more, drop_all, take_all}
 use Rattle.std.proofs.lemmas.List.Sums.{fold-append}
 use Rattle.byteorder.specs.Endian.{little_from}
 use Rattle.byteorder.specs.Numbers.{little_from-cons}
@@ -189,6 +189,29 @@ zeros_shifted (suc n) c =
     ∙ ap (λ (r : ℕ). remainder_after r (replicate n 0)) (byte_shifted c 0 (omega arith) ∙ ap (shifted 8) (xor_zero_r c))
     ∙ zeros_shifted n (shifted 8 c) ∙ sym (shifted-add 8 (8 * n) c) ∙ ap (λ (k : ℕ). shifted k c) (eight_more_suc n)
 
+-- some bytes and zero bytes behind them
+pub remainder_after-padded : (k n c : ℕ) (bytes : List ℕ) → length bytes ≡ k → ((i : ℕ) → get_or bytes i 0 < 256)
+    → remainder_after c (bytes ++ replicate n 0) ≡ shifted (8 * (n + k)) (bit_xor c (little_from 0 k bytes))
+remainder_after-padded k n c bytes long small =
+    let both : 8 * k + 8 * n ≡ 8 * (n + k) = omega arith in
+    remainder_after-append c bytes (replicate n 0)
+    ∙ ap (λ (r : ℕ). remainder_after r (replicate n 0)) (ap (remainder_after c) (sym (take_all k bytes (omega arith))) ∙ remainder_after-take k c bytes (omega arith) small)
+    ∙ zeros_shifted n (shifted (8 * k) (bit_xor c (little_from 0 k bytes)))
+    ∙ sym (shifted-add (8 * k) (8 * n) (bit_xor c (little_from 0 k bytes)))
+    ∙ ap (λ (m : ℕ). shifted m (bit_xor c (little_from 0 k bytes))) both
+
+-- The remainder so far and the bytes that follow are divided apart from each other.
+pub remainder_after-apart : (k c : ℕ) (bytes : List ℕ) → length bytes ≡ k → ((i : ℕ) → get_or bytes i 0 < 256)
+    → remainder_after c bytes ≡ bit_xor (remainder_after c (replicate k 0)) (remainder_after 0 bytes)
+remainder_after-apart k c bytes long small =
+    let number = little_from 0 k bytes in
+    let all = sym (take_all k bytes (omega arith)) in
+    ap (remainder_after c) all ∙ remainder_after-take k c bytes (omega arith) small ∙ shifted-xor (8 * k) c number
+    ∙ ap (λ (x : ℕ). bit_xor x (shifted (8 * k) number)) (sym (zeros_shifted k c))
+    ∙ ap (bit_xor (remainder_after c (replicate k 0)))
+    (ap (shifted (8 * k)) (sym (xor_zero_r number) ∙ xor_comm number 0) ∙ sym (remainder_after-take k 0 bytes (omega arith) small)
+    ∙ ap (remainder_after 0) (sym all))
+
 -- an entry of a table
 pub remainder_after-zeros : (n b : ℕ) → b < 256 → remainder_after 0 (b ∷ replicate n 0) ≡ shifted (8 * (n + 1)) b
 remainder_after-zeros n b small =
@@ -216,15 +239,16 @@ byte_by_table c b r small entry =
     ∙ ap (bit_xor (shifted 8 low)) (high ∙ sym (shifted_none (sum / 256)))
     ∙ sym (shifted-split 0 sum) ∙ sym (byte_shifted c b small)
 
--- the step of several bytes by tables, one table after the other: what is added up so far, and what is still to come
-pub entry_added : (n after sum r : ℕ) → r ≡ remainder_after 0 ((sum % 256) ∷ replicate n 0)
-    → bit_xor (bit_xor after r) (shifted (8 * n) (sum / 256)) ≡ bit_xor after (shifted (8 * (n + 1)) sum)
-entry_added n after sum r entry =
-    xor_assoc after r (shifted (8 * n) (sum / 256))
-    ∙ ap (λ (x : ℕ). bit_xor after (bit_xor x (shifted (8 * n) (sum / 256)))) (entry ∙ remainder_after-zeros n (sum % 256) (mod_below sum 256 (omega arith)))
-    ∙ ap (bit_xor after) (sym (shifted-split n sum))
+-- the step of several bytes by tables, the last of them first
+pub byte_added : (n after x r : ℕ) → r ≡ remainder_after 0 ((x % 256) ∷ replicate n 0) → after ≡ shifted (8 * n) (x / 256)
+    → bit_xor after r ≡ shifted (8 * (n + 1)) x
+byte_added n after x r entry before =
+    xor_comm after r
+    ∙ ap (λ (y : ℕ). bit_xor y after) (entry ∙ remainder_after-zeros n (x % 256) (mod_below x 256 (omega arith)))
+    ∙ ap (bit_xor (shifted (8 * (n + 1)) (x % 256))) before
+    ∙ sym (shifted-split n x)
 
-pub all_added : (after sum : ℕ) → sum < 1 → bit_xor after (shifted 0 sum) ≡ after
-all_added after sum none =
-    let zero_sum : sum ≡ 0 = omega arith in
-    ap (bit_xor after) (shifted_none sum ∙ zero_sum) ∙ xor_zero_r after
+pub shifted_zero : (n : ℕ) → shifted n 0 ≡ 0
+unfolding shifted
+shifted_zero zero = refl
+shifted_zero (suc n) = shifted_zero n

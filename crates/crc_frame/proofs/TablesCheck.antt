@@ -11,7 +11,7 @@ rule behind byte = remainder_after 0 (byte ∷ replicate behind 0)
 abbrev computed : ℕ → List ℕ
 computed behind = map (rule behind) (range_with_len 0 256)
 
-tables_are : TABLES ≡ map computed (range_with_len 0 8)
+tables_are : TABLES ≡ map computed (range_with_len 0 16)
 unfolding rule remainder_after
 tables_are = refl
 
@@ -19,8 +19,8 @@ rule_is : (behind byte : ℕ) → rule behind byte ≡ remainder_after 0 (byte �
 unfolding rule
 rule_is behind byte = refl
 
-pub table_entry : (behind byte : ℕ) (d : List ℕ) → behind < 8 → byte < 256 → get_or (get_or TABLES behind d) byte 0 ≡ remainder_after 0 (byte ∷ replicate behind 0)
+pub table_entry : (behind byte : ℕ) (d : List ℕ) → behind < 16 → byte < 256 → get_or (get_or TABLES behind d) byte 0 ≡ remainder_after 0 (byte ∷ replicate behind 0)
 table_entry behind byte d few small =
     ap (λ (tables : List (List ℕ)). get_or (get_or tables behind d) byte 0) tables_are
-    ∙ ap (λ (table : List ℕ). get_or table byte 0) (get_or-map-range_with_len computed 0 8 behind behind d few (omega arith))
+    ∙ ap (λ (table : List ℕ). get_or table byte 0) (get_or-map-range_with_len computed 0 16 behind behind d few (omega arith))
     ∙ get_or-map-range_with_len (rule behind) 0 256 byte byte 0 small (omega arith) ∙ rule_is behind byte
