@@ -19,6 +19,11 @@ SaidSoFar before said = (ds : Items) → items_said (before ds) ≡ behind said 
 abbrev pub with_one : Option (List Said) → Option Said → Option (List Said)
 with_one said one = option_and_then (λ s. option_map (λ x. s ++ x ∷ []) one) said
 
+with_answer : (said : Option (List Said)) (a : Option Answer) → option_and_then (λ s. option_map (λ x. s ++ said_of x ∷ []) a) said ≡ with_one said (option_map said_of a)
+with_answer None a = refl
+with_answer (Some s) None = refl
+with_answer (Some s) (Some a) = refl
+
 start : (rest : Option (List Said)) → rest ≡ behind (Some []) rest
 start None = refl
 start (Some more) = refl
@@ -32,9 +37,13 @@ one_more (Some s) None rest = refl
 one_more (Some s) (Some a) None = refl
 one_more (Some s) (Some a) (Some more) = ap Some (sym (append_assoc s (said_of a ∷ []) (map said_of more)))
 
-pub said_more : (before : Items → Items) (said more : Option (List Said)) (one : Option Said) (d : Data) → SaidSoFar before said → one ≡ option_map said_of (item_answer d) → more ≡ with_one said one → SaidSoFar (λ ds. before (item d ds)) more
+said_more : (before : Items → Items) (said more : Option (List Said)) (one : Option Said) (d : Data) → SaidSoFar before said → one ≡ option_map said_of (item_answer d) → more ≡ with_one said one → SaidSoFar (λ ds. before (item d ds)) more
 said_more before said more one d so_far says is ds =
     so_far (item d ds) ∙ one_more said (item_answer d) (items_answers ds) ∙ ap (λ s. behind (with_one said s) (items_said ds)) (sym says) ∙ ap (λ s. behind s (items_said ds)) (sym is)
+
+pub said_added : (before : Items → Items) (said more : Option (List Said)) (one : Option Answer) (d : Data) → SaidSoFar before said → one ≡ item_answer d
+    → more ≡ option_and_then (λ s. option_map (λ a. s ++ said_of a ∷ []) one) said → SaidSoFar (λ ds. before (item d ds)) more
+said_added before said more one d so_far says is = said_more before said more (option_map said_of one) d so_far (ap (option_map said_of) says) (is ∙ with_answer said one)
 
 all : (said : Option (List Said)) → behind said (Some []) ≡ said
 all None = refl

@@ -7,3 +7,6 @@ pub mod Additions
 pub mod ItemRuns
 pub mod Meanings
 pub mod AnswerLaws
+pub mod Lanes
+pub mod Lexemes
+pub mod Spots

@@ -1,13 +1,20 @@
 -- What a reader takes of its tokens, a turn of a loop at a time.
-use Rattle.std.proofs.Common.{◌≡◌, ℕ, ◌+◌, ◌-◌, ◌<◌, ◌≤◌, List, [], ◌∷◌, length, ◌⊎◌, inl, inr, Bool, Result, Ok, Err, Option, Some, None, option_map, option_and_then, refl, sym, subst, ap, ap₂, ◌∙◌, arith}
+use Rattle.std.specs.Bool.{MatchBool}
+use Rattle.std.specs.Prelude.{MatchResult}
+use Rattle.std.proofs.Common.{◌≡◌, ℕ, ◌+◌, ◌-◌, ◌<◌, ◌≤◌, List, [], ◌∷◌, length, ◌⊎◌, inl, inr, Bool, true, false, Result, Ok, Err, Option, Some, None, option_map, option_and_then, refl, sym, subst, ap, ap₂, ◌∙◌, arith}
 use Rattle.json.specs.Token.{Token}
 use Rattle.json.specs.Json as json
+use Rattle.json.specs.Reads.{Yields, token_of}
+use Rattle.json.specs.declared.token.Token.{Token as Handed}
 use Rattle.json.specs.Json.{after_end_array, read_key, parse_map, items, members, value, if_last}
 use Rattle.json.proofs.Grammar.{left, value_is, value-begin_array, value-begin_object, skip_value-shorter, read_key-shorter, items_end, items_fail, items_more, members_end, members_fail, members_more, members_no_key}
 use Rattle.serde_json.specs.Data.{Num, Data, boolean, null, number, string, array, object, Items, no_items, item, Members, no_members, put}
 use Rattle.serde_json.specs.Find.{as_u64}
 use Rattle.serde_json.specs.Read.{converted, number_of, of_items, of_json, of_members}
+use Rattle.bulk_replies.specs.Passed.{IsPassed}
 use Rattle.bulk_replies.specs.Taken.{Reads, Refuses, TakesOr}
+use Rattle.bulk_replies.specs.declared.tokens.Passed.{Passed}
+use Rattle.bulk_replies.specs.declared.tokens.Passed.TheVariants as passed
 
 -- what was read, and what of it was converted
 through : {A B C : Type 0} (f : B → Option C) (g : A → B) (o : Option (A × List Token)) → converted f (parse_map g o) ≡ converted (λ a. f (g a)) o
@@ -67,6 +74,36 @@ no_number ts (Some n) is = absurd (cc)
 pub refuses_number : (depth : ℕ) (s : List ℕ) (ts old : List Token) → old ≡ Token.number s ∷ ts → None ≡ option_map as_u64 (number_of s) → Refuses depth old
 refuses_number depth s ts old is says =
     ap (λ all. converted of_json (value depth all)) is ∙ ap (converted of_json) (value_is depth (Token.number s ∷ ts)) ∙ no_number ts (number_of s) says
+
+-- a token that was handed out
+pub yields_first : (old new : List Token) (o : Option Handed) (t : Handed) → o ≡ Some t → Yields old o new → old ≡ token_of t ∷ new
+yields_first old new o t is first = subst (λ x. Yields old x new) is first
+
+pub yields_none : (old new : List Token) (o : Option Handed) → o ≡ None → Yields old o new → old ≡ []
+yields_none old new o is none = (subst (λ x. Yields old x new) is none).0
+
+-- a bracket that was passed
+pub passed_list : (old new : List Token) (p : Passed) → p ≡ passed.List → IsPassed p old new → old ≡ Token.begin_array ∷ new
+passed_list old new p is by = subst (λ x. IsPassed x old new) is by
+
+pub passed_object : (old new : List Token) (p : Passed) → p ≡ passed.Object → IsPassed p old new → old ≡ Token.begin_object ∷ new
+passed_object old new p is by = subst (λ x. IsPassed x old new) is by
+
+-- a key that was passed
+abbrev Keyed : List Token → Bool → List Token → Type 0
+Keyed old goes_on new = MatchBool goes_on ((key : List ℕ) × (read_key old ≡ Some (Some key, new))) (read_key old ≡ Some (None, new))
+
+pub key_passed : (old new : List Token) (b : Bool) → b ≡ true → Keyed old b new → (key : List ℕ) × (read_key old ≡ Some (Some key, new))
+key_passed old new b is passed = subst (λ x. Keyed old x new) is passed
+
+pub no_key_left : (old new : List Token) (b : Bool) → b ≡ false → Keyed old b new → read_key old ≡ Some (None, new)
+no_key_left old new b is passed = subst (λ x. Keyed old x new) is passed
+
+-- a number, for every depth
+pub reads_number_deep : (s : List ℕ) (ts old : List Token) (w : Option ℕ) → old ≡ Token.number s ∷ ts → Some w ≡ option_map as_u64 (number_of s) → (n : Num) × ((depth : ℕ) → Reads depth old (number n) ts)
+reads_number_deep s ts old w is says =
+    let n = number_case ts (number_of s) w says in
+    (n.0, λ depth. ap (λ all. converted of_json (value depth all)) is ∙ ap (converted of_json) (value_is depth (Token.number s ∷ ts)) ∙ n.1)
 
 pub no_level : (depth : ℕ) (t : Token) (ts old : List Token) → depth ≡ 0 → old ≡ t ∷ ts → (t ≡ Token.begin_array) ⊎ (t ≡ Token.begin_object) → Refuses depth old
 unfolding value
@@ -192,9 +229,15 @@ whole_lost (Some (j, t ∷ r)) none = refl
 pub whole_refused : (depth : ℕ) (ts : List Token) → Refuses depth ts → whole (value depth ts) ≡ None
 whole_refused depth ts none = whole_lost (value depth ts) none
 
-pub takes_more : {A E : Type 0} (fault : E) (depth : ℕ) (old new : List Token) (P Q : Data → A → Type 0) (r : Result A E) → TakesOr fault depth old new P r → ((d : Data) (a : A) → P d a → Q d a) → TakesOr fault depth old new Q r
-takes_more fault depth old new P Q (Ok a) t more = (t.0, t.1, more t.0 a t.2)
-takes_more fault depth old new P Q (Err e) t more = t
+-- what an error says, where it is sure
+pub if_sure : {E : Type 0} (sure : Type 0) (old new : List Token) (r : Result Passed E) → MatchResult r (λ p. IsPassed p old new) (λ _. (depth : ℕ) → Refuses depth old)
+    → MatchResult r (λ p. IsPassed p old new) (λ _. sure → (depth : ℕ) → Refuses depth old)
+if_sure sure old new (Ok p) is = is
+if_sure sure old new (Err e) is = λ _. is
 
-pub refuses_but : {A E : Type 0} (fault : E) (depth : ℕ) (old new : List Token) (P : Data → A → Type 0) (r : Result A E) (e : E) → r ≡ Err e → ((e ≡ fault → ⊥) → Refuses depth old) → TakesOr fault depth old new P r
-refuses_but fault depth old new P r e is none = subst (TakesOr fault depth old new P) (sym is) none
+pub takes_more : {A E : Type 0} (fault : E) (sure : Type 0) (depth : ℕ) (old new : List Token) (P Q : Data → A → Type 0) (r : Result A E) → TakesOr fault sure depth old new P r → ((d : Data) (a : A) → P d a → Q d a) → TakesOr fault sure depth old new Q r
+takes_more fault sure depth old new P Q (Ok a) t more = (t.0, t.1, more t.0 a t.2)
+takes_more fault sure depth old new P Q (Err e) t more = t
+
+pub refuses_but : {A E : Type 0} (fault : E) (sure : Type 0) (depth : ℕ) (old new : List Token) (P : Data → A → Type 0) (r : Result A E) (e : E) → r ≡ Err e → ((e ≡ fault → ⊥) → sure → Refuses depth old) → TakesOr fault sure depth old new P r
+refuses_but fault sure depth old new P r e is none = subst (TakesOr fault sure depth old new P) (sym is) none

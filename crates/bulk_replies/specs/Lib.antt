@@ -5,6 +5,8 @@ pub mod Fronts
 pub mod Heads
 pub mod Answers
 pub mod Taken
+pub mod Passed
+pub mod Compact
 pub mod Plain
 pub mod Sayings
 pub mod Reading

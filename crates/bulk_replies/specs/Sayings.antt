@@ -1,8 +1,11 @@
 -- What was found of an item.
-use Rattle.std.specs.Prelude.{◌≡◌, List, map, codes, Option, Some, None, option_map, option_and_then, ⊤}
+use Rattle.std.specs.Prelude.{◌≡◌, ℕ, List, map, codes, Option, Some, None, option_map, option_and_then, Result, MatchResult, ⊤}
+use Rattle.json.specs.Token.{Token}
+use Rattle.json.specs.Json.{if_last, value}
 use Rattle.serde_json.specs.Data.{Data, Members, no_members, member}
 use Rattle.serde_json.specs.Find.{as_array, get}
-use Rattle.bulk_replies.specs.Answers.{Answer, items_answers, reason_in, said_of, status_in, text_at}
+use Rattle.serde_json.specs.Read.{max_depth, of_json}
+use Rattle.bulk_replies.specs.Answers.{Answer, answers_in, items_answers, reason_in, said_of, status_in, text_at}
 use Rattle.bulk_replies.specs.declared.item.Only.{Only}
 use Rattle.bulk_replies.specs.declared.item.Only.TheVariants.{Nothing, One, Several}
 use Rattle.bulk_replies.specs.declared.item.Saying.{Saying}
@@ -12,6 +15,14 @@ use Rattle.bulk_replies.specs.declared.said.Said.{Said}
 -- what the items of a body say
 abbrev pub said_in : Data → Option (List Said)
 said_in d = option_map (map said_of) (option_and_then items_answers (option_and_then as_array (get (codes "items") d)))
+
+-- what all the tokens of a body say of so many events
+abbrev pub tokens_said : ℕ → List Token → Option (List Said)
+tokens_said count ts = option_map (map said_of) (option_and_then (answers_in count) (option_and_then of_json (option_and_then (λ p. if_last p.0 p.1) (value max_depth ts))))
+
+-- they say this, or nothing, if an error is sure; another fault says nothing
+abbrev pub Answered : {E : Type 0} → E → Type 0 → ℕ → List Token → Result (Option (List Said)) E → Type 0
+Answered fault sure count ts r = MatchResult r (λ said. said ≡ tokens_said count ts) (λ e. (e ≡ fault → ⊥) → sure → None ≡ tokens_said count ts)
 
 abbrev pub answer_of : Option Saying → Option Answer
 answer_of None = None

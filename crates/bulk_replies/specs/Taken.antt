@@ -12,10 +12,10 @@ Reads depth old d new = converted of_json (value depth old) ≡ Some (d, new)
 abbrev pub Refuses : ℕ → List Token → Type 0
 Refuses depth old = converted of_json (value depth old) ≡ None
 
--- a value was taken, which this was made of, or none stands there
-abbrev pub Takes : {A E : Type 0} → ℕ → List Token → List Token → (Data → A → Type 0) → Result A E → Type 0
-Takes depth old new made r = MatchResult r (λ a. (d : Data) × Reads depth old d new × made d a) (λ _. Refuses depth old)
+-- a value was taken, which this was made of, or none stands there, if an error is sure
+abbrev pub Takes : {A E : Type 0} → Type 0 → ℕ → List Token → List Token → (Data → A → Type 0) → Result A E → Type 0
+Takes sure depth old new made r = MatchResult r (λ a. (d : Data) × Reads depth old d new × made d a) (λ _. sure → Refuses depth old)
 
 -- the same, where another fault says nothing
-abbrev pub TakesOr : {A E : Type 0} → E → ℕ → List Token → List Token → (Data → A → Type 0) → Result A E → Type 0
-TakesOr fault depth old new made r = MatchResult r (λ a. (d : Data) × Reads depth old d new × made d a) (λ e. (e ≡ fault → ⊥) → Refuses depth old)
+abbrev pub TakesOr : {A E : Type 0} → E → Type 0 → ℕ → List Token → List Token → (Data → A → Type 0) → Result A E → Type 0
+TakesOr fault sure depth old new made r = MatchResult r (λ a. (d : Data) × Reads depth old d new × made d a) (λ e. (e ≡ fault → ⊥) → sure → Refuses depth old)

@@ -1,15 +1,18 @@
 ghost use Rattle.std.specs.Prelude.{◌≡◌, ◌++◌, ◌∷◌, [], IfOk, option_map, map, option_and_then};
+ghost use Rattle.std.specs.Bool.{then_some};
 ghost use Rattle.serde_json.specs.Data.{Members, object, put};
 ghost use Rattle.serde_json.specs.Find.{as_array};
 ghost use Rattle.bulk_replies.specs.Answers as spec;
 ghost use Rattle.bulk_replies.specs.Answers.{answers_of, items_answers, said_of};
 ghost use Rattle.bulk_replies.specs.Reading.{SaysOf};
-ghost use Rattle.bulk_replies.specs.Sayings.{answer_of, said_in};
+ghost use Rattle.bulk_replies.specs.Sayings.{Answered, answer_of, said_in};
 ghost use Rattle.bulk_replies.specs.Taken.{TakesOr};
 
+use crate::compact::Compact;
 use crate::item::{Saying, take_item};
 use crate::passing::{Wanted, pass, take};
 use crate::said::Said;
+use crate::tokens::Tokens;
 use json::{Invalid, Reader, Scratch};
 use plain_data::{Items, Text};
 use std::alloc::{AllocError, Global};
@@ -64,14 +67,42 @@ pub(crate) fn read_answers(
 fn answers_in(alloc: Global, text: &str, count: usize) -> Result<Option<Items<Said>>, AllocError>
     ensures { IfOk result (λ said. said ≡ option_map (map said_of) (answers_of count text.now)) }
 {
+    match take_answers(alloc, &mut Compact::new(text), count) {
+        Ok(said) => Ok(said),
+        Err(Fault::Invalid) => scanned_answers(alloc, text, count),
+        Err(Fault::Memory) => Err(AllocError),
+    }
+}
+
+// The same of a text that isn't written compactly.
+#[cold]
+#[inline(never)]
+fn scanned_answers(
+    alloc: Global,
+    text: &str,
+    count: usize,
+) -> Result<Option<Items<Said>>, AllocError>
+    ensures { IfOk result (λ said. said ≡ option_map (map said_of) (answers_of count text.now)) }
+{
     let mut scratch = Scratch::new(alloc);
     let mut reader = Reader::new(text, &mut scratch)?;
-    let said = match take_body(alloc, &mut reader, count) {
-        Ok(said) => said,
-        Err(Fault::Invalid) => return Ok(None),
-        Err(Fault::Memory) => return Err(AllocError),
-    };
-    if reader.next().is_some() {
+    match take_answers(alloc, &mut reader, count) {
+        Ok(said) => Ok(said),
+        Err(Fault::Invalid) => Ok(None),
+        Err(Fault::Memory) => Err(AllocError),
+    }
+}
+
+// What these tokens say of so many events, all of them.
+fn take_answers<'a, T: Tokens<'a>>(
+    alloc: Global,
+    reader: &mut T,
+    count: usize,
+) -> Result<Option<Items<Said>>, Fault>
+    ensures { Answered Fault.Memory T.sure count (T.left reader.old) result }
+{
+    let said = take_body(alloc, reader, count)?;
+    if reader.next()?.is_some() {
         return Ok(None);
     }
     match said {
@@ -81,12 +112,13 @@ fn answers_in(alloc: Global, text: &str, count: usize) -> Result<Option<Items<Sa
 }
 
 // What the items of the body say.
-fn take_body(
+fn take_body<'a, T: Tokens<'a>>(
     alloc: Global,
-    reader: &mut Reader<'_>,
+    reader: &mut T,
     count: usize,
 ) -> Result<Option<Items<Said>>, Fault>
-    ensures { TakesOr Fault.Memory 127 reader.old reader.new (λ d said. said ≡ said_in d) result }
+    ensures { TakesOr Fault.Memory T.sure 127 (T.left reader.old) (T.left reader.new)
+        (λ d said. said ≡ said_in d) result }
 {
     let None = take(reader, Wanted::Object, 127)? else {
         return Ok(None);
@@ -99,14 +131,15 @@ fn take_body(
 }
 
 // What the items of the body say, with its next member.
-fn with_member(
+fn with_member<'a, T: Tokens<'a>>(
     alloc: Global,
-    reader: &mut Reader<'_>,
+    reader: &mut T,
     count: usize,
     said: Option<Items<Said>>,
     key: &str,
 ) -> Result<Option<Items<Said>>, Fault>
-    ensures { TakesOr Fault.Memory 126 reader.old reader.new (λ d more. (ms : Members)
+    ensures { TakesOr Fault.Memory T.sure 126 (T.left reader.old) (T.left reader.new)
+        (λ d more. (ms : Members)
         → said ≡ said_in (object ms) → more ≡ said_in (object (put key.now d ms))) result }
 {
     if key == "items" {
@@ -117,40 +150,42 @@ fn with_member(
 }
 
 // What the items say that stand next, of which so many are awaited. None where one of them says nothing.
-fn take_items(
+fn take_items<'a, T: Tokens<'a>>(
     alloc: Global,
-    reader: &mut Reader<'_>,
+    reader: &mut T,
     count: usize,
 ) -> Result<Option<Items<Said>>, Fault>
-    ensures { TakesOr Fault.Memory 126 reader.old reader.new (λ d said. said
+    ensures { TakesOr Fault.Memory T.sure 126 (T.left reader.old) (T.left reader.new)
+        (λ d said. said
         ≡ option_map (map said_of) (option_and_then items_answers (as_array d))) result }
 {
     let None = take(reader, Wanted::List, 126)? else {
         return Ok(None);
     };
-    let mut said = Some(Items::with_capacity(alloc, count)?);
-    while !reader.take_end_array() {
+    let mut said = Items::with_capacity(alloc, count)?;
+    let mut all = true;
+    while !reader.take_end_array()? {
         let saying = take_item(reader)?;
-        said = with_one(said, said_of(alloc, saying)?)?;
+        all = add_said(alloc, all, &mut said, saying)?;
     }
-    Ok(said)
+    Ok(all.then_some(said))
 }
 
-fn with_one(said: Option<Items<Said>>, one: Option<Said>) -> Result<Option<Items<Said>>, AllocError>
-    ensures { IfOk result (λ more. more
-        ≡ option_and_then (λ before. option_map (λ s. before ++ s ∷ []) one) said) }
+// Adds what an item says, where all before it say something: its status tells what it is. Whether it says something, too.
+#[inline(always)]
+fn add_said(
+    alloc: Global,
+    all: bool,
+    said: &mut Items<Said>,
+    saying: Option<Saying<'_>>,
+) -> Result<bool, AllocError>
+    ensures { IfOk result (λ more. then_some more said.new ≡ option_and_then
+        (λ before. option_map (λ a. before ++ said_of a ∷ []) (answer_of saying.entry))
+        (then_some all said.old)) }
 {
-    let (Some(mut said), Some(one)) = (said, one) else {
-        return Ok(None);
-    };
-    said.push(one)?;
-    Ok(Some(said))
-}
-
-// What an item says: its status tells what it is.
-fn said_of(alloc: Global, saying: Option<Saying<'_>>) -> Result<Option<Said>, AllocError>
-    ensures { IfOk result (λ said. said ≡ option_map said_of (answer_of saying.entry)) }
-{
+    if !all {
+        return Ok(false);
+    }
     let Some(
         Saying {
             status: Some(status),
@@ -158,13 +193,15 @@ fn said_of(alloc: Global, saying: Option<Saying<'_>>) -> Result<Option<Said>, Al
         },
     ) = saying
     else {
-        return Ok(None);
+        return Ok(false);
     };
-    Ok(Some(match status {
+    let one = match status {
         200..=299 => Said::Took,
         400 | 404 => Said::Rejected(status, Text::of(alloc, cut(reason))?),
         _ => Said::Again,
-    }))
+    };
+    said.push(one)?;
+    Ok(true)
 }
 
 // As many whole characters from the front as the longest reason has bytes.

@@ -6,7 +6,8 @@ ghost use Rattle.bulk_replies.specs.Sayings.{answer_of, AreTexts, IsOnly, IsSayi
 ghost use Rattle.bulk_replies.specs.Taken.{Takes};
 
 use crate::passing::{Wanted, pass, take, take_number, take_text};
-use json::{Invalid, Reader};
+use crate::tokens::Tokens;
+use json::Invalid;
 
 /// What the object of an item says: its status, and why its event was refused.
 #[derive(Clone, Copy)]
@@ -31,8 +32,9 @@ pub(crate) struct Texts<'a> {
 }
 
 /// What the next item says. None where it isn't an object with one key, or has no status there.
-pub(crate) fn take_item<'a>(reader: &mut Reader<'a>) -> Result<Option<Saying<'a>>, Invalid>
-    ensures { Takes 125 reader.old reader.new
+#[inline(always)]
+pub(crate) fn take_item<'a, T: Tokens<'a>>(reader: &mut T) -> Result<Option<Saying<'a>>, Invalid>
+    ensures { Takes T.sure 125 (T.left reader.old) (T.left reader.new)
         (λ d saying. answer_of saying ≡ item_answer d) result }
 {
     let None = take(reader, Wanted::Object, 125)? else {
@@ -65,6 +67,7 @@ impl<'a> Only<'a> {
     }
 
     // What the only one says.
+    #[inline(always)]
     fn saying(self) -> Option<Saying<'a>>
         ensures { (ms : Members) → IsOnly ms self.entry
             → answer_of result ≡ item_answer (object ms) }
@@ -76,8 +79,9 @@ impl<'a> Only<'a> {
     }
 }
 
-fn take_saying<'a>(reader: &mut Reader<'a>) -> Result<Saying<'a>, Invalid>
-    ensures { Takes 124 reader.old reader.new IsSaying result }
+#[inline(always)]
+fn take_saying<'a, T: Tokens<'a>>(reader: &mut T) -> Result<Saying<'a>, Invalid>
+    ensures { Takes T.sure 124 (T.left reader.old) (T.left reader.new) IsSaying result }
 {
     let mut saying = Saying {
         status: None,
@@ -95,8 +99,8 @@ fn take_saying<'a>(reader: &mut Reader<'a>) -> Result<Saying<'a>, Invalid>
 impl<'a> Saying<'a> {
     // With the next member.
     #[inline(always)]
-    fn and(self, reader: &mut Reader<'a>, key: &str) -> Result<Saying<'a>, Invalid>
-        ensures { Takes 123 reader.old reader.new (λ d saying. (ms : Members)
+    fn and<T: Tokens<'a>>(self, reader: &mut T, key: &str) -> Result<Saying<'a>, Invalid>
+        ensures { Takes T.sure 123 (T.left reader.old) (T.left reader.new) (λ d saying. (ms : Members)
             → IsSaying (object ms) self.entry → IsSaying (object (put key.now d ms)) saying) result }
     {
         if key == "status" {
@@ -113,6 +117,7 @@ impl<'a> Saying<'a> {
 }
 
 // The whole number, if it is of at most 65,535.
+#[inline(always)]
 fn small(number: Option<u64>) -> Option<u16>
     ensures { result
         ≡ option_and_then (λ n. if nat_le n 65535 then Some n else None) number }
@@ -126,8 +131,10 @@ fn small(number: Option<u64>) -> Option<u16>
 }
 
 // What the next value says as an error: its reason, else its type, else nothing.
-fn take_error<'a>(reader: &mut Reader<'a>) -> Result<&'a str, Invalid>
-    ensures { Takes 123 reader.old reader.new (λ d text. text.now ≡ error_text d) result }
+#[inline(never)]
+fn take_error<'a, T: Tokens<'a>>(reader: &mut T) -> Result<&'a str, Invalid>
+    ensures { Takes T.sure 123 (T.left reader.old) (T.left reader.new)
+        (λ d text. text.now ≡ error_text d) result }
 {
     let None = take(reader, Wanted::Object, 123)? else {
         return Ok("");
@@ -144,8 +151,8 @@ fn take_error<'a>(reader: &mut Reader<'a>) -> Result<&'a str, Invalid>
 
 impl<'a> Texts<'a> {
     // With the next member.
-    fn and(self, reader: &mut Reader<'a>, key: &str) -> Result<Texts<'a>, Invalid>
-        ensures { Takes 122 reader.old reader.new (λ d texts. (ms : Members)
+    fn and<T: Tokens<'a>>(self, reader: &mut T, key: &str) -> Result<Texts<'a>, Invalid>
+        ensures { Takes T.sure 122 (T.left reader.old) (T.left reader.new) (λ d texts. (ms : Members)
             → AreTexts (object ms) self.entry → AreTexts (object (put key.now d ms)) texts) result }
     {
         if key == "reason" {

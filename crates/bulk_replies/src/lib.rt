@@ -4,13 +4,16 @@
 
 mod answers;
 mod chunks;
+mod compact;
 mod fields;
 mod framing;
 mod head;
 mod item;
 mod passing;
+mod plain;
 mod reply;
 mod said;
+mod tokens;
 
 pub use plain_data::{Items, Text};
 pub use reply::{Reply, is_whole, read_reply};

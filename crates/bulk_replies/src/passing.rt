@@ -1,14 +1,17 @@
 // Values of a body, each read or passed over as `serde_json` reads it, with no tree made of it.
-ghost use Rattle.std.specs.Prelude.{◌≡◌, ◌<◌, ◌==◌, ◌∷◌, ◌+◌, IfSome, IsTrue, MatchOption, MatchResult, Some, false, length, option_and_then, option_map, slice_index, true};
-ghost use Rattle.json.specs.Token.{begin_array, begin_object};
+ghost use Rattle.std.specs.Prelude.{◌≡◌, ◌<◌, ◌==◌, ◌∷◌, ◌+◌, IfSome, IsTrue, MatchOption, List, MatchResult, Some, false, length, option_and_then, option_map, slice_index, true, ℕ, ⊤};
+ghost use Rattle.json.specs.Reads.{Yields};
+ghost use Rattle.json.specs.Token.{Token as SpecToken, begin_array, begin_object};
 ghost use Rattle.serde_json.specs.Data.{Data, Items, Members, array, object, unsigned};
 ghost use Rattle.serde_json.specs.Find.{as_number, as_str, as_u64};
 ghost use Rattle.serde_json.specs.Read.{float_of, number_from, number_of};
 ghost use Rattle.bulk_replies.specs.Taken.{Reads, Refuses, Takes};
+ghost use Rattle.bulk_replies.specs.Passed.{IsPassed};
 ghost use Rattle.bulk_replies.specs.Plain.{IsPlain, Opened};
 
+use crate::tokens::{Passed, Passes, Tokens};
 use fast_float::Numeral;
-use json::{Invalid, Reader, Token};
+use json::{Invalid, Token};
 
 /// What is to be opened, where it stands next.
 #[derive(Clone, Copy)]
@@ -27,19 +30,20 @@ pub(crate) enum Plain<'a> {
     Other,
 }
 
-/// Passes the value that stands next, or alone the bracket that opens it where that is wanted: then it is None.
-#[cycle(take)]
+/// Takes the value that stands next, or alone the bracket that opens it where that is wanted: then it is None.
 #[inline(always)]
-pub(crate) fn take<'a>(
-    reader: &mut Reader<'a>,
+pub(crate) fn take<'a, T: Tokens<'a>>(
+    reader: &mut T,
     wanted: Wanted,
     depth: usize,
 ) -> Result<Option<Plain<'a>>, Invalid>
-    ensures { MatchResult result (λ plain. MatchOption plain (Opened wanted reader.old reader.new)
-        (λ p. (d : Data) × Reads depth reader.old d reader.new × IsPlain wanted d p))
-        (λ _. Refuses depth reader.old) }
+    ensures { MatchResult result (λ plain. MatchOption plain
+        (Opened wanted (T.left reader.old) (T.left reader.new))
+        (λ p. (d : Data) × Reads depth (T.left reader.old) d (T.left reader.new)
+        × IsPlain wanted d p))
+        (λ _. T.sure → Refuses depth (T.left reader.old)) }
 {
-    let token = reader.next().ok_or(Invalid)?;
+    let token = reader.next()?.ok_or(Invalid)?;
     match token {
         Token::String(text) => Ok(Some(Plain::Text(text))),
         Token::Number(text) => match whole_number(text) {
@@ -72,74 +76,122 @@ pub(crate) fn take<'a>(
     }
 }
 
-/// Passes the value that stands next.
-#[cycle(take)]
-#[inline(always)]
-pub(crate) fn pass<'a>(reader: &mut Reader<'a>, depth: usize) -> Result<Plain<'a>, Invalid>
-    ensures { Takes depth reader.old reader.new (IsPlain Wanted.Nothing) result }
-{
-    take(reader, Wanted::Nothing, depth)?.ok_or(Invalid)
-}
-
-// Passes the items of a list, whose bracket was passed.
-#[cycle(take)]
-#[inline(never)]
-fn pass_items(reader: &mut Reader<'_>, depth: usize) -> Result<(), Invalid>
-    ensures { Takes (depth + 1) (begin_array ∷ reader.old) reader.new
-        (λ d _. (ds : Items) × (d ≡ array ds)) result }
-{
-    while !reader.take_end_array() {
-        pass(reader, depth)?;
-    }
-    Ok(())
-}
-
-// Passes the members of an object, whose brace was passed.
-#[cycle(take)]
-#[inline(never)]
-fn pass_members(reader: &mut Reader<'_>, depth: usize) -> Result<(), Invalid>
-    ensures { Takes (depth + 1) (begin_object ∷ reader.old) reader.new
-        (λ d _. (ms : Members) × (d ≡ object ms)) result }
-{
-    while let Some(_) = reader.next_key()? {
-        pass(reader, depth)?;
-    }
-    Ok(())
-}
-
 /// The text that stands next. None where another value does, which is passed.
-pub(crate) fn take_text<'a>(
-    reader: &mut Reader<'a>,
+pub(crate) fn take_text<'a, T: Tokens<'a>>(
+    reader: &mut T,
     depth: usize,
 ) -> Result<Option<&'a str>, Invalid>
-    ensures { Takes depth reader.old reader.new
+    ensures { Takes T.sure depth (T.left reader.old) (T.left reader.new)
         (λ d text. option_map (λ s. s.now) text ≡ as_str d) result }
 {
-    match pass(reader, depth)? {
+    match take(reader, Wanted::Nothing, depth)?.ok_or(Invalid)? {
         Plain::Text(text) => Ok(Some(text)),
         Plain::Number(_) | Plain::Other => Ok(None),
     }
 }
 
 /// The whole number that stands next. None where another value does, which is passed.
-pub(crate) fn take_number(reader: &mut Reader<'_>, depth: usize) -> Result<Option<u64>, Invalid>
-    ensures { Takes depth reader.old reader.new
+pub(crate) fn take_number<'a, T: Tokens<'a>>(
+    reader: &mut T,
+    depth: usize,
+) -> Result<Option<u64>, Invalid>
+    ensures { Takes T.sure depth (T.left reader.old) (T.left reader.new)
         (λ d number. number ≡ option_and_then as_u64 (as_number d)) result }
 {
-    match pass(reader, depth)? {
+    match take(reader, Wanted::Nothing, depth)?.ok_or(Invalid)? {
         Plain::Number(number) => Ok(number),
         Plain::Text(_) | Plain::Other => Ok(None),
     }
 }
 
+/// Passes the value that stands next.
+#[cycle(pass)]
+#[inline(always)]
+pub(crate) fn pass<T: Passes>(reader: &mut T, depth: usize) -> Result<(), Invalid>
+    ensures { Takes T.sure depth (T.left reader.old) (T.left reader.new) (λ _ _. ⊤) result }
+{
+    match reader.pass_token()? {
+        Passed::Value => Ok(()),
+        Passed::List => {
+            if depth == 0 {
+                return Err(Invalid);
+            }
+            pass_items(reader, depth - 1)
+        }
+        Passed::Object => {
+            if depth == 0 {
+                return Err(Invalid);
+            }
+            pass_members(reader, depth - 1)
+        }
+    }
+}
+
+// Passes the items of a list, whose bracket was passed.
+#[cycle(pass)]
+#[inline(never)]
+fn pass_items<T: Passes>(reader: &mut T, depth: usize) -> Result<(), Invalid>
+    ensures { Takes T.sure (depth + 1) (begin_array ∷ T.left reader.old) (T.left reader.new)
+        (λ d _. (ds : Items) × (d ≡ array ds)) result }
+{
+    while !reader.take_end_array()? {
+        pass(reader, depth)?;
+    }
+    Ok(())
+}
+
+// Passes the members of an object, whose brace was passed.
+#[cycle(pass)]
+#[inline(never)]
+fn pass_members<T: Passes>(reader: &mut T, depth: usize) -> Result<(), Invalid>
+    ensures { Takes T.sure (depth + 1) (begin_object ∷ T.left reader.old) (T.left reader.new)
+        (λ d _. (ms : Members) × (d ≡ object ms)) result }
+{
+    while reader.pass_key()? {
+        pass(reader, depth)?;
+    }
+    Ok(())
+}
+
+/// What a token is that begins a value.
+#[inline(always)]
+pub(crate) fn passed(token: Option<Token<'_>>) -> Result<Passed, Invalid>
+    ensures { (old new : List SpecToken) → Yields old token.entry new
+        → MatchResult result (λ passed. IsPassed passed old new)
+        (λ _. (depth : ℕ) → Refuses depth old) }
+{
+    let token = token.ok_or(Invalid)?;
+    match token {
+        Token::Number(text) => match whole_number(text) {
+            Some(_) => Ok(Passed::Value),
+            None => Err(Invalid),
+        },
+        Token::String(_) => Ok(Passed::Value),
+        Token::Bool(_) => Ok(Passed::Value),
+        Token::Null => Ok(Passed::Value),
+        Token::BeginArray => Ok(Passed::List),
+        Token::BeginObject => Ok(Passed::Object),
+        Token::EndObject | Token::EndArray | Token::Key(_) | Token::Bad => Err(Invalid),
+    }
+}
+
 // The whole number of 64 bits that a number is, if it is one. None where it is too large for a float.
+#[inline(always)]
 fn whole_number(text: &str) -> Option<Option<u64>>
     ensures { result ≡ option_map as_u64 (number_of text.now) }
 {
-    let bytes = text.as_bytes();
-    if let Some(number) = digits_alone(bytes) {
-        return Some(Some(number));
+    match digits_alone(text.as_bytes()) {
+        Some(number) => Some(Some(number)),
+        None => scanned_number(text),
     }
+}
+
+// The same of a number that isn't written by few digits alone.
+#[inline(never)]
+fn scanned_number(text: &str) -> Option<Option<u64>>
+    ensures { result ≡ option_map as_u64 (number_of text.now) }
+{
+    let bytes = text.as_bytes();
     if has_minus(bytes) {
         below_zero(&Numeral::scan(&bytes[1..]))
     } else {

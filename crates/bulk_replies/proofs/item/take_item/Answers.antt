@@ -5,26 +5,26 @@ use Rattle.bulk_replies.proofs.Readings.{member_passed, no_key, no_member, objec
 use Rattle.bulk_replies.proofs.item.take_item.Goals as goal
 
 pub loop-key-init : goal.loop-key-init
-loop-key-init c = (_, object_opens 124 _ _ (rw c.in-None.is at c.in_ok-take.ensures), refl)
+loop-key-init g c = (_, object_opens 124 _ _ (rw c.in-None.is at c.in_ok-take.ensures), refl)
 
 pub returns-in_err-key : goal.returns-in_err-key
-returns-in_err-key c = let none = no_key 124 _ _ _ c.loop-key.invariant.1 c.in_err-key.ensures.value in grind (arith, none)
+returns-in_err-key g c = let none = λ (sure : g.T.Passes.sure). no_key 124 _ _ _ c.loop-key.invariant.1 (c.in_err-key.ensures sure) in grind (arith, none)
 
 pub returns-in_err-saying : goal.returns-in_err-saying
-returns-in_err-saying c =
-    let key : read_key c.loop-key.reader ≡ Some (Some c.in-Some.key.now, c.next_key.new.self) = grind arith in
-    let none = no_member 124 _ _ _ c.loop-key.invariant.1 _ _ key c.in_err-saying.ensures in
+returns-in_err-saying g c =
+    let key : read_key (g.T.Passes.left c.loop-key.reader) ≡ Some (Some c.in-Some.key.now, g.T.Passes.left c.next_key.new.self) = grind arith in
+    let none = λ (sure : g.T.Passes.sure). no_member 124 _ _ _ c.loop-key.invariant.1 _ _ key (c.in_err-saying.ensures sure) in
     grind (arith, none)
 
 pub loop-key-smaller : goal.loop-key-smaller
-loop-key-smaller c =
-    let key : read_key c.loop-key.reader ≡ Some (Some c.in-Some.key.now, c.next_key.new.self) = grind arith in
+loop-key-smaller g c =
+    let key : read_key (g.T.Passes.left c.loop-key.reader) ≡ Some (Some c.in-Some.key.now, g.T.Passes.left c.next_key.new.self) = grind arith in
     omega (arith, read_key-shorter _ _ _ key, reads_shorter 124 _ _ _ c.in_ok-saying.ensures.1)
 
 pub loop-key-preserved : goal.loop-key-preserved
-loop-key-preserved c =
-    let key : read_key c.loop-key.reader ≡ Some (Some c.in-Some.key.now, c.next_key.new.self) = grind arith in
+loop-key-preserved g c =
+    let key : read_key (g.T.Passes.left c.loop-key.reader) ≡ Some (Some c.in-Some.key.now, g.T.Passes.left c.next_key.new.self) = grind arith in
     (_, member_passed 124 _ _ _ c.loop-key.invariant.1 _ _ _ _ key c.in_ok-saying.ensures.1, c.and-only.ensures _ _ c.loop-key.invariant.2 c.in_ok-saying.ensures.2)
 
 pub returns : goal.returns
-returns c = (_, object_ends 124 _ _ _ c.loop-key.invariant.1 _ (grind arith), c.saying.ensures _ c.loop-key.invariant.2)
+returns g c = (_, object_ends 124 _ _ _ c.loop-key.invariant.1 _ (grind arith), c.saying.ensures _ c.loop-key.invariant.2)

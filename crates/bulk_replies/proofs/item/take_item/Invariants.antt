@@ -5,7 +5,7 @@ use Rattle.bulk_replies.proofs.Readings.{Within}
 use Rattle.bulk_replies.proofs.item.take_item.Given as goal
 
 abbrev pub invariant-loop-key : goal.invariant-loop-key
-invariant-loop-key l = (ms : Members) × Within 124 l.fn.reader l.reader ms × IsOnly ms l.only
+invariant-loop-key g l = (ms : Members) × Within 124 (g.T.Passes.left l.fn.reader) (g.T.Passes.left l.reader) ms × IsOnly ms l.only
 
 abbrev pub decreases-loop-key : goal.decreases-loop-key
-decreases-loop-key l = length l.reader
+decreases-loop-key g l = length (g.T.Passes.left l.reader)

@@ -5,7 +5,7 @@ use Rattle.bulk_replies.proofs.Readings.{Within}
 use Rattle.bulk_replies.proofs.item.take_saying.Given as goal
 
 abbrev pub invariant-loop-key : goal.invariant-loop-key
-invariant-loop-key l = (ms : Members) × Within 123 l.fn.reader l.reader ms × IsSaying (object ms) l.saying
+invariant-loop-key g l = (ms : Members) × Within 123 (g.T.Passes.left l.fn.reader) (g.T.Passes.left l.reader) ms × IsSaying (object ms) l.saying
 
 abbrev pub decreases-loop-key : goal.decreases-loop-key
-decreases-loop-key l = length l.reader
+decreases-loop-key g l = length (g.T.Passes.left l.reader)
