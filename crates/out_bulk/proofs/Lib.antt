@@ -1,3 +1,4 @@
+pub mod DayLines
 pub mod Remembering
 pub mod FateRuns
 pub mod RequestRuns

@@ -1,20 +1,44 @@
-ghost use Rattle.std.specs.Prelude.{◌≡◌, Some, None, IfOk, IfSome, OnOk};
-ghost use Rattle.event_text.specs.Template.{day_in, text};
+ghost use Rattle.std.specs.Prelude.{◌≡◌, ℤ, None, Some, IfOk, IsTrue, OnOk};
+ghost use Rattle.event_text.specs.Template.{day_in, moment_of, text};
 ghost use Rattle.out_bulk.specs.Requests as spec;
 ghost use Rattle.out_bulk.specs.Settings.{target_of};
-ghost use Rattle.out_bulk.specs.Written.{IsKeptLine};
+ghost use Rattle.out_bulk.specs.Written.{IsDayOf, IsKeptLine, IsOf};
 
 use crate::settings::BulkSettings;
-use event_text::write_json;
+use event_text::{event_time, write_json};
 use event_tree::{Event, Value};
 use plain_data::Text;
 use std::alloc::{AllocError, Global};
+use time_instant::Instant;
+
+/// The nanoseconds of a day.
+const DAY: i128 = 86_400_000_000_000;
+
+/// The first and the last nanosecond of a day.
+#[derive(Clone, Copy)]
+pub(crate) struct Day {
+    first: i128,
+    last: i128,
+}
+
+impl Day {
+    fn of(moment: &Instant) -> Day
+        ensures { IsDayOf moment.now result }
+    {
+        let nanos = moment.nanos();
+        let first = nanos - nanos.rem_euclid(DAY);
+        Day {
+            first,
+            last: first + (DAY - 1),
+        }
+    }
+}
 
 /// The line that puts an event into its index, kept for the events that follow: where the day of an event alone says which index that
 /// is, as in `logs-%{+yyyy.MM.dd}`, all events of the day have this line.
 #[derive(Drop)]
 pub(crate) struct ActionLine {
-    day: Option<i128>,
+    day: Option<Day>,
     bytes: Vec<u8>,
 }
 
@@ -40,12 +64,16 @@ impl ActionLine {
         ensures line { OnOk result (self.new.bytes.items
             ≡ spec.action_line (target_of settings.now) event.now) }
     {
-        let day = day_of(settings, event);
-        if day.is_some() && day == self.day {
+        let moment = event_time(event);
+        if self.is_of(&moment) {
             return Ok(());
         }
         self.write(settings, event)?;
-        self.day = day;
+        if let Some(moment) = moment
+            && goes_by_day(settings, event)
+        {
+            self.day = Some(Day::of(&moment));
+        }
         Ok(())
     }
 
@@ -54,6 +82,17 @@ impl ActionLine {
         ensures { result.now ≡ self.now.bytes.items }
     {
         &self.bytes
+    }
+
+    // Whether it is the line of the day of this moment.
+    fn is_of(&self, moment: &Option<Instant>) -> bool
+        ensures { IsTrue result → IsOf self.now.day moment.now }
+    {
+        let (Some(day), Some(moment)) = (&self.day, moment) else {
+            return false;
+        };
+        let nanos = moment.nanos();
+        day.first <= nanos && nanos <= day.last
     }
 
     fn write(&mut self, settings: &Option<BulkSettings>, event: &Event) -> Result<(), AllocError>
@@ -71,13 +110,19 @@ impl ActionLine {
     }
 }
 
-// The day of an event, where that alone says which index it has.
-fn day_of(settings: &Option<BulkSettings>, event: &Event) -> Option<i128>
-    ensures { IfSome result (λ day. day_in (target_of settings.now).index event.now ≡ Some day) }
+// Whether the day of an event alone says which index it has.
+fn goes_by_day(settings: &Option<BulkSettings>, event: &Event) -> bool
+    ensures { IsTrue result → (day : ℤ) × (day_in (target_of settings.now).index event.now ≡ Some day) }
 {
     match settings {
-        Some(settings) => settings.index.day_of(event),
-        None => None,
+        Some(settings) => {
+            if let Some(_) = settings.index.day_of(event) {
+                true
+            } else {
+                false
+            }
+        }
+        None => false,
     }
 }
 

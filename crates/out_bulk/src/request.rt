@@ -15,8 +15,8 @@ use itoa::Buffer;
 use plain_data::Text;
 use std::alloc::{AllocError, Global};
 
-/// How many bytes of a request are reserved for the head and for each event beside what its encoding has.
-const ROOM: usize = 256;
+/// How many bytes of a request are reserved for the head, and for the lines of each event.
+const ROOM: usize = 512;
 
 /// A request, and how many events it sends.
 #[derive(Drop)]
@@ -34,7 +34,7 @@ pub(crate) fn request_to(
 ) -> Result<Request, AllocError>
     ensures { IfOk result (IsRequest (target_of settings.now) (open_in events.now settled.now)) }
 {
-    let mut body = Vec::new(alloc);
+    let mut body = Vec::with_capacity(alloc, events.len().saturating_mul(ROOM))?;
     let count = add_events(&mut body, settings, events, settled)?;
     let mut bytes = Vec::with_capacity(alloc, body.len().saturating_add(ROOM))?;
     add_head(&mut bytes, host_of(settings), body.len())?;
