@@ -10,7 +10,7 @@ use Rattle.batch_rows.specs.declared.codecs.OutputCodec.{OutputCodec}
 -- the events that an output sends to stdout, of those that are sent
 abbrev pub to_stdout : List ℕ → List Sent → List Ev
 to_stdout id [] = []
-to_stdout id (s ∷ sent) = if bytes_eq id s.output && same_place place.Stdout s.place then s.event ∷ to_stdout id sent else to_stdout id sent
+to_stdout id (s ∷ sent) = if bytes_eq id s.target.output && same_place place.Stdout s.target.place then s.event ∷ to_stdout id sent else to_stdout id sent
 
 -- what an output writes of them
 abbrev pub output_bytes : List Sent → OutputCodec → List ℕ

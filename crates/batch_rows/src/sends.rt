@@ -57,10 +57,11 @@ fn add_output(sent: &[Sent], codec: &OutputCodec, row: &mut Vec<u8>) -> Result<(
 
 // Whether the output of an id sends it to stdout.
 fn is_sent_by(sent: &Sent, output: &str) -> bool
-    ensures { result ≡ (bytes_eq output.now sent.now.output
-        && same_place Stdout sent.now.place) }
+    ensures { result ≡ (bytes_eq output.now sent.now.target.output
+        && same_place Stdout sent.now.target.place) }
 {
-    output == sent.output.as_str() && is_stdout(&sent.place)
+    let target = sent.target.get();
+    output == target.output.as_str() && is_stdout(&target.place)
 }
 
 fn is_stdout(place: &Place) -> bool

@@ -1,5 +1,5 @@
 -- The steps of a branch, put together from the last block on.
-use Rattle.std.proofs.Common.{◌≡◌, ℕ, suc, ◌+◌, List, [], ◌∷◌, ◌++◌, length, reverse, refl, sym, ap, ◌∙◌}
+use Rattle.std.proofs.Common.{◌≡◌, ℕ, ◌+◌, List, [], ◌∷◌, ◌++◌, length, reverse, refl, sym, ap, ◌∙◌}
 use Rattle.std.proofs.lemmas.List.{length-reverse, nil_from_length, reverse-append}
 use Rattle.event_flow.specs.Laying.{behind_block, closing, with_block, assembled}
 use Rattle.event_flow.specs.declared.block.Block.{Block}

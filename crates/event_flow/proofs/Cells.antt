@@ -1,15 +1,16 @@
 -- Cells that a step takes, and what it puts in their place.
 use Rattle.std.proofs.lemmas.Grind.{flat_map-append}
 use Rattle.std.proofs.lemmas.Option.{none-some}
-use Rattle.std.proofs.Common.{append-nil, ◌<◌, ◌≡◌, ℕ, zero, suc, ◌+◌, ◌-◌, List, [], ◌∷◌, ◌++◌, map, take, drop, slice_get, slice_set, refl, ap, ap₂, sym, subst, ◌∙◌, append_assoc, add-one, arith, rules, Some, None, Result, Ok, Err, OnOk, IfOk}
+use Rattle.std.proofs.Common.{append-nil, ◌<◌, ◌≡◌, ℕ, zero, suc, ◌+◌, ◌-◌, List, [], ◌∷◌, ◌++◌, map, take, drop, slice_get, slice_set, refl, ap, ap₂, sym, subst, ◌∙◌, append_assoc, add-one, arith, rules, Some, None, Result, Ok, Err, OnOk, IfOk, Bool, true, false}
+use Rattle.std.specs.Bool.{MatchBool}
 use Rattle.event_tree.specs.Events.{Ev}
 use Rattle.condition_eval.specs.declared.truth.Truth.{Truth}
 use Rattle.condition_eval.specs.declared.truth.Truth.TheVariants as truth
 use Rattle.foreign_parts.specs.declared.filter.Verdict.{Verdict}
 use Rattle.event_flow.specs.Flows.{Dead, wrong_letter}
-use Rattle.event_flow.specs.Marks.{Mark, At, Did, Used, at_once, dids, sent_to, led_mark, led_cell, outcome_marks, marks_of, marks, Meets, Becomes, AllBecome, Adds}
+use Rattle.event_flow.specs.Marks.{Mark, At, Did, Used, at_once, dids, sent_to, led_mark, led_cell, outcome_marks, marks_of, marks, Meets, Becomes, AllBecome, Adds, Comes}
 use Rattle.event_flow.specs.Steps.{Table}
-use Rattle.event_flow.specs.Stepped.{event_at, passed, passing, Takes}
+use Rattle.event_flow.specs.Stepped.{Arrives, Passes, event_at, passed, passing, Takes}
 use Rattle.event_flow.specs.declared.cell.Cell.{Cell}
 use Rattle.event_flow.specs.declared.cell.Cell.TheVariants as c
 use Rattle.event_flow.specs.declared.cell.Outcome.{Outcome}
@@ -54,10 +55,9 @@ module _ (may : ℕ → Ev → Verdict → Type 0) (table : Table) where
       (at_becomes may table (s.Test n over) 0 e targets (led_mark over (table.ids n) e t ∷ []) (ap (λ u. led_mark over (table.ids n) e u ∷ []) is))
 
   -- what a kit says that a plugin did
-  pub acted_on : (n : ℕ) (e : Ev) (targets : List ℕ) (made : List Cell) → Adds (Meets may table n e targets) [] (marks table made) → AllBecome may table (s.Plugin n) (marks_of table (c.At 0 e targets)) (marks table made)
-  acted_on n e targets made adds =
-      let (acts, done, is) = adds.kind in
-      subst (λ ms. AllBecome may table (s.Plugin n) (marks_of table (c.At 0 e targets)) ms) (sym (adds.whole ∙ is)) (at_becomes may table (s.Plugin n) 0 e targets acts done)
+  pub acted_on : (n : ℕ) (e : Ev) (targets : List ℕ) (ms : List Mark) → Meets may table n e targets ms → AllBecome may table (s.Plugin n) (marks_of table (c.At 0 e targets)) ms
+  acted_on n e targets ms (acts, done, is) =
+      subst (λ xs. AllBecome may table (s.Plugin n) (marks_of table (c.At 0 e targets)) xs) (sym is) (at_becomes may table (s.Plugin n) 0 e targets acts done)
 
 -- a cell whose event meets the next step
 pub record Waits (cell : Cell) (e : Ev) : Type 0 where
@@ -77,28 +77,28 @@ module _ (may : ℕ → Ev → Verdict → Type 0) (table : Table) where
   alone x cell after others none become =
       subst (λ ms. AllBecome may table x (marks_of table cell) ms) (sym (ap (λ os. marks_of table after ++ marks table os) none ∙ append-nil (marks_of table after))) become
 
-  passes : (x : Step) (cell : Cell) → event_at cell ≡ None → AllBecome may table x (marks_of table cell) (marks_of table (passed cell))
-  passes x (c.At zero e targets) none = absurd (none-some e (sym none))
-  passes x (c.At (suc skip) e targets) none = passes_on may table x (suc skip) e targets (omega arith)
-  passes x (c.Came outcome) none = outcome_stays may table x outcome
+  goes_by : (x : Step) (cell : Cell) → event_at cell ≡ None → AllBecome may table x (marks_of table cell) (marks_of table (passed cell))
+  goes_by x (c.At zero e targets) none = absurd (none-some e (sym none))
+  goes_by x (c.At (suc skip) e targets) none = passes_on may table x (suc skip) e targets (omega arith)
+  goes_by x (c.Came outcome) none = outcome_stays may table x outcome
 
-  pub passed_by : (x : Step) (cell after : Cell) (others : List Cell) → event_at cell ≡ None → after ≡ passed cell → others ≡ [] → AllBecome may table x (marks_of table cell) (marks_of table after ++ marks table others)
-  passed_by x cell after others none is empty =
-      alone x cell after others empty (subst (λ a. AllBecome may table x (marks_of table cell) (marks_of table a)) (sym is) (passes x cell none))
+  -- a cell that passes over a step
+  pub passed_by : (passes : Bool) (x : Step) (cell after : Cell) (others : List Cell) → Passes passes cell after → passes ≡ true → others ≡ [] → AllBecome may table x (marks_of table cell) (marks_of table after ++ marks table others)
+  passed_by true x cell after others (none, is) so empty =
+      alone x cell after others empty (subst (λ a. AllBecome may table x (marks_of table cell) (marks_of table a)) (sym is) (goes_by x cell none))
+  passed_by false x cell after others (at, same) so empty = absurd (subst (λ b. MatchBool b (Unit {0}) ⊥) (sym so) tt)
 
-  pub skipped : (over : ℕ) (cell after : Cell) (e : Ev) (others : List Cell) → event_at cell ≡ Some e → after ≡ passing over cell → others ≡ [] → AllBecome may table (s.Skip over) (marks_of table cell) (marks_of table after ++ marks table others)
-  skipped over cell after e others at is empty =
-      let w = waits cell e at in
+  pub skipped : (over : ℕ) (cell after : Cell) (e : Ev) (targets : List ℕ) (others : List Cell) → cell ≡ c.At 0 e targets → after ≡ passing over cell → others ≡ [] → AllBecome may table (s.Skip over) (marks_of table cell) (marks_of table after ++ marks table others)
+  skipped over cell after e targets others at is empty =
       alone (s.Skip over) cell after others empty
       (subst (λ a. AllBecome may table (s.Skip over) (marks_of table cell) (marks_of table a)) (sym is)
-      (subst (λ x. AllBecome may table (s.Skip over) (marks_of table x) (marks_of table (passing over x))) (sym w.is) (skips_on may table over e w.targets)))
+      (subst (λ x. AllBecome may table (s.Skip over) (marks_of table x) (marks_of table (passing over x))) (sym at) (skips_on may table over e targets)))
 
-  pub tested : (t : Truth) (n over : ℕ) (cell after : Cell) (e : Ev) (others : List Cell) → event_at cell ≡ Some e → t ≡ table.says n e → ((f : Ev) (targets : List ℕ) → cell ≡ c.At 0 f targets → after ≡ led_cell t n over f targets) → others ≡ [] → AllBecome may table (s.Test n over) (marks_of table cell) (marks_of table after ++ marks table others)
-  tested t n over cell after e others at says led empty =
-      let w = waits cell e at in
+  pub tested : (n over : ℕ) (cell after : Cell) (e : Ev) (targets : List ℕ) (others : List Cell) → cell ≡ c.At 0 e targets → after ≡ led_cell (table.says n e) n over e targets → others ≡ [] → AllBecome may table (s.Test n over) (marks_of table cell) (marks_of table after ++ marks table others)
+  tested n over cell after e targets others at led empty =
       alone (s.Test n over) cell after others empty
-      (subst (λ a. AllBecome may table (s.Test n over) (marks_of table cell) (marks_of table a)) (sym (led e w.targets w.is))
-      (subst (λ x. AllBecome may table (s.Test n over) (marks_of table x) (marks_of table (led_cell t n over e w.targets))) (sym w.is) (led_on may table t n over e w.targets says)))
+      (subst (λ a. AllBecome may table (s.Test n over) (marks_of table cell) (marks_of table a)) (sym led)
+      (subst (λ x. AllBecome may table (s.Test n over) (marks_of table x) (marks_of table (led_cell (table.says n e) n over e targets))) (sym at) (led_on may table (table.says n e) n over e targets refl)))
 
 module _ (table : Table) (Kind : List Mark → Type 0) where
   -- what came of a cell was put behind the others
@@ -183,15 +183,36 @@ pub took : {F : Type 0} (r : Result (Unit {0}) F) (may : ℕ → Ev → Verdict 
 took (Ok u) may table x at old others before after was become = record { before = before; after = after; was = was; whole = refl; becomes = become }
 took (Err f) may table x at old others before after was become = tt
 
--- an event that has met a plugin
-pub met : (may : ℕ → Ev → Verdict → Type 0) (table : Table) (n skip : ℕ) (cell : Cell) (f e : Ev) (sent targets : List ℕ) (others made : List Cell) (ms : List Mark) → cell ≡ c.At skip f sent → cell ≡ c.At 0 e targets → others ≡ [] → Adds (Meets may table n f sent) (marks table others) (marks table made) → marks table made ≡ ms → AllBecome may table (s.Plugin n) (marks_of table cell) ms
-met may table n zero cell f e sent targets others made ms was is none adds come =
+-- an event that has met a plugin: what came of it is behind the others, where none was
+pub went : (may : ℕ → Ev → Verdict → Type 0) (table : Table) (n skip : ℕ) (cell : Cell) (f e f' : Ev) (sent targets sent' : List ℕ) (others made : List Cell) (ms : List Mark) → cell ≡ c.At skip f sent → cell ≡ c.At 0 e targets → others ≡ [] → Comes (Meets may table n f sent) table false f' sent' others made → marks table made ≡ ms → AllBecome may table (s.Plugin n) (marks_of table cell) ms
+went may table n zero cell f e f' sent targets sent' others made ms was is none comes come =
     subst (λ x. AllBecome may table (s.Plugin n) (marks_of table x) ms) (sym was)
-    (subst (λ os. AllBecome may table (s.Plugin n) (marks_of table (c.At 0 f sent)) os) come
-    (acted_on may table n f sent made (subst (λ os. Adds (Meets may table n f sent) (marks table os) (marks table made)) none adds)))
-met may table n (suc skip) cell f e sent targets others made ms was is none adds come = absurd (none-some e (ap event_at (sym was ∙ is)))
+    (acted_on may table n f sent ms (subst (Meets may table n f sent) (sym (comes.whole ∙ ap (λ os. marks table os ++ comes.part) none) ∙ come) comes.kind))
+went may table n (suc skip) cell f e f' sent targets sent' others made ms was is none comes come = absurd (none-some e (ap event_at (sym was ∙ is)))
 
--- a cell whose event meets a plugin
-pub at_plugin : {F : Type 0} (r : Result (Unit {0}) F) (may : ℕ → Ev → Verdict → Type 0) (table : Table) (n : ℕ) (cell : Cell) (e : Ev) (ms : List Mark) → event_at cell ≡ Some e → OnOk r ((f : Ev) (targets : List ℕ) → cell ≡ c.At 0 f targets → AllBecome may table (s.Plugin n) (marks_of table cell) ms) → OnOk r (AllBecome may table (s.Plugin n) (marks_of table cell) ms)
-at_plugin (Ok u) may table n cell e ms at become = let w = waits cell e at in become e w.targets w.is
-at_plugin (Err f) may table n cell e ms at become = tt
+-- it stays in its place, and nothing else came of it
+pub stayed : (may : ℕ → Ev → Verdict → Type 0) (table : Table) (n skip : ℕ) (cell : Cell) (f e f' : Ev) (sent targets sent' : List ℕ) (others made : List Cell) → cell ≡ c.At skip f sent → cell ≡ c.At 0 e targets → others ≡ [] → Comes (Meets may table n f sent) table true f' sent' others made → AllBecome may table (s.Plugin n) (marks_of table cell) (marks_of table (c.At skip f' sent') ++ marks table made)
+stayed may table n zero cell f e f' sent targets sent' others made was is none comes =
+    let here = marks_of table (c.At 0 f' sent') in
+    let alone : here ≡ here ++ marks table made = sym (append-nil here) ∙ ap (λ os. here ++ marks table os) (sym (comes.whole.0 ∙ none)) in
+    subst (λ x. AllBecome may table (s.Plugin n) (marks_of table x) (here ++ marks table made)) (sym was)
+    (acted_on may table n f sent (here ++ marks table made) (subst (Meets may table n f sent) (comes.whole.1 ∙ alone) comes.kind))
+stayed may table n (suc skip) cell f e f' sent targets sent' others made was is none comes = absurd (none-some e (ap event_at (sym was ∙ is)))
+
+-- a cell that doesn't pass over a step
+pub arriving : {F : Type 0} (r : Result (Unit {0}) F) (passes : Bool) (may : ℕ → Ev → Verdict → Type 0) (table : Table) (x : Step) (cell now : Cell) (ms : List Mark) → Passes passes cell now → passes ≡ false → OnOk r ((e : Ev) (targets : List ℕ) → now ≡ c.At 0 e targets → AllBecome may table x (marks_of table now) ms) → OnOk r (AllBecome may table x (marks_of table cell) ms)
+arriving (Ok u) true may table x cell now ms (none, is) so become = absurd (subst (λ b. MatchBool b (Unit {0}) ⊥) so tt)
+arriving (Ok u) false may table x cell now ms ((e, at), same) so become =
+    let w = waits cell e at in
+    subst (λ y. AllBecome may table x (marks_of table y) ms) same (become e w.targets (same ∙ w.is))
+arriving (Err f) passes may table x cell now ms how so become = tt
+
+-- one that meets a condition
+pub tested_on : {F : Type 0} (r : Result (Unit {0}) F) (may : ℕ → Ev → Verdict → Type 0) (table : Table) (x : Step) (n over : ℕ) (cell after : Cell) (others : List Cell) → x ≡ s.Test n over → others ≡ [] → OnOk r ((e : Ev) (targets : List ℕ) → cell ≡ c.At 0 e targets → after ≡ led_cell (table.says n e) n over e targets) → OnOk r ((e : Ev) (targets : List ℕ) → cell ≡ c.At 0 e targets → AllBecome may table x (marks_of table cell) (marks_of table after ++ marks table others))
+tested_on (Ok u) may table x n over cell after others is empty led = λ e targets at. subst (λ y. AllBecome may table y (marks_of table cell) (marks_of table after ++ marks table others)) (sym is) (tested may table n over cell after e targets others at (led e targets at) empty)
+tested_on (Err f) may table x n over cell after others is empty led = tt
+
+-- whether an event arrives, by how many steps it is to pass over
+module _ (cell : Cell) (skip : ℕ) (e : Ev) (targets : List ℕ) (is : cell ≡ c.At skip e targets) where
+  pub arrives : skip ≡ 0 → Arrives cell
+  arrives none = (e, ap event_at (is ∙ ap (λ n. c.At n e targets) none))

@@ -5,5 +5,6 @@ pub mod Parts
 pub mod Meaning
 pub mod Steps
 pub mod Laying
+pub mod Numbers
 pub mod Marks
 pub mod Stepped

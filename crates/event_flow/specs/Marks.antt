@@ -1,5 +1,5 @@
 -- What a batch did that goes through steps, in order: its cells as marks.
-use Rattle.std.specs.Prelude.{◌≡◌, ℕ, zero, suc, List, [], ◌∷◌, ◌++◌, map, flat_map, true}
+use Rattle.std.specs.Prelude.{◌≡◌, ℕ, zero, suc, List, [], ◌∷◌, ◌++◌, map, flat_map, Bool, true, false}
 use Rattle.event_tree.specs.Events.{Ev}
 use Rattle.condition_eval.specs.declared.truth.Truth.{Truth}
 use Rattle.condition_eval.specs.declared.truth.Truth.TheVariants as truth
@@ -109,6 +109,17 @@ module _ (may : ℕ → Ev → Verdict → Type 0) where
   -- with the verdicts of the marks, whatever stands behind them, a flow derives what the marks say, and uses just these
   pub record Ran (f : Flow) (ms : List Mark) : Type 0 where
     pub does : (rest : List Verdict) → Does f (verdicts_in ms ++ rest) (derived_in ms) rest
+
+-- where an event met a plugin, the event stands in its place, if it stays, and nothing else came; else all that came is behind the other cells
+abbrev pub Came : Table → Bool → Ev → List ℕ → List Cell → List Cell → List Mark → Type 0
+Came table true e targets old new part = (new ≡ old) × (part ≡ marks_of table (c.At 0 e targets))
+Came table false e targets old new part = marks table new ≡ marks table old ++ part
+
+-- marks of this kind came of an event
+pub record Comes (Kind : List Mark → Type 0) (table : Table) (stays : Bool) (e : Ev) (targets : List ℕ) (old new : List Cell) : Type 0 where
+  pub part : List Mark
+  pub whole : Came table stays e targets old new part
+  pub kind : Kind part
 
 -- marks of this kind stand behind the old ones
 pub record Adds (Kind : List Mark → Type 0) (old new : List Mark) : Type 0 where

@@ -1,5 +1,5 @@
 -- Cells that take a step one after the other, each in its place.
-use Rattle.std.specs.Prelude.{◌≡◌, ℕ, zero, suc, ◌-◌, List, ◌++◌, Option, Some, None, slice_get, slice_set}
+use Rattle.std.specs.Prelude.{◌≡◌, ℕ, zero, suc, ◌-◌, List, ◌++◌, Bool, true, false, Option, Some, None, slice_get, slice_set}
 use Rattle.event_tree.specs.Events.{Ev}
 use Rattle.foreign_parts.specs.declared.filter.Verdict.{Verdict}
 use Rattle.event_flow.specs.Marks.{AllBecome, marks, marks_of}
@@ -14,10 +14,19 @@ event_at (c.At zero e targets) = Some e
 event_at (c.At (suc skip) e targets) = None
 event_at (c.Came outcome) = None
 
+-- an event of the cell meets the next step
+abbrev pub Arrives : Cell → Type 0
+Arrives cell = (e : Ev) × (event_at cell ≡ Some e)
+
 -- a cell that passes over one step
 abbrev pub passed : Cell → Cell
 passed (c.At skip e targets) = c.At (skip - 1) e targets
 passed (c.Came outcome) = c.Came outcome
+
+-- whether a cell passes over a step: then it has, and else it is as it was
+abbrev pub Passes : Bool → Cell → Cell → Type 0
+Passes true old new = (event_at old ≡ None) × (new ≡ passed old)
+Passes false old new = Arrives old × (new ≡ old)
 
 -- a cell that is to pass over so many steps
 abbrev pub passing : ℕ → Cell → Cell

@@ -1,9 +1,7 @@
+use crate::targets::Targets;
 use condition_eval::Reason;
-use event_tree::{Event, Items};
+use event_tree::Event;
 use foreign_parts::Verdict;
-
-/// The places of outputs to which an event was sent, by their numbers.
-pub type Targets = Items<u64>;
 
 /// What came of a batch so far, in order.
 #[derive(Drop)]

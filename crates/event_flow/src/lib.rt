@@ -10,9 +10,11 @@ mod laying;
 mod running;
 mod step;
 mod stepping;
+mod targets;
 
 pub use block::{Block, Laid};
-pub use cell::{Cell, Outcome, Targets};
+pub use cell::{Cell, Outcome};
 pub use laying::{lay, lay_config};
 pub use running::{Kit, run};
 pub use step::Step;
+pub use targets::Targets;

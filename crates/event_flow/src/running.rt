@@ -7,13 +7,14 @@ ghost use Rattle.event_flow.specs.Laying.{AreStepsOf, IsTableOf};
 ghost use Rattle.event_flow.specs.Meaning.{Makes, flow_of};
 ghost use Rattle.event_flow.specs.Places.{Draws};
 ghost use Rattle.event_flow.specs.Steps.{from};
-ghost use Rattle.event_flow.specs.Marks.{Meets, AllBecome, Ran, Adds, marks, marks_of};
+ghost use Rattle.event_flow.specs.Marks.{Meets, AllBecome, Ran, Adds, Comes, marks, marks_of};
 ghost use Rattle.event_flow.specs.Stepped.{Takes};
 ghost use Rattle.event_flow.specs.declared.cell.Cell.TheVariants as cell;
 
-use crate::cell::{Cell, Targets};
+use crate::cell::Cell;
 use crate::step::Step;
 use crate::stepping::step_cell;
+use crate::targets::Targets;
 use condition_eval::Truth;
 use event_tree::{Event, Events, Items};
 use std::alloc::{AllocError, Global};
@@ -23,7 +24,7 @@ pub trait Kit {
     ghost use Rattle.event_tree.specs.Events.{Ev};
     ghost use Rattle.foreign_parts.specs.declared.filter.Verdict.{Verdict};
     ghost use Rattle.event_flow.specs.Steps.{Table};
-    ghost use Rattle.std.specs.Prelude.{◌≡◌, ℕ, List, Option, IfOk, OnOk};
+    ghost use Rattle.std.specs.Prelude.{◌≡◌, ℕ, List, Option, IfOk};
 
     /// What its plugins do to events, and what its conditions say of them.
     ghost table: { Self → Table };
@@ -40,20 +41,21 @@ pub trait Kit {
     /// The boxes of its filters, where these are boxed ones and their boxes were put in.
     ghost boxes: { Self → List (Option Self.Plugged) };
 
-    /// Has an event, which was sent to these targets so far, meet a plugin, and puts what comes of
-    /// it behind the last cell.
+    /// Has an event, which was sent to these targets so far, meet a plugin. Where one event comes of
+    /// it, sent to some targets, and nothing else, that can be put in its place: then it is true. Else
+    /// what comes of it is put behind the last cell, and nothing is said of what is in its place.
     fn act(
         &mut self,
         number: u64,
-        event: Event,
-        targets: Targets,
+        event: &mut Event,
+        targets: &mut Targets,
         to: &mut Items<Cell>,
-    ) -> Result<(), AllocError>
+    ) -> Result<bool, AllocError>
         requires { stands self.old }
         ensures stands { stands self.new }
-        ensures ok { OnOk result (Adds
-            (Meets (may self.old) (table self.old) number event targets)
-            (marks (table self.old) to.old) (marks (table self.old) to.new)) }
+        ensures ok { IfOk result (λ stays. Comes
+            (Meets (may self.old) (table self.old) number event.old targets.old)
+            (table self.old) stays event.new targets.new to.old to.new) }
         ensures table { table self.new ≡ table self.old }
         ensures boxes { boxes self.new ≡ boxes self.old }
         ensures may { (k : ℕ) (e : Ev) (v : Verdict) → may self.new k e v → may self.old k e v };

@@ -1,16 +1,18 @@
 // A cell that takes a step in its place. An event is moved by the plugins alone that it meets.
-ghost use Rattle.std.specs.Prelude.{◌≡◌, ℕ, List, ◌++◌, [], OnOk, option_copied};
+ghost use Rattle.std.specs.Prelude.{◌≡◌, ℕ, List, ◌++◌, [], OnOk};
 ghost use Rattle.event_tree.specs.Events.{Ev};
 ghost use Rattle.foreign_parts.specs.declared.filter.Verdict.{Verdict};
 ghost use Rattle.event_flow.specs.Steps.{Table};
 ghost use Rattle.event_flow.specs.Marks.{AllBecome, marks, marks_of, led_cell};
+ghost use Rattle.event_flow.specs.Stepped.{Passes};
 ghost use Rattle.event_flow.specs.Stepped as spec;
 ghost use Rattle.event_flow.specs.declared.cell.Cell.TheVariants as variant;
 ghost use Rattle.event_flow.specs.declared.step.Step.TheVariants as step;
 
-use crate::cell::{Cell, Outcome, Targets};
+use crate::cell::{Cell, Outcome};
 use crate::running::Kit;
 use crate::step::Step;
+use crate::targets::Targets;
 use condition_eval::Truth;
 use event_tree::{Event, Items};
 use std::alloc::{AllocError, Global};
@@ -35,17 +37,50 @@ pub(crate) fn step_cell<K: Kit>(
     ensures boxes { K.boxes kit.new ≡ K.boxes kit.old }
     ensures may { (k : ℕ) (e : Ev) (v : Verdict) → K.may kit.new k e v → K.may kit.old k e v }
 {
-    let Some(event) = event_at(cell) else {
-        pass(cell);
+    if passes(cell) {
         return Ok(());
-    };
+    }
+    meet_step(alloc, kit, step, cell, others)
+}
+
+// Passes over a step, where no event of the cell meets it. Whether that is so.
+fn passes(cell: &mut Cell) -> bool
+    ensures { Passes result cell.old cell.new }
+{
+    match cell {
+        Cell::At(skip, _, _) => {
+            if *skip == 0 {
+                return false;
+            }
+            *skip -= 1;
+            true
+        }
+        Cell::Came(_) => true,
+    }
+}
+
+// The event of a cell meets a step.
+fn meet_step<K: Kit>(
+    alloc: Global,
+    kit: &mut K,
+    step: Step,
+    cell: &mut Cell,
+    others: &mut Items<Cell>,
+) -> Result<(), AllocError>
+    requires stands { K.stands kit.old }
+    requires none { others.old ≡ [] }
+    ensures stands { K.stands kit.new }
+    ensures ok { OnOk result ((e : Ev) (targets : List ℕ) → cell.old ≡ variant.At 0 e targets
+        → AllBecome (K.may kit.old) (K.table kit.old) step
+        (marks_of (K.table kit.old) cell.old)
+        (marks_of (K.table kit.old) cell.new ++ marks (K.table kit.old) others.new)) }
+    ensures table { K.table kit.new ≡ K.table kit.old }
+    ensures boxes { K.boxes kit.new ≡ K.boxes kit.old }
+    ensures may { (k : ℕ) (e : Ev) (v : Verdict) → K.may kit.new k e v → K.may kit.old k e v }
+{
     match step {
         Step::Plugin(number) => meet_plugin(alloc, kit, number, cell, others),
-        Step::Test(number, over) => {
-            let truth = kit.test(number, event)?;
-            lead(alloc, truth, number, over, cell);
-            Ok(())
-        }
+        Step::Test(number, over) => meet_condition(alloc, kit, number, over, cell),
         Step::Skip(over) => {
             pass_over(cell, over);
             Ok(())
@@ -53,23 +88,28 @@ pub(crate) fn step_cell<K: Kit>(
     }
 }
 
-// The event that meets the next step.
-fn event_at(cell: &Cell) -> Option<&Event>
-    ensures { option_copied result ≡ spec.event_at cell.now }
+// The event of a cell meets a condition, which leads it.
+fn meet_condition<K: Kit>(
+    alloc: Global,
+    kit: &mut K,
+    number: u64,
+    over: u64,
+    cell: &mut Cell,
+) -> Result<(), AllocError>
+    requires { K.stands kit.old }
+    ensures stands { K.stands kit.new }
+    ensures ok { OnOk result ((e : Ev) (targets : List ℕ) → cell.old ≡ variant.At 0 e targets
+        → cell.new ≡ led_cell ((K.table kit.old).says number e) number over e targets) }
+    ensures table { K.table kit.new ≡ K.table kit.old }
+    ensures boxes { K.boxes kit.new ≡ K.boxes kit.old }
+    ensures may { (k : ℕ) (e : Ev) (v : Verdict) → K.may kit.new k e v → K.may kit.old k e v }
 {
-    match cell {
-        Cell::At(skip, event, _) => { if *skip == 0 { Some(event) } else { None } }
-        Cell::Came(_) => None,
-    }
-}
-
-fn pass(cell: &mut Cell)
-    ensures { cell.new ≡ spec.passed cell.old }
-{
-    match cell {
-        Cell::At(skip, _, _) => *skip = skip.saturating_sub(1),
-        Cell::Came(_) => {}
-    }
+    let Cell::At(_, event, _) = cell else {
+        return Ok(());
+    };
+    let truth = kit.test(number, event)?;
+    lead(alloc, truth, number, over, cell);
+    Ok(())
 }
 
 fn pass_over(cell: &mut Cell, over: u64)
@@ -90,7 +130,7 @@ fn lead(alloc: Global, truth: Truth, number: u64, over: u64, cell: &mut Cell)
         Truth::Yes => {}
         Truth::No => pass_over(cell, over),
         Truth::Wrong(reason) => {
-            if let Cell::At(_, event, targets) = taken(alloc, cell) {
+            if let Cell::At(_, event, targets) = mem::replace(cell, nothing(alloc)) {
                 *cell = Cell::Came(Outcome::Died(number, reason, event, targets));
             }
         }
@@ -116,37 +156,33 @@ fn meet_plugin<K: Kit>(
     ensures boxes { K.boxes kit.new ≡ K.boxes kit.old }
     ensures may { (k : ℕ) (e : Ev) (v : Verdict) → K.may kit.new k e v → K.may kit.old k e v }
 {
-    match taken(alloc, cell) {
+    match cell {
         Cell::At(_, event, targets) => {
-            kit.act(number, event, targets, others)?;
-            put_first(cell, others);
+            if kit.act(number, event, targets, others)? {
+                return Ok(());
+            }
+            put_first(alloc, cell, others);
             Ok(())
         }
         Cell::Came(_) => Ok(()),
     }
 }
 
-// A cell is moved out, and one left there that says nothing.
-fn taken(alloc: Global, cell: &mut Cell) -> Cell
-    ensures was { result ≡ cell.old }
-    ensures nothing { (table : Table) → marks_of table cell.new ≡ [] }
+// A cell that says nothing.
+fn nothing(alloc: Global) -> Cell
+    ensures { (table : Table) → marks_of table result ≡ [] }
 {
-    let nothing = Outcome::Gone(Event::new(alloc), Targets::new(alloc));
-    mem::replace(cell, Cell::Came(nothing))
+    Cell::Came(Outcome::Gone(Event::new(alloc), Targets::new(alloc)))
 }
 
-// The first of the others, if there is one, in the place of a cell that says nothing.
-fn put_first(cell: &mut Cell, others: &mut Items<Cell>)
-    ensures { (table : Table) → marks_of table cell.old ≡ []
+// The first of the others, if there is one, in the place of a cell.
+fn put_first(alloc: Global, cell: &mut Cell, others: &mut Items<Cell>)
+    ensures { (table : Table)
         → marks table others.old ≡ marks_of table cell.new ++ marks table others.new }
 {
-    match others.len() {
-        0 => {}
-        1 => {
-            if let Some(only) = others.pop() {
-                *cell = only;
-            }
-        }
-        _ => *cell = others.remove(0),
-    }
+    *cell = if others.is_empty() {
+        nothing(alloc)
+    } else {
+        others.remove(0)
+    };
 }

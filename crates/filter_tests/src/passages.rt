@@ -65,8 +65,9 @@ pub fn add_passage(to: &mut String, passage: &Passage) -> Result<(), AllocError>
 
 fn add_sent(to: &mut String, later: bool, sent: &Sent) -> Result<(), AllocError> {
     to.push_str(if later { " | " } else { "" })?;
-    write!(to, "{} ", sent.output)?;
-    add_place(to, &sent.place)?;
+    let target = sent.target.get();
+    write!(to, "{} ", target.output)?;
+    add_place(to, &target.place)?;
     add_told(to, &sent.event)
 }
 

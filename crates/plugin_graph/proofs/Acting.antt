@@ -1,13 +1,13 @@
 -- What a kit does to an event, by its table.
 use Rattle.std.proofs.lemmas.List.{length-map, map-append, map-set}
 use Rattle.std.proofs.lemmas.Option.{none-some, slice_get-map, slice_get_past}
-use Rattle.std.proofs.Common.{◌≡◌, ℕ, zero, suc, ◌+◌, ◌-◌, ◌<◌, ◌≤◌, List, [], ◌∷◌, ◌++◌, length, map, refl, sym, ap, ap₂, subst, ◌∙◌, arith, append-nil, append_assoc, Option, Some, None, option_map, slice_get, slice_set, Result, Ok, Err, OnOk}
+use Rattle.std.proofs.Common.{◌≡◌, ℕ, zero, suc, ◌+◌, ◌-◌, ◌<◌, ◌≤◌, List, [], ◌∷◌, ◌++◌, length, map, refl, sym, ap, ap₂, subst, ◌∙◌, arith, append-nil, append_assoc, Bool, true, false, Option, Some, None, option_map, slice_get, slice_set, Result, Ok, Err, IfOk}
 use Rattle.event_tree.specs.Events.{Ev}
 use Rattle.event_tree.specs.Paths.{over}
 use Rattle.event_tree.proofs.Puts.{slice_set-same}
 use Rattle.foreign_parts.specs.declared.filter.Verdict.{Verdict}
 use Rattle.event_flow.specs.Flows.{To, Filtered, Gives, Asks}
-use Rattle.event_flow.specs.Marks.{Mark, At, Did, Acts, Adds, Meets, dids, marks, sent_to}
+use Rattle.event_flow.specs.Marks.{Mark, At, Did, Acts, Comes, Meets, dids, marks_of, sent_to}
 use Rattle.event_flow.specs.Steps.{Act, Table}
 use Rattle.event_flow.specs.Steps as act
 use Rattle.event_flow.specs.declared.cell.Cell.{Cell}
@@ -35,11 +35,11 @@ module _ {X : Type 0} (may : X → Ev → Verdict → Type 0) (fs : List (KitFil
   meets_at : (x : KitFilter X) → slice_get fs n ≡ Some x → Meeting (λ j d u. MayAnswer may x.plugged d u) (filter_act (n + 1) x.filter e) table e targets part → Meeting (MayAt may (boxes_of fs)) (filter_acts fs n e) table e targets part
   meets_at x is meeting = subst (λ y. Meeting (MayAt may (boxes_of fs)) (over (λ z. filter_act (n + 1) z.filter e) (act.Gives []) y) table e targets part) (sym is) (at_number x (filtered_by x.filter e) is meeting)
 
-pub filter_meets : {X : Type 0} (may : X → Ev → Verdict → Type 0) (fs : List (KitFilter X)) (n : ℕ) (x : KitFilter X) (e : Ev) (targets : List ℕ) (old new : List Cell) {F : Type 0} (r : Result (Unit {0}) F) → slice_get fs n ≡ Some x → Meets_it may x.plugged e targets old new r x.filter → OnOk r ((table : Table) → Adds (Meeting (MayAt may (boxes_of fs)) (filter_acts fs n e) table e targets) (marks table old) (marks table new))
-filter_meets may fs n x e targets old new (Ok u) is met = λ table.
-    let adds = met table (n + 1) in
-    record { part = adds.part; whole = adds.whole; kind = meets_at may fs n e targets table adds.part x is adds.kind }
-filter_meets may fs n x e targets old new (Err fault) is met = tt
+pub filter_meets : {X : Type 0} (may : X → Ev → Verdict → Type 0) (fs : List (KitFilter X)) (n : ℕ) (x : KitFilter X) (e : Ev) (targets : List ℕ) (e' : Ev) (targets' : List ℕ) (old new : List Cell) {F : Type 0} (r : Result Bool F) → slice_get fs n ≡ Some x → IfOk r (Meets_it may x.plugged e targets e' targets' old new x.filter) → IfOk r (λ stays. (table : Table) → Comes (Meeting (MayAt may (boxes_of fs)) (filter_acts fs n e) table e targets) table stays e' targets' old new)
+filter_meets may fs n x e targets e' targets' old new (Ok stays) is met = λ table.
+    let comes = met table (n + 1) in
+    record { part = comes.part; whole = comes.whole; kind = meets_at may fs n e targets table comes.part x is comes.kind }
+filter_meets may fs n x e targets e' targets' old new (Err fault) is met = tt
 
 -- the act of a number below that of the first output
 acts_inside : {X : Type 0} (fs : List (KitFilter X)) (g : Filter → Act) (d : Act) (n : ℕ) → n < length fs → over (λ x. g x.filter) (act.Gives []) (slice_get fs n) ≡ over g d (slice_get (map (λ x. x.filter) fs) n)
@@ -95,46 +95,34 @@ module _ (table : Table) (ts : List Target) (same : (j : ℕ) → table.targets 
       ∙ append_assoc (dids here) (dids (sent_to table x.targets e)) (At 0 e ∷ [])
       ∙ ap (λ ds. dids here ++ (dids ds ++ At 0 e ∷ [])) there
 
-module _ {F : Type 0} (r : Result (Unit {0}) F) (may : ℕ → Ev → Verdict → Type 0) (c' : Contents) (n place : ℕ) (e : Ev) (targets : List ℕ) (old new : List Cell) (at : output_acts c'.targets c'.outputs place ≡ acts_at c' n e) where
-  abbrev pub Met : Type 0
-  Met = OnOk r (Adds (Meets may (table_of c') n e targets) (marks (table_of c') old) (marks (table_of c') new))
-
-  pub output_meets : (x : Output) → HaveOwnTargets c'.targets c'.outputs → slice_get c'.outputs place ≡ Some x → OnOk r (new ≡ old ++ c.At 0 e (targets ++ x.targets) ∷ []) → Met
-  output_meets x own is sent = by r sent
-    where
-      table : Table
-      table = table_of c'
-
-      acts : List Mark
-      acts = dids (map (λ t. To x.id t e) (map (λ j. (target_at c'.targets j).1) x.targets)) ++ At 0 e ∷ []
-
-      by : (q : Result (Unit {0}) F) → OnOk q (new ≡ old ++ c.At 0 e (targets ++ x.targets) ∷ []) → OnOk q (Adds (Meets may (table_of c') n e targets) (marks (table_of c') old) (marks (table_of c') new))
-      by (Ok u) here = record {
-        part = dids (sent_to table (targets ++ x.targets) e) ++ At 0 e ∷ [];
-        whole = one_cell table old new (c.At 0 e (targets ++ x.targets)) here;
+module _ (may : ℕ → Ev → Verdict → Type 0) (c' : Contents) (n place : ℕ) (e : Ev) (targets : List ℕ) (at : output_acts c'.targets c'.outputs place ≡ acts_at c' n e) where
+  -- an event that an output sends on stays in its place
+  pub output_meets : (targets' : List ℕ) (cells : List Cell) (x : Output) → HaveOwnTargets c'.targets c'.outputs → slice_get c'.outputs place ≡ Some x → targets' ≡ targets ++ x.targets → Comes (Meets may (table_of c') n e targets) (table_of c') true e targets' cells cells
+  output_meets targets' cells x own is sent =
+      let table = table_of c' in
+      let acts = dids (map (λ t. To x.id t e) (map (λ j. (target_at c'.targets j).1) x.targets)) ++ At 0 e ∷ [] in
+      record {
+        part = marks_of table (c.At 0 e targets');
+        whole = (refl, refl);
         kind = (
           acts,
           subst (λ y. Acts may e y acts) (ap (over (output_act c'.targets) (act.Gives [])) (sym is) ∙ at) refl,
-          both_sent table c'.targets (λ j. refl) x targets e (own_at c'.targets c'.outputs place x own is),
+          ap (λ ts. marks_of table (c.At 0 e ts)) sent ∙ both_sent table c'.targets (λ j. refl) x targets e (own_at c'.targets c'.outputs place x own is),
         );
       }
-      by (Err fault) here = tt
 
-  pub nothing_meets : slice_get c'.outputs place ≡ None → OnOk r (new ≡ old ++ c.Came (o.Gone e targets) ∷ []) → Met
-  nothing_meets none gone = by r gone
-    where
-      by : (q : Result (Unit {0}) F) → OnOk q (new ≡ old ++ c.Came (o.Gone e targets) ∷ []) → OnOk q (Adds (Meets may (table_of c') n e targets) (marks (table_of c') old) (marks (table_of c') new))
-      by (Ok u) here = record {
-        part = dids (sent_to (table_of c') targets e);
-        whole = one_cell (table_of c') old new (c.Came (o.Gone e targets)) here;
-        kind = ([], subst (λ y. Acts may e y []) (ap (over (output_act c'.targets) (act.Gives [])) (sym none) ∙ at) refl, sym (append-nil (dids (sent_to (table_of c') targets e))));
-      }
-      by (Err fault) here = tt
+  -- past the outputs nothing of it goes on
+  pub nothing_meets : (e' : Ev) (targets' : List ℕ) (old new : List Cell) (gone : Cell) → slice_get c'.outputs place ≡ None → gone ≡ c.Came (o.Gone e targets) → new ≡ old ++ gone ∷ [] → Comes (Meets may (table_of c') n e targets) (table_of c') false e' targets' old new
+  nothing_meets e' targets' old new gone none is come = record {
+    part = dids (sent_to (table_of c') targets e);
+    whole = one_cell (table_of c') old new (c.Came (o.Gone e targets)) (come ∙ ap (λ x. old ++ x ∷ []) is);
+    kind = ([], subst (λ y. Acts may e y []) (ap (over (output_act c'.targets) (act.Gives [])) (sym none) ∙ at) refl, sym (append-nil (dids (sent_to (table_of c') targets e))));
+  }
 
 -- what a filter of a kit did, by the kit's table
-pub by_table : {F : Type 0} (r : Result (Unit {0}) F) (may : ℕ → Ev → Verdict → Type 0) (c' : Contents) (n : ℕ) (e : Ev) (targets : List ℕ) (old new : List Cell) (x : Act) → x ≡ acts_at c' n e → OnOk r ((table : Table) → Adds (Meeting may x table e targets) (marks table old) (marks table new)) → OnOk r (Adds (Meets may (table_of c') n e targets) (marks (table_of c') old) (marks (table_of c') new))
-by_table (Ok u) may c' n e targets old new x is met = subst (λ y. Adds (Meeting may y (table_of c') e targets) (marks (table_of c') old) (marks (table_of c') new)) is (met (table_of c'))
-by_table (Err fault) may c' n e targets old new x is met = tt
+pub by_table : {F : Type 0} (r : Result Bool F) (may : ℕ → Ev → Verdict → Type 0) (c' : Contents) (n : ℕ) (e : Ev) (targets : List ℕ) (e' : Ev) (targets' : List ℕ) (old new : List Cell) (x : Act) → x ≡ acts_at c' n e → IfOk r (λ stays. (table : Table) → Comes (Meeting may x table e targets) table stays e' targets' old new) → IfOk r (λ stays. Comes (Meets may (table_of c') n e targets) (table_of c') stays e' targets' old new)
+by_table (Ok stays) may c' n e targets e' targets' old new x is met = subst (λ y. Comes (Meeting may y (table_of c') e targets) (table_of c') stays e' targets' old new) is (met (table_of c'))
+by_table (Err fault) may c' n e targets e' targets' old new x is met = tt
 
 -- conditions that say the same
 pub same_table : {X : Type 0} (fs : List (KitFilter X)) (os : List Output) (ts : List Target) (old new : List NamedCondition) → new ≡ old

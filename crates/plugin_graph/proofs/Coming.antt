@@ -35,7 +35,7 @@ verdicts_append (Used v ∷ ms) ns = ap (λ vs. v ∷ vs) (verdicts_append ms ns
 
 sent_append : (ds es : List Derived) → sent_of (ds ++ es) ≡ sent_of ds ++ sent_of es
 sent_append [] es = refl
-sent_append (To id at e ∷ ds) es = ap (λ xs. record { output = id; place = at; event = e } ∷ xs) (sent_append ds es)
+sent_append (To id at e ∷ ds) es = ap (λ xs. record { target = record { output = id; place = at }; event = e } ∷ xs) (sent_append ds es)
 sent_append (Dead d ∷ ds) es = sent_append ds es
 
 dead_append : (ds es : List Derived) → dead_in (ds ++ es) ≡ dead_in ds ++ dead_in es

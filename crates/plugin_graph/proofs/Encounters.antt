@@ -1,9 +1,9 @@
 -- What is left of an event that meets a plugin.
 use Rattle.std.proofs.lemmas.Grind.{flat_map-append}
-use Rattle.std.proofs.Common.{◌≡◌, ℕ, List, [], ◌∷◌, ◌++◌, map, refl, sym, ap, ap₂, subst, ◌∙◌, append-nil, append_assoc, Option, Some, Result, Ok, Err, OnOk}
+use Rattle.std.proofs.Common.{◌≡◌, ℕ, List, [], ◌∷◌, ◌++◌, map, refl, sym, ap, ap₂, subst, ◌∙◌, append-nil, append_assoc, Bool, false, Option, Some, Result, Ok, Err, IfOk, OnOk}
 use Rattle.event_tree.specs.Events.{Ev}
 use Rattle.foreign_parts.specs.declared.filter.Verdict.{Verdict}
-use Rattle.event_flow.specs.Marks.{Used, Adds, at_once, dids, marks, marks_of, sent_to}
+use Rattle.event_flow.specs.Marks.{Used, Came, Comes, at_once, dids, marks, marks_of, sent_to}
 use Rattle.event_flow.specs.Steps.{Table}
 use Rattle.event_flow.specs.declared.cell.Cell.{Cell}
 use Rattle.event_flow.specs.declared.cell.Cell.TheVariants as c
@@ -21,7 +21,7 @@ pub one_cell : (table : Table) (old new : List Cell) (x : Cell) → new ≡ old 
 one_cell table old new x is = ap (marks table) is ∙ flat_map-append (marks_of table) old (x ∷ []) ∙ ap (λ ms. marks table old ++ ms) (append-nil (marks_of table x))
 
 -- events more
-more_events : (table : Table) (old new : List Cell) (es : List Ev) → new ≡ old ++ map (λ e. c.At 0 e []) es → marks table new ≡ marks table old ++ at_once es
+pub more_events : (table : Table) (old new : List Cell) (es : List Ev) → new ≡ old ++ map (λ e. c.At 0 e []) es → marks table new ≡ marks table old ++ at_once es
 more_events table old new es is = ap (marks table) is ∙ flat_map-append (marks_of table) old (map (λ e. c.At 0 e []) es) ∙ ap (λ ms. marks table old ++ ms) (started_marks table es)
 
 module _ (old : List Cell) (e : Ev) (targets : List ℕ) where
@@ -33,10 +33,10 @@ module _ (old : List Cell) (e : Ev) (targets : List ℕ) where
   left_behind (Err fault) new is = tt
 
   module _ (mid : List Cell) (left : (table : Table) → marks table mid ≡ marks table old ++ dids (sent_to table targets e)) where
-    pub built_met : {F : Type 0} (r : Result (Unit {0}) F) (x : BuiltFilter) (es : List Ev) (new : List Cell) → es ≡ (applied x e).events → OnOk r (new ≡ mid ++ map (λ e. c.At 0 e []) es) → OnOk r ((table : Table) → marks table new ≡ marks table old ++ dids (sent_to table targets e) ++ at_once (applied x e).events)
-    built_met (Ok u) x es new made is = λ table.
-        more_events table mid new es is ∙ ap₂ (λ ms xs. ms ++ at_once xs) (left table) made
-    built_met (Err fault) x es new made is = tt
+    -- events that go on behind what was left
+    pub built_met : (x : BuiltFilter) (es : List Ev) (new : List Cell) (e' : Ev) (targets' : List ℕ) → es ≡ (applied x e).events → new ≡ mid ++ map (λ e. c.At 0 e []) es → (table : Table) → Came table false e' targets' old new (dids (sent_to table targets e) ++ at_once (applied x e).events)
+    built_met x es new e' targets' made is table =
+        more_events table mid new es is ∙ ap₂ (λ ms xs. ms ++ at_once xs) (left table) made ∙ append_assoc (marks table old) (dids (sent_to table targets e)) (at_once (applied x e).events)
 
     pub boxed_met : {F : Type 0} (r : Result (Unit {0}) F) (may : Verdict → Type 0) (b : BoxedFilter) (v : Verdict) (es : List Ev) (asked new : List Cell) → may v → es ≡ optioned b v → asked ≡ mid ++ c.Came (o.Used v) ∷ [] → OnOk r (new ≡ asked ++ map (λ e. c.At 0 e []) es) → OnOk r (Answered may b e targets old new)
     boxed_met (Ok u) may b v es asked new may_be made used is = record {
@@ -49,32 +49,25 @@ module _ (old : List Cell) (e : Ev) (targets : List ℕ) where
     }
     boxed_met (Err fault) may b v es asked new may_be made used is = tt
 
-module _ {X : Type 0} (may : X → Ev → Verdict → Type 0) (plugged : Option (X)) (e : Ev) (targets : List ℕ) (old new : List Cell) {F : Type 0} (r : Result (Unit {0}) F) where
-  abbrev pub Meets_it : Filter → Type 0
-  Meets_it x = OnOk r ((table : Table) (k : ℕ) → Adds (Meeting (λ j d u. MayAnswer may plugged d u) (filter_act k x e) table e targets) (marks table old) (marks table new))
+module _ {X : Type 0} (may : X → Ev → Verdict → Type 0) (plugged : Option (X)) (e : Ev) (targets : List ℕ) (e' : Ev) (targets' : List ℕ) (old new : List Cell) where
+  abbrev pub Meets_it : Filter → Bool → Type 0
+  Meets_it x stays = (table : Table) (k : ℕ) → Comes (Meeting (λ j d u. MayAnswer may plugged d u) (filter_act k x e) table e targets) table stays e' targets' old new
 
-  pub built_meets : (x : BuiltFilter) → OnOk r ((table : Table) → marks table new ≡ marks table old ++ dids (sent_to table targets e) ++ at_once (applied x e).events) → Meets_it (f.Built x)
-  built_meets x met = by r met
-    where
-      by : (q : Result (Unit {0}) F) → OnOk q ((table : Table) → marks table new ≡ marks table old ++ dids (sent_to table targets e) ++ at_once (applied x e).events) → OnOk q ((table : Table) (k : ℕ) → Adds (Meeting (λ j d u. MayAnswer may plugged d u) (filter_act k (f.Built x) e) table e targets) (marks table old) (marks table new))
-      by (Ok u) seen = λ table k. record {
-        part = dids (sent_to table targets e) ++ at_once (applied x e).events;
-        whole = seen table ∙ append_assoc (marks table old) (dids (sent_to table targets e)) (at_once (applied x e).events);
-        kind = (at_once (applied x e).events, refl, refl);
-      }
-      by (Err fault) seen = tt
+  pub built_meets : {F : Type 0} (r : Result Bool F) (x : BuiltFilter) → IfOk r (λ stays. (table : Table) → Came table stays e' targets' old new (dids (sent_to table targets e) ++ at_once (applied x e).events)) → IfOk r (Meets_it (f.Built x))
+  built_meets (Ok stays) x seen = λ table k. record {
+    part = dids (sent_to table targets e) ++ at_once (applied x e).events;
+    whole = seen table;
+    kind = (at_once (applied x e).events, refl, refl);
+  }
+  built_meets (Err fault) x seen = tt
 
-  pub boxed_meets : (b : BoxedFilter) (p : X) → plugged ≡ Some p → OnOk r (Answered (may p e) b e targets old new) → Meets_it (f.Boxed b)
-  boxed_meets b p is met = by r met
-    where
-      by : (q : Result (Unit {0}) F) → OnOk q (Answered (may p e) b e targets old new) → OnOk q ((table : Table) (k : ℕ) → Adds (Meeting (λ j d u. MayAnswer may plugged d u) (filter_act k (f.Boxed b) e) table e targets) (marks table old) (marks table new))
-      by (Ok u) answered = λ table k. record {
-        part = dids (sent_to table targets e) ++ Used answered.verdict ∷ at_once (optioned b answered.verdict);
-        whole = answered.seen table ∙ append_assoc (marks table old) (dids (sent_to table targets e)) (Used answered.verdict ∷ at_once (optioned b answered.verdict));
-        kind = (
-          Used answered.verdict ∷ at_once (optioned b answered.verdict),
-          (answered.verdict, subst (λ q. MayAnswer may q e answered.verdict) (sym is) answered.may_be, refl),
-          refl,
-        );
-      }
-      by (Err fault) answered = tt
+  pub boxed_meets : (b : BoxedFilter) (p : X) → plugged ≡ Some p → Answered (may p e) b e targets old new → Meets_it (f.Boxed b) false
+  boxed_meets b p is answered = λ table k. record {
+    part = dids (sent_to table targets e) ++ Used answered.verdict ∷ at_once (optioned b answered.verdict);
+    whole = answered.seen table ∙ append_assoc (marks table old) (dids (sent_to table targets e)) (Used answered.verdict ∷ at_once (optioned b answered.verdict));
+    kind = (
+      Used answered.verdict ∷ at_once (optioned b answered.verdict),
+      (answered.verdict, subst (λ q. MayAnswer may q e answered.verdict) (sym is) answered.may_be, refl),
+      refl,
+    );
+  }

@@ -1,6 +1,6 @@
 -- A filter that is read anew does what the kit's table says.
 use Rattle.std.proofs.lemmas.Option.{none-some}
-use Rattle.std.proofs.Common.{◌≡◌, ℕ, zero, suc, ◌+◌, ◌-◌, length, List, [], ◌∷◌, ◌++◌, map, refl, sym, ap, subst, ◌∙◌, arith, append_assoc, Bool, true, false, Option, Some, None, slice_get, Result, Ok, Err, IfOk, OnOk}
+use Rattle.std.proofs.Common.{◌≡◌, ℕ, zero, suc, ◌+◌, ◌-◌, length, List, [], ◌∷◌, ◌++◌, map, refl, sym, ap, subst, ◌∙◌, arith, Bool, true, false, Option, Some, None, slice_get, Result, Ok, Err, IfOk}
 use Rattle.event_tree.specs.Events.{Ev}
 use Rattle.event_tree.specs.Paths.{over}
 use Rattle.config_tree.specs.declared.tree.Config.{Config}
@@ -9,7 +9,7 @@ use Rattle.foreign_parts.specs.declared.filter.Verdict.{Verdict}
 use Rattle.foreign_parts.specs.declared.place.Place.TheVariants as place
 use Rattle.event_flow.specs.Flows.{Derived, To, Dead, Gives, Goes, derives, each, filtered}
 use Rattle.event_flow.specs.Laying.{AreStepsOf, HasPlugins, IsTableOf}
-use Rattle.event_flow.specs.Marks.{Adds, Meets, at_once, dids, marks, sent_to, Acts}
+use Rattle.event_flow.specs.Marks.{Came, Comes, Meets, at_once, dids, sent_to, Acts}
 use Rattle.event_flow.specs.Meaning.{filter_section}
 use Rattle.event_flow.specs.Parts.{Section, parts_of}
 use Rattle.event_flow.specs.Places.{Draws}
@@ -100,21 +100,21 @@ reads_alike fs c' config filters kit ps plain plugins are_plain n p e es is_plai
 pub made_by : (p : Plugin) (x : BuiltFilter) (e : Ev) → built_of p.name p.settings.list ≡ Ok (Some x) → makes p e ≡ Gives (applied x e).events
 made_by p x e is = makes_as p (f.Built x) e (ap (next (boxed_unless p.settings.list)) is)
 
-pub met_anew : {F : Type 0} (r : Result (Unit {0}) F) (ps : List Plugin) (n : ℕ) (x : BuiltFilter) (e : Ev) (targets : List ℕ) (old new : List Cell) → IsRead ps n x
-    → OnOk r ((table : Table) → marks table new ≡ marks table old ++ dids (sent_to table targets e) ++ at_once (applied x e).events) → OnOk r (MetAnew ps n e targets old new)
-met_anew (Ok u) ps n x e targets old new read seen = record { plugin = read.plugin; events = (applied x e).events; at = read.at; made = made_by read.plugin x e read.is; seen = seen }
-met_anew (Err fault) ps n x e targets old new read seen = tt
+pub met_anew : {F : Type 0} (r : Result Bool F) (ps : List Plugin) (n : ℕ) (x : BuiltFilter) (e : Ev) (targets : List ℕ) (e' : Ev) (targets' : List ℕ) (old new : List Cell) → IsRead ps n x
+    → IfOk r (λ stays. (table : Table) → Came table stays e' targets' old new (dids (sent_to table targets e) ++ at_once (applied x e).events)) → IfOk r (λ stays. MetAnew ps n e targets stays e' targets' old new)
+met_anew (Ok stays) ps n x e targets e' targets' old new read seen = record { plugin = read.plugin; events = (applied x e).events; at = read.at; made = made_by read.plugin x e read.is; seen = seen }
+met_anew (Err fault) ps n x e targets e' targets' old new read seen = tt
 
-pub anew_by_table : {F : Type 0} (r : Result (Unit {0}) F) (may : ℕ → Ev → Verdict → Type 0) (table : Table) (ps lent : List Plugin) (plain : List Bool) (n : ℕ) (e : Ev) (targets : List ℕ) (old new : List Cell)
-    → lent ≡ ps → ReadsAlike ps plain table → slice_get plain n ≡ Some true → OnOk r (MetAnew lent n e targets old new) → OnOk r (Adds (Meets may table n e targets) (marks table old) (marks table new))
-anew_by_table (Ok u) may table ps lent plain n e targets old new are alike here met =
+pub anew_by_table : {F : Type 0} (r : Result Bool F) (may : ℕ → Ev → Verdict → Type 0) (table : Table) (ps lent : List Plugin) (plain : List Bool) (n : ℕ) (e : Ev) (targets : List ℕ) (e' : Ev) (targets' : List ℕ) (old new : List Cell)
+    → lent ≡ ps → ReadsAlike ps plain table → slice_get plain n ≡ Some true → IfOk r (λ stays. MetAnew lent n e targets stays e' targets' old new) → IfOk r (λ stays. Comes (Meets may table n e targets) table stays e' targets' old new)
+anew_by_table (Ok stays) may table ps lent plain n e targets e' targets' old new are alike here met =
     let acts = at_once met.events in
     record {
       part = dids (sent_to table targets e) ++ acts;
-      whole = met.seen table ∙ append_assoc (marks table old) (dids (sent_to table targets e)) acts;
+      whole = met.seen table;
       kind = (acts, subst (λ y. Acts may e y acts) (sym (alike n met.plugin e met.events here (ap (λ xs. slice_get xs n) (sym are) ∙ met.at) met.made)) refl, refl);
     }
-anew_by_table (Err fault) may table ps lent plain n e targets old new are alike here met = tt
+anew_by_table (Err fault) may table ps lent plain n e targets e' targets' old new are alike here met = tt
 
 pub is_yes : (o : Option Bool) → over (λ marked. marked) false o ≡ true → o ≡ Some true
 is_yes (Some true) is = refl

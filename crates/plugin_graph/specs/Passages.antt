@@ -13,7 +13,7 @@ use Rattle.plugin_graph.specs.declared.passage.Sent.{Sent}
 -- the events that are sent, among what is derived
 abbrev pub sent_of : List Derived → List Sent
 sent_of [] = []
-sent_of (To id at e ∷ ds) = record { output = id; place = at; event = e } ∷ sent_of ds
+sent_of (To id at e ∷ ds) = record { target = record { output = id; place = at }; event = e } ∷ sent_of ds
 sent_of (Dead d ∷ ds) = sent_of ds
 
 -- what the marks of cells say, behind what came of a batch so far

@@ -5,7 +5,7 @@ use Rattle.config_tree.specs.declared.tree.Plugin.{Plugin}
 use Rattle.event_tree.specs.Events.{Ev}
 use Rattle.event_flow.specs.Flows.{Gives}
 use Rattle.event_flow.specs.Laying.{IsTableOf}
-use Rattle.event_flow.specs.Marks.{at_once, dids, marks, sent_to}
+use Rattle.event_flow.specs.Marks.{Came, at_once, dids, sent_to}
 use Rattle.event_flow.specs.Places.{Draws}
 use Rattle.event_flow.specs.Steps.{Table}
 use Rattle.event_flow.specs.Steps as act
@@ -38,10 +38,10 @@ pub record IsRead (ps : List Plugin) (n : ℕ) (x : BuiltFilter) : Type 0 where
   pub at : slice_get ps n ≡ Some plugin
   pub is : built_of plugin.name plugin.settings.list ≡ Ok (Some x)
 
--- an event, sent to these targets so far, met the filter that the plugin of a number is
-pub record MetAnew (ps : List Plugin) (n : ℕ) (e : Ev) (targets : List ℕ) (old new : List Cell) : Type 0 where
+-- an event, sent to these targets so far, met the filter that the plugin of a number is, and either stays as this or not
+pub record MetAnew (ps : List Plugin) (n : ℕ) (e : Ev) (targets : List ℕ) (stays : Bool) (e' : Ev) (targets' : List ℕ) (old new : List Cell) : Type 0 where
   pub plugin : Plugin
   pub events : List Ev
   pub at : slice_get ps n ≡ Some plugin
   pub made : makes plugin e ≡ Gives events
-  pub seen : (table : Table) → marks table new ≡ marks table old ++ dids (sent_to table targets e) ++ at_once events
+  pub seen : (table : Table) → Came table stays e' targets' old new (dids (sent_to table targets e) ++ at_once events)

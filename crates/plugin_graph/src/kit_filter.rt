@@ -1,6 +1,6 @@
 ghost use Rattle.std.specs.Prelude.{◌≡◌, ℕ, ◌++◌, [], map, IfOk, OnOk};
 ghost use Rattle.event_text.specs.Options as spec;
-ghost use Rattle.event_flow.specs.Marks.{Adds, At, Used, at_once, dids, marks, sent_to};
+ghost use Rattle.event_flow.specs.Marks.{At, Came, Comes, at_once, dids, marks, sent_to};
 ghost use Rattle.event_flow.specs.Steps.{Table};
 ghost use Rattle.event_flow.specs.declared.cell.Cell.TheVariants as cell;
 ghost use Rattle.plugin_graph.specs.Meetings.{Answered, Meeting, MayAnswer, filter_act};
@@ -9,12 +9,14 @@ ghost use Rattle.plugin_graph.specs.Makes.{applied, optioned};
 use crate::boxed::BoxedFilter;
 use crate::built::BuiltFilter;
 use crate::filter::Filter;
+use crate::passage::taken;
 use event_flow::{Cell, Outcome, Targets};
 use event_text::Options;
 use event_tree::{Event, Events, Items};
 use filter_settings::Applied;
 use foreign_parts::{Asked, Verdict};
 use std::alloc::AllocError;
+use std::mem;
 
 /// A filter of a kit, with its box, if it is a boxed one and the box was put in.
 #[derive(Drop)]
@@ -24,62 +26,89 @@ pub struct KitFilter<X> {
 }
 
 impl<X: Asked> KitFilter<X> {
-    /// Has an event meet the filter, which was sent to these targets so far. A boxed filter without
-    /// its box answers as where memory ran out.
+    /// Has an event meet the filter, which was sent to these targets so far. Where one event alone comes
+    /// of it, that is put in its place: then it is true. Else what comes of it is put behind the last
+    /// cell. A boxed filter without its box answers as where memory ran out.
     pub fn meet(
         &mut self,
-        event: Event,
-        targets: Targets,
+        event: &mut Event,
+        targets: &mut Targets,
         to: &mut Items<Cell>,
-    ) -> Result<(), AllocError>
-        ensures ok { OnOk result ((table : Table) (k : ℕ) → Adds
+    ) -> Result<bool, AllocError>
+        ensures ok { IfOk result (λ stays. (table : Table) (k : ℕ) → Comes
             (Meeting (λ _ e v. MayAnswer
             X.may self.old.plugged e v)
-            (filter_act k self.old.filter event) table event targets)
-            (marks table to.old) (marks table to.new)) }
+            (filter_act k self.old.filter event.old) table event.old targets.old)
+            table stays event.new targets.new to.old to.new) }
         ensures same { self.new ≡ self.old }
     {
         match &mut self.filter {
             Filter::Built(filter) => meet(filter, event, targets, to),
             Filter::Boxed(filter) => match &self.plugged {
-                Some(plugged) => ask(filter, plugged, event, targets, to),
+                Some(plugged) => {
+                    let targets = mem::replace(targets, Targets::new(to.allocator()));
+                    ask(filter, plugged, event, targets, to)?;
+                    Ok(false)
+                }
                 None => Err(AllocError),
             },
         }
     }
 }
 
-// Has an event meet a built-in filter.
+// Has an event meet a built-in filter. Where one event comes of one that was sent nowhere so far, that
+// is put in its place.
 pub(crate) fn meet(
     filter: &mut BuiltFilter,
-    event: Event,
-    targets: Targets,
+    event: &mut Event,
+    targets: &mut Targets,
     to: &mut Items<Cell>,
-) -> Result<(), AllocError>
-    ensures ok { OnOk result ((table : Table) → marks table to.new
-        ≡ marks table to.old ++ dids (sent_to table targets event)
-        ++ at_once (applied filter.old event).events) }
+) -> Result<bool, AllocError>
+    ensures ok { IfOk result (λ stays. (table : Table) → Came
+        table stays event.new targets.new to.old to.new
+        (dids (sent_to table targets.old event.old)
+        ++ at_once (applied filter.old event.old).events)) }
     ensures same { filter.new ≡ filter.old }
 {
-    leave(&event, targets, to)?;
-    let Applied { events, .. } = filter.apply(event)?;
-    go_on(events, to)
+    let alloc = to.allocator();
+    if targets.is_empty() {
+        let Applied { events, .. } = filter.apply(taken(alloc, event))?;
+        return put(events, event, to);
+    }
+    leave(event, mem::replace(targets, Targets::new(alloc)), to)?;
+    let Applied { events, .. } = filter.apply(taken(alloc, event))?;
+    go_on(events, to)?;
+    Ok(false)
+}
+
+// A single event is put in this place, and others go on behind the last cell.
+fn put(events: Events, event: &mut Event, to: &mut Items<Cell>) -> Result<bool, AllocError>
+    ensures { IfOk result (λ stays. (table : Table) → Came
+        table stays event.new [] to.old to.new (at_once events)) }
+{
+    let mut events = events;
+    if events.len() == 1 {
+        *event = events.remove(0);
+        return Ok(true);
+    }
+    go_on(events, to)?;
+    Ok(false)
 }
 
 // Asks a box about an event.
 fn ask<X: Asked>(
     filter: &BoxedFilter,
     plugged: &X,
-    event: Event,
+    event: &Event,
     targets: Targets,
     to: &mut Items<Cell>,
 ) -> Result<(), AllocError>
     ensures { OnOk result (Answered
-        (X.may plugged.now event)
-        filter.now event targets to.old to.new) }
+        (X.may plugged.now event.now)
+        filter.now event.now targets to.old to.new) }
 {
-    leave(&event, targets, to)?;
-    let verdict = plugged.ask(&event)?;
+    leave(event, targets, to)?;
+    let verdict = plugged.ask(event)?;
     let events = events_of(filter, &verdict)?;
     to.push(Cell::Came(Outcome::Used(verdict)))?;
     go_on(events, to)

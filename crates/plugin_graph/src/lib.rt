@@ -22,6 +22,7 @@ mod output;
 mod parts;
 mod passage;
 mod places;
+mod shared;
 mod walker;
 mod walking;
 
@@ -37,4 +38,5 @@ pub use kit_filter::KitFilter;
 pub use lists::{add_named, compile_conditions, read_filters};
 pub use output::{Output, Outputs, Target};
 pub use passage::{Passage, Sent};
+pub use shared::Shared;
 pub use walking::walk;

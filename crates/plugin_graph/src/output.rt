@@ -1,12 +1,11 @@
 ghost use Rattle.std.specs.Prelude.{◌≡◌, ◌++◌, ◌∷◌, [], IfOk, OnOk};
-ghost use Rattle.event_flow.specs.declared.cell.Cell.TheVariants as cell;
 ghost use Rattle.plugin_graph.specs.Numbering as spec;
 
 use crate::ids::plugin_id;
 use crate::places::places_of;
+use crate::shared::Shared;
 use config_tree::Plugin;
-use event_flow::{Cell, Targets};
-use event_tree::Event;
+use event_flow::Targets;
 use foreign_parts::Place;
 use plain_data::{Items, Text};
 use std::alloc::{AllocError, Global};
@@ -32,23 +31,15 @@ impl Drop for Target {
 #[derive(Drop)]
 pub struct Output {
     pub id: Text,
-    pub targets: Targets,
+    pub targets: Items<u64>,
 }
 
 impl Output {
-    /// An event is sent to the targets, and goes on.
-    pub fn send(
-        &self,
-        event: Event,
-        targets: Targets,
-        to: &mut Items<Cell>,
-    ) -> Result<(), AllocError>
-        ensures { OnOk result (to.new
-            ≡ to.old ++ cell.At 0 event (targets ++ self.now.targets) ∷ []) }
+    /// An event that was sent to these targets so far is sent to those of the output, too.
+    pub fn send(&self, targets: &mut Targets) -> Result<(), AllocError>
+        ensures { OnOk result (targets.new ≡ targets.old ++ self.now.targets) }
     {
-        let mut targets = targets;
-        add_numbers(&mut targets, self.targets.as_slice())?;
-        to.push(Cell::At(0, event, targets))
+        add_numbers(targets, self.targets.as_slice())
     }
 }
 
@@ -65,7 +56,7 @@ fn add_numbers(to: &mut Targets, numbers: &[u64]) -> Result<(), AllocError>
 #[derive(Drop)]
 pub struct Outputs {
     pub outputs: Items<Output>,
-    pub targets: Items<Target>,
+    pub targets: Items<Shared<Target>>,
 }
 
 impl Outputs {
@@ -107,7 +98,8 @@ impl Outputs {
     {
         for place in places.into_vec() {
             let output = id.copy()?;
-            self.targets.push(Target { output, place })?;
+            let target = Shared::new(self.targets.allocator(), Target { output, place })?;
+            self.targets.push(target)?;
         }
         Ok(())
     }

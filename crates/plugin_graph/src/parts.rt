@@ -1,24 +1,29 @@
-ghost use Rattle.std.specs.Prelude.{◌≡◌, OnOk};
-ghost use Rattle.event_flow.specs.Marks.{Adds, marks};
+ghost use Rattle.std.specs.Prelude.{◌≡◌, IfOk};
+ghost use Rattle.event_flow.specs.Marks.{Comes};
 ghost use Rattle.event_flow.specs.Steps.{Table};
+ghost use Rattle.event_flow.specs.declared.cell.Cell.TheVariants as cell;
+ghost use Rattle.event_flow.specs.declared.cell.Outcome.TheVariants as outcome;
 ghost use Rattle.plugin_graph.specs.Kits.{HaveOwnTargets, MayAt, boxes_of, filter_acts};
 ghost use Rattle.plugin_graph.specs.Meetings.{Meeting};
 
 use crate::condition::CompiledCondition;
 use crate::kit_filter::KitFilter;
 use crate::output::{Output, Target};
+use crate::passage::taken;
+use crate::shared::Shared;
 use condition_eval::Truth;
 use event_flow::{Cell, Kit, Outcome, Targets};
 use event_tree::{Event, Items};
 use foreign_parts::Asked;
 use std::alloc::{AllocError, Global};
+use std::mem;
 
 /// The plugins and conditions of a kit, by their numbers: those of the filters first.
 #[derive(Drop)]
 pub struct Parts<X> {
     pub filters: Items<KitFilter<X>>,
     pub outputs: Items<Output>,
-    pub targets: Items<Target>,
+    pub targets: Items<Shared<Target>>,
     pub conditions: Items<CompiledCondition>,
     ghost own: { HaveOwnTargets targets outputs },
 }
@@ -52,16 +57,22 @@ impl<X: Asked> Kit for Parts<X> {
     fn act(
         &mut self,
         number: u64,
-        event: Event,
-        targets: Targets,
+        event: &mut Event,
+        targets: &mut Targets,
         to: &mut Items<Cell>,
-    ) -> Result<(), AllocError> {
+    ) -> Result<bool, AllocError> {
         let at = number as usize;
         match at.checked_sub(self.filters.len()) {
             None => meet(&mut self.filters, at, event, targets, to),
             Some(place) => match self.outputs.get(place) {
-                Some(output) => output.send(event, targets, to),
-                None => to.push(Cell::Came(Outcome::Gone(event, targets))),
+                Some(output) => {
+                    output.send(targets)?;
+                    Ok(true)
+                }
+                None => {
+                    to.push(gone(to.allocator(), event, targets))?;
+                    Ok(false)
+                }
             },
         }
     }
@@ -74,18 +85,26 @@ impl<X: Asked> Kit for Parts<X> {
     }
 }
 
+// An event is moved out of its place, and goes no further.
+fn gone(alloc: Global, event: &mut Event, targets: &mut Targets) -> Cell
+    ensures { result ≡ cell.Came (outcome.Gone event.old targets.old) }
+{
+    let targets = mem::replace(targets, Targets::new(alloc));
+    Cell::Came(Outcome::Gone(taken(alloc, event), targets))
+}
+
 // Has an event meet the filter of a number.
 fn meet<X: Asked>(
     filters: &mut Items<KitFilter<X>>,
     at: usize,
-    event: Event,
-    targets: Targets,
+    event: &mut Event,
+    targets: &mut Targets,
     to: &mut Items<Cell>,
-) -> Result<(), AllocError>
-    ensures ok { OnOk result ((table : Table) → Adds (Meeting
+) -> Result<bool, AllocError>
+    ensures ok { IfOk result (λ stays. (table : Table) → Comes (Meeting
         (MayAt X.may (boxes_of filters.old))
-        (filter_acts filters.old at event) table event targets)
-        (marks table to.old) (marks table to.new)) }
+        (filter_acts filters.old at event.old) table event.old targets.old)
+        table stays event.new targets.new to.old to.new) }
     ensures same { filters.new ≡ filters.old }
 {
     match filters.get_mut(at) {

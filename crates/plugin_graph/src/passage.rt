@@ -6,11 +6,13 @@ ghost use Rattle.plugin_graph.specs.KitParts.{contents_in};
 ghost use Rattle.plugin_graph.specs.Kits.{id_at, table_of, target_at};
 ghost use Rattle.plugin_graph.specs.Passages as spec;
 
+use crate::output::Target;
 use crate::parts::Parts;
+use crate::shared::Shared;
 use condition_eval::Reason;
 use event_flow::{Cell, Outcome};
 use event_tree::{DeadList, DeadPart, Event, Events, Items, Text};
-use foreign_parts::{Place, Verdict};
+use foreign_parts::Verdict;
 use std::alloc::{AllocError, Global};
 use std::mem;
 
@@ -19,9 +21,8 @@ const REASON_BYTES: usize = 32;
 
 /// An event that an output sends to a place.
 pub struct Sent {
-    /// The output's id.
-    pub output: Text,
-    pub place: Place,
+    /// The output and the place, which the kit has, too.
+    pub target: Shared<Target>,
     pub event: Event,
 }
 
@@ -29,8 +30,7 @@ pub struct Sent {
 impl Drop for Sent {
     fn drop(self) {
         let Sent {
-            output: _output,
-            place: _place,
+            target: _target,
             event: _event,
         } = self;
     }
@@ -106,7 +106,7 @@ impl Passage {
 }
 
 // An event is moved out of an outcome, and an empty one left there.
-fn taken(alloc: Global, event: &mut Event) -> Event
+pub(crate) fn taken(alloc: Global, event: &mut Event) -> Event
     ensures { result ≡ event.old }
 {
     mem::replace(event, Event::new(alloc))
@@ -167,13 +167,8 @@ fn send_one<X: Drop>(
     let Some(target) = parts.targets.get(number as usize) else {
         return Err(AllocError);
     };
-    let output = target.output.copy()?;
-    let place = target.place.copy()?;
-    to.push(Sent {
-        output,
-        place,
-        event,
-    })
+    let target = target.share()?;
+    to.push(Sent { target, event })
 }
 
 // The letter of an event whose condition is wrong.

@@ -1,4 +1,4 @@
-ghost use Rattle.std.specs.Prelude.{◌≡◌, ℕ, ◌∷◌, [], false, map, slice_get, IfOk, OnOk};
+ghost use Rattle.std.specs.Prelude.{◌≡◌, ℕ, ◌∷◌, [], false, map, slice_get, IfOk};
 ghost use Rattle.event_tree.specs.Events.{Ev};
 ghost use Rattle.event_tree.specs.Paths.{over};
 ghost use Rattle.foreign_parts.specs.declared.filter.Verdict.{Verdict};
@@ -57,10 +57,10 @@ impl<X: Asked> Kit for Walker<X> {
     fn act(
         &mut self,
         number: u64,
-        event: Event,
-        targets: Targets,
+        event: &mut Event,
+        targets: &mut Targets,
         to: &mut Items<Cell>,
-    ) -> Result<(), AllocError> {
+    ) -> Result<bool, AllocError> {
         let at = number as usize;
         if is_marked(self.plain.as_slice(), at) {
             self.reads = self.reads.saturating_add(1);
@@ -158,11 +158,12 @@ fn alone(alloc: Global, event: &Event) -> Result<Events, AllocError>
 fn meet_anew(
     plugins: &[Plugin],
     at: usize,
-    event: Event,
-    targets: Targets,
+    event: &mut Event,
+    targets: &mut Targets,
     to: &mut Items<Cell>,
-) -> Result<(), AllocError>
-    ensures { OnOk result (MetAnew plugins.now at event targets to.old to.new) }
+) -> Result<bool, AllocError>
+    ensures { IfOk result (λ stays. MetAnew plugins.now at event.old targets.old
+        stays event.new targets.new to.old to.new) }
 {
     let mut filter = read_anew(plugins, at)?;
     meet(&mut filter, event, targets, to)

@@ -1,9 +1,15 @@
-use Rattle.std.proofs.Common.{◌≡◌, ap}
+use Rattle.std.proofs.Common.{◌≡◌, ◌++◌, ◌∙◌, ap, subst}
+use Rattle.event_flow.specs.Marks.{dids, marks, sent_to}
+use Rattle.event_flow.specs.Steps.{Table}
 use Rattle.plugin_graph.specs.Makes.{applied}
 use Rattle.plugin_graph.proofs.Encounters.{built_met}
 use Rattle.plugin_graph.proofs.kit_filter.meet.Goals as goal
 
 pub returns-clause-ok : goal.returns-clause-ok
 returns-clause-ok c =
-    let made : c.in_ok-events.field-0.events ≡ (applied c.args.filter.now c.args.event).events = ap (λ a. a.events) c.in_ok-events.ensures.applied in
-    built_met c.args.to.now c.args.event c.args.targets c.leave.new.to c.in_ok-leave.ensures c.go_on.result c.args.filter.now c.in_ok-events.field-0.events c.go_on.new.to made c.go_on.ensures
+    let e = c.args.event.now in
+    let es = c.in_ok-events-2.field-0.events in
+    let made : es ≡ (applied c.args.filter.now e).events = ap (λ a. a.events) c.in_ok-events-2.ensures.applied ∙ ap (λ y. (applied c.args.filter.now y).events) c.taken-2.ensures in
+    let left : (table : Table) → marks table c.leave.new.to ≡ marks table c.args.to.now ++ dids (sent_to table c.args.targets.now e)
+    = subst (λ ts. (table : Table) → marks table c.leave.new.to ≡ marks table c.args.to.now ++ dids (sent_to table ts e)) c.replace.ensures.value c.in_ok-leave.ensures in
+    built_met c.args.to.now e c.args.targets.now c.leave.new.to left c.args.filter.now es c.go_on.new.to e c.args.targets.now made c.in_ok-go_on.ensures

@@ -1,4 +1,4 @@
-use Rattle.std.proofs.Common.{◌≡◌, Ok, rules, subst}
+use Rattle.std.proofs.Common.{◌≡◌, Ok, rules}
 use Rattle.filter_settings.specs.Settings.{Refuses}
 use Rattle.event_flow.specs.Parts.{parts_of}
 use Rattle.plugin_graph.specs.Conditions.{compiled}

@@ -8,24 +8,27 @@ pub returns-in-None-clause-ok : goal.returns-in-None-clause-ok
 returns-in-None-clause-ok g c =
     let parts = c.args.self.now in
     let found = contents_in parts in
+    let e = c.args.event.now in
     let below : c.args.number < length parts.filters = search rules in
-    by_table c.meet.result (MayAt g.X.Asked.may (boxes_of parts.filters)) found c.args.number c.args.event c.args.targets c.args.to.now c.meet.new.to
-    (filter_acts parts.filters c.args.number c.args.event) (inside parts.filters found refl c.args.number c.args.event below) c.meet.ensures.ok
+    by_table c.meet.result (MayAt g.X.Asked.may (boxes_of parts.filters)) found c.args.number e c.args.targets.now c.meet.new.event c.meet.new.targets c.args.to.now c.meet.new.to
+    (filter_acts parts.filters c.args.number e) (inside parts.filters found refl c.args.number e below) c.meet.ensures.ok
 
-pub returns-in-Some-get-clause-ok : goal.returns-in-Some-get-clause-ok
-returns-in-Some-get-clause-ok g c =
+pub returns-in_ok-send-in-Some-get-clause-ok : goal.returns-in_ok-send-in-Some-get-clause-ok
+returns-in_ok-send-in-Some-get-clause-ok g c =
     let parts = c.args.self.now in
     let found = contents_in parts in
+    let e = c.args.event.now in
     let past : length parts.filters ≤ c.args.number = search rules in
     let at : c.in-Some.place ≡ c.args.number - length parts.filters = search rules in
-    output_meets c.send.result (MayAt g.X.Asked.may (boxes_of parts.filters)) found c.args.number c.in-Some.place c.args.event c.args.targets c.args.to.now c.send.new.to
-    (outside parts.filters found refl c.args.number c.args.event c.in-Some.place past at) c.in-Some-get.output.now parts.own (search rules) c.send.ensures
+    output_meets (MayAt g.X.Asked.may (boxes_of parts.filters)) found c.args.number c.in-Some.place e c.args.targets.now (outside parts.filters found refl c.args.number e c.in-Some.place past at)
+    c.send.new.targets c.args.to.now c.in-Some-get.output.now parts.own (search rules) c.in_ok-send-in-Some-get.ensures
 
-pub returns-in-None-get-clause-ok : goal.returns-in-None-get-clause-ok
-returns-in-None-get-clause-ok g c =
+pub returns-in_ok-push-in-None-get-clause-ok : goal.returns-in_ok-push-in-None-get-clause-ok
+returns-in_ok-push-in-None-get-clause-ok g c =
     let parts = c.args.self.now in
     let found = contents_in parts in
+    let e = c.args.event.now in
     let past : length parts.filters ≤ c.args.number = search rules in
     let at : c.in-Some.place ≡ c.args.number - length parts.filters = search rules in
-    nothing_meets c.push.result (MayAt g.X.Asked.may (boxes_of parts.filters)) found c.args.number c.in-Some.place c.args.event c.args.targets c.args.to.now c.push.new.self
-    (outside parts.filters found refl c.args.number c.args.event c.in-Some.place past at) (search rules) c.push.ensures.ok
+    nothing_meets (MayAt g.X.Asked.may (boxes_of parts.filters)) found c.args.number c.in-Some.place e c.args.targets.now (outside parts.filters found refl c.args.number e c.in-Some.place past at)
+    c.gone.new.event c.gone.new.targets c.args.to.now c.push.new.self c.gone.result (search rules) c.gone.ensures c.in_ok-push-in-None-get.ensures.ok

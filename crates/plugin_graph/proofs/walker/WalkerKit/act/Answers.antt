@@ -10,7 +10,7 @@ returns-then-is_marked-clause-ok g c =
     let w = c.args.self.now in
     let marked : over (λ b. b) false (slice_get w.plain c.args.number) ≡ true = search rules in
     let lent : c.as_slice-then-is_marked.result.now ≡ w.plugins = search rules in
-    anew_by_table c.meet_anew.result (MayAt g.X.Asked.may (boxes_of w.parts.filters)) (table_of (contents_in w.parts)) w.plugins c.as_slice-then-is_marked.result.now w.plain c.args.number c.args.event c.args.targets c.args.to.now c.meet_anew.new.to
+    anew_by_table c.meet_anew.result (MayAt g.X.Asked.may (boxes_of w.parts.filters)) (table_of (contents_in w.parts)) w.plugins c.as_slice-then-is_marked.result.now w.plain c.args.number c.args.event.now c.args.targets.now c.meet_anew.new.event c.meet_anew.new.targets c.args.to.now c.meet_anew.new.to
     lent c.requires (is_yes (slice_get w.plain c.args.number) marked) c.meet_anew.ensures
 
 pub returns-else-is_marked-clause-stands : goal.returns-else-is_marked-clause-stands
