@@ -23,7 +23,7 @@ const MOST_REASON: usize = 65_536;
 
 /// Why a part of a body wasn't read.
 enum Fault {
-    /// The body isn't JSON as `serde_json` reads it.
+    /// The body isn't JSON as `serde_json` reads it, if the reader is sure of that.
     Invalid,
     Memory,
 }
