@@ -52,7 +52,7 @@ def written(statements):
 
 
 def is_(field, value):
-    return Condition(f"[{field}] == {json.dumps(value)}", lambda e: e.get(field, "\0") == value and field in e)
+    return Condition(f"[{field}] == {json.dumps(value)}", lambda e: field in e and (type(e[field]), e[field]) == (type(value), value))
 
 
 def over(field, least):
@@ -97,8 +97,14 @@ def no(one):
     return Condition(f"!({one})", lambda e: not one.says(e))
 
 
+def with_tag(event, name):
+    """A tag is added where it isn't there."""
+    tags = event.get("tags", [])
+    return {**event, "tags": tags if name in tags else tags + [name]}
+
+
 def tag(name):
-    return Filter(f'mutate {{ add_tag => "{name}" }}', lambda e: [{**e, "tags": e.get("tags", []) + [name]}])
+    return Filter(f'mutate {{ add_tag => "{name}" }}', lambda e: [with_tag(e, name)])
 
 
 def put(field, text):
@@ -107,14 +113,16 @@ def put(field, text):
 
 def clone(*names):
     listed = ", ".join(f'"{it}"' for it in names)
-    return Filter(f"clone {{ clones => [{listed}] }}", lambda e: [e] + [{**e, "tags": e.get("tags", []) + [it]} for it in names])
+    return Filter(f"clone {{ clones => [{listed}] }}", lambda e: [e] + [with_tag(e, it) for it in names])
 
 
 def split(field):
     def makes(event):
         items = event.get(field)
+        if type(items) is str:  # no text here has two lines
+            return [event]
         if type(items) is not list:
-            return [{**event, "tags": event.get("tags", []) + ["_split_type_failure"]}]
+            return [with_tag(event, "_split_type_failure")]
         return [event] if len(items) < 2 else [{**event, field: it} for it in items]
 
     return Filter(f'split {{ field => "{field}" }}', makes)
