@@ -10,7 +10,7 @@ use Rattle.event_flow.specs.Flows.{Asked}
 use Rattle.event_flow.specs.Marks.{AllMay}
 use Rattle.event_flow.specs.Places.{Draws}
 use Rattle.plugin_graph.specs.Kits.{MayAt}
-use Rattle.plugin_graph.specs.Makes.{makes}
+use Rattle.built_plugins.specs.Makes.{makes}
 use Rattle.plugin_graph.specs.Passages.{IsPassageOf}
 use Rattle.plugin_graph.specs.declared.passage.Passage.{Passage}
 use Rattle.batch_rows.specs.declared.codecs.OutputCodec.{OutputCodec}

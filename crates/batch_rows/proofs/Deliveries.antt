@@ -17,8 +17,8 @@ use Rattle.event_flow.specs.Parts.{parts_of}
 use Rattle.event_flow.specs.Places.{Draws, once, places_of}
 use Rattle.line_codecs.specs.Written.{out_bytes}
 use Rattle.line_codecs.specs.declared.codec.OutCodec.{OutCodec}
-use Rattle.plugin_graph.specs.Makes.{makes}
-use Rattle.plugin_graph.specs.Numbering.{output_id}
+use Rattle.built_plugins.specs.Makes.{makes}
+use Rattle.built_plugins.specs.Numbering.{output_id}
 use Rattle.plugin_graph.specs.Passages.{sent_of}
 use Rattle.graph_checks.specs.OwnIds.{AreApart, HaveOwnIds, ids_from}
 use Rattle.graph_checks.specs.Plugins.{stands}

@@ -15,7 +15,7 @@ use Rattle.io_traits.specs.Telling.{Grows, GrowsInPart}
 use Rattle.line_codecs.specs.Written.{out_bytes}
 use Rattle.plugin_graph.specs.Graphs.{contents_of, steps_in}
 use Rattle.plugin_graph.specs.Kits.{table_of}
-use Rattle.plugin_graph.specs.Makes.{makes}
+use Rattle.built_plugins.specs.Makes.{makes}
 use Rattle.plugin_graph.specs.declared.graph.Graph.{Graph}
 use Rattle.plugin_graph.specs.declared.kit.Kit.{Kit}
 use Rattle.graph_checks.specs.OwnIds.{HaveOwnIds}

@@ -5,7 +5,7 @@ use Rattle.config_tree.specs.declared.tree.Plugin.{Plugin}
 use Rattle.event_flow.specs.Parts.{parts_of}
 use Rattle.filter_settings.specs.Settings.{Made}
 use Rattle.line_codecs.specs.declared.codec.OutCodec.{OutCodec}
-use Rattle.plugin_graph.specs.Numbering.{output_id}
+use Rattle.built_plugins.specs.Numbering.{output_id}
 use Rattle.plugin_settings.specs.Outputs.{stdout_of}
 use Rattle.plugin_settings.specs.declared.outputs.StdoutSettings.{StdoutSettings}
 use Rattle.batch_rows.specs.declared.codecs.OutputCodec.{OutputCodec}

@@ -4,10 +4,10 @@ ghost use Rattle.filter_settings.specs.Settings.{Gives, Made};
 ghost use Rattle.plugin_settings.specs.declared.outputs.StdoutSettings.{StdoutSettings as Said};
 ghost use Rattle.batch_rows.specs.Codecs as spec;
 
+use built_plugins::{Flat, plugin_id};
 use config_tree::{Config, FromFault, Plugin};
 use line_codecs::OutCodec;
 use plain_data::{Items, Text};
-use plugin_graph::{Flat, plugin_id};
 use plugin_settings::StdoutSettings;
 use std::alloc::{AllocError, Global};
 use std::mem;

@@ -15,6 +15,6 @@ mod targets;
 pub use block::{Block, Laid};
 pub use cell::{Cell, Outcome};
 pub use laying::{lay, lay_config};
-pub use running::{Kit, run};
+pub use running::{Plugins, run};
 pub use step::Step;
 pub use targets::Targets;

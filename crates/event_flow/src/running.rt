@@ -20,7 +20,7 @@ use event_tree::{Event, Events, Items};
 use std::alloc::{AllocError, Global};
 
 /// Filters, outputs and conditions, by their numbers in the steps.
-pub trait Kit {
+pub trait Plugins {
     ghost use Rattle.event_tree.specs.Events.{Ev};
     ghost use Rattle.foreign_parts.specs.declared.filter.Verdict.{Verdict};
     ghost use Rattle.event_flow.specs.Steps.{Table};
@@ -76,7 +76,7 @@ pub trait Kit {
 ///
 /// An event stands in its place and is moved only by the plugins that it meets, once for each,
 /// whatever its size. Where more than one cell comes of an event, those behind it are moved too.
-pub fn run<K: Kit>(
+pub fn run<K: Plugins>(
     alloc: Global,
     kit: &mut K,
     steps: &[Step],
@@ -112,7 +112,7 @@ fn started(alloc: Global, events: Events) -> Result<Items<Cell>, AllocError>
     Ok(cells)
 }
 
-fn one_step<K: Kit>(
+fn one_step<K: Plugins>(
     alloc: Global,
     kit: &mut K,
     step: Step,
@@ -137,7 +137,7 @@ fn one_step<K: Kit>(
     Ok(cells)
 }
 
-fn step_at<K: Kit>(
+fn step_at<K: Plugins>(
     alloc: Global,
     kit: &mut K,
     step: Step,
@@ -163,7 +163,7 @@ fn step_at<K: Kit>(
 
 // Takes the cells from this number on through the step, where more than one came of the cell in
 // front of them: the others stand behind that. From here on each cell is moved.
-fn step_rest<K: Kit>(
+fn step_rest<K: Plugins>(
     alloc: Global,
     kit: &mut K,
     step: Step,
@@ -193,7 +193,7 @@ fn step_rest<K: Kit>(
 }
 
 // What comes of a cell is put behind the others.
-fn add_step<K: Kit>(
+fn add_step<K: Plugins>(
     alloc: Global,
     kit: &mut K,
     step: Step,

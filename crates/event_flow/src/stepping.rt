@@ -10,7 +10,7 @@ ghost use Rattle.event_flow.specs.declared.cell.Cell.TheVariants as variant;
 ghost use Rattle.event_flow.specs.declared.step.Step.TheVariants as step;
 
 use crate::cell::{Cell, Outcome};
-use crate::running::Kit;
+use crate::running::Plugins;
 use crate::step::Step;
 use crate::targets::Targets;
 use condition_eval::Truth;
@@ -20,7 +20,7 @@ use std::mem;
 
 /// A cell takes a step. The first that comes of it stands in its place, and the others in `others`,
 /// where nothing was.
-pub(crate) fn step_cell<K: Kit>(
+pub(crate) fn step_cell<K: Plugins>(
     alloc: Global,
     kit: &mut K,
     step: Step,
@@ -60,7 +60,7 @@ fn passes(cell: &mut Cell) -> bool
 }
 
 // The event of a cell meets a step.
-fn meet_step<K: Kit>(
+fn meet_step<K: Plugins>(
     alloc: Global,
     kit: &mut K,
     step: Step,
@@ -89,7 +89,7 @@ fn meet_step<K: Kit>(
 }
 
 // The event of a cell meets a condition, which leads it.
-fn meet_condition<K: Kit>(
+fn meet_condition<K: Plugins>(
     alloc: Global,
     kit: &mut K,
     number: u64,
@@ -138,7 +138,7 @@ fn lead(alloc: Global, truth: Truth, number: u64, over: u64, cell: &mut Cell)
 }
 
 // An event meets a plugin.
-fn meet_plugin<K: Kit>(
+fn meet_plugin<K: Plugins>(
     alloc: Global,
     kit: &mut K,
     number: u64,

@@ -25,9 +25,9 @@ use Rattle.filters_text.proofs.kv_filter.Kv.TheSendSync as kv
 use Rattle.filters_text.proofs.csv_filter.Csv.TheSendSync as csv
 use Rattle.filters_date.proofs.date_filter.DateFilter.TheSendSync as date_filter
 use Rattle.grok_patterns.proofs.expansion.Rules.TheSendSync as rules
-use Rattle.plugin_graph.proofs.boxed.BoxedFilter.TheSendSync as boxed_filter
-use Rattle.plugin_graph.proofs.output.Output.TheSendSync as output
-use Rattle.plugin_graph.proofs.output.Target.TheSendSync as target
+use Rattle.built_plugins.proofs.boxed.BoxedFilter.TheSendSync as boxed_filter
+use Rattle.built_plugins.proofs.output.Output.TheSendSync as output
+use Rattle.built_plugins.proofs.output.Target.TheSendSync as target
 use Rattle.plain_data.proofs.items.Items.TheSendSync as items
 use Rattle.plain_data.proofs.text.Text.TheSendSync as text
 use Rattle.config_tree.proofs.operators.Conjunction.TheSendSync as conjunction
@@ -40,10 +40,10 @@ use Rattle.filters_mutate.specs.contracts.gsub.Gsub as Gsub
 use Rattle.filters_mutate.specs.contracts.mutate.Mutate as Mutate
 use Rattle.filters_grok.specs.contracts.grok_pattern.GrokPattern as GrokPattern
 use Rattle.filters_grok.specs.contracts.grok.Grok as Grok
-use Rattle.plugin_graph.specs.contracts.condition.NamedCondition as NamedCondition
-use Rattle.plugin_graph.specs.contracts.condition.CompiledCondition as CompiledCondition
-use Rattle.plugin_graph.specs.contracts.built.BuiltFilter as BuiltFilter
-use Rattle.plugin_graph.specs.contracts.filter.Filter as Filter
+use Rattle.built_plugins.specs.contracts.condition.NamedCondition as NamedCondition
+use Rattle.built_plugins.specs.contracts.condition.CompiledCondition as CompiledCondition
+use Rattle.built_plugins.specs.contracts.built.BuiltFilter as BuiltFilter
+use Rattle.built_plugins.specs.contracts.filter.Filter as Filter
 use Rattle.plugin_graph.specs.contracts.kit_filter.KitFilter as KitFilter
 use Rattle.plugin_graph.specs.contracts.kit.Kit as Kit
 

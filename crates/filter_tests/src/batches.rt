@@ -1,10 +1,11 @@
 //! Takes batches of events through a configuration, and tests conditions on events, over and over (bench/graphs.sh).
 
 use crate::passages::NoBox;
+use built_plugins::{CompiledCondition, NamedCondition};
 use config_parse::parse;
 use config_tree::{Arm, Condition, Config, Statement};
 use event_tree::{Event, Events, Text};
-use plugin_graph::{CompiledCondition, Graph, Kit, NamedCondition, run};
+use plugin_graph::{Graph, Kit, run};
 use std::alloc::{AllocError, Global};
 
 /// A configuration that is ready to be run.

@@ -2,10 +2,10 @@
 
 use crate::batches::condition;
 use crate::timing::filter_of;
+use built_plugins::{BuiltFilter, CompiledCondition};
 use condition_eval::Truth;
 use event_tree::{Event, Events};
 use filter_settings::Applied;
-use plugin_graph::{BuiltFilter, CompiledCondition};
 use std::alloc::Global;
 
 /// Three filters, of which an event meets one by two conditions, and a condition by which events are dropped then.

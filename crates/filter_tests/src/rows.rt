@@ -1,8 +1,8 @@
 use crate::events::{add_event, event_of};
+use built_plugins::BuiltFilter;
 use config_parse::parse;
 use config_tree::{Config, FromFault, Plugin, Statement};
 use filter_settings::Applied;
-use plugin_graph::BuiltFilter;
 use std::alloc::{AllocError, Global};
 
 /// Adds the answer of a row.

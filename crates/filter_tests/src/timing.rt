@@ -4,9 +4,9 @@ use crate::batches::{Prepared, condition, copies, prepare, sent};
 use crate::by_hand::ByHand;
 use crate::events::event_of;
 use crate::rows::plugin_of;
+use built_plugins::{BuiltFilter, CompiledCondition};
 use event_tree::{Event, Events, Number, Path, Text, Value};
 use filter_settings::Applied;
-use plugin_graph::{BuiltFilter, CompiledCondition};
 use std::alloc::Global;
 use std::fs;
 

@@ -8,10 +8,11 @@ use Rattle.std.proofs.Common.{◌≡◌, ◌<◌, ◌≤◌, ℕ, zero, suc, ◌
 use Rattle.event_tree.specs.Paths.{over}
 use Rattle.event_text.proofs.ItemPlaces.{get_set}
 use Rattle.plugin_graph.specs.Graphs.{boxes_in, built_in, contents_of}
-use Rattle.plugin_graph.specs.Kits.{is_boxed, no_boxes}
+use Rattle.plugin_graph.specs.Kits.{no_boxes}
+use Rattle.built_plugins.specs.Makes.{is_boxed}
 use Rattle.plugin_graph.specs.Loads.{Contents}
-use Rattle.plugin_graph.specs.declared.filter.Filter.{Filter}
-use Rattle.plugin_graph.specs.declared.filter.Filter.TheVariants as f
+use Rattle.built_plugins.specs.declared.filter.Filter.{Filter}
+use Rattle.built_plugins.specs.declared.filter.Filter.TheVariants as f
 use Rattle.plugin_graph.specs.declared.kit.Kit.{Kit}
 use Rattle.graph_checks.specs.Filling.{StandsFrom, one_if, wanted, wanted_at}
 use Rattle.graph_checks.proofs.Tails.{changed, drop_end, dropped, is_old, taken}

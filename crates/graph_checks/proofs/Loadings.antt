@@ -5,13 +5,13 @@ use Rattle.config_tree.specs.declared.fault.SettingFault.{SettingFault}
 use Rattle.event_flow.specs.Parts.{parts_of}
 use Rattle.event_flow.specs.Places.{Draws}
 use Rattle.filter_settings.specs.Settings.{Made, next, with_made}
-use Rattle.plugin_graph.specs.Conditions.{compiled}
-use Rattle.plugin_graph.specs.Each.{each_made}
+use Rattle.built_plugins.specs.Conditions.{compiled}
+use Rattle.built_plugins.specs.Each.{each_made}
 use Rattle.plugin_graph.specs.Loads.{Contents, contents, conditions_of, loaded}
-use Rattle.plugin_graph.specs.Numbering.{outputs_of}
-use Rattle.plugin_graph.specs.declared.condition.NamedCondition.{NamedCondition}
-use Rattle.plugin_graph.specs.declared.filter.Filter.{Filter}
-use Rattle.plugin_graph.proofs.Making.{Fails, in_front, is_same}
+use Rattle.built_plugins.specs.Numbering.{outputs_of}
+use Rattle.built_plugins.specs.declared.condition.NamedCondition.{NamedCondition}
+use Rattle.built_plugins.specs.declared.filter.Filter.{Filter}
+use Rattle.built_plugins.proofs.Making.{Fails, in_front, is_same}
 use Rattle.graph_checks.specs.Readings.{IsRead}
 
 -- what is made of one list, and then of another

@@ -15,14 +15,14 @@ use Rattle.event_flow.specs.Ids as ids
 use Rattle.foreign_parts.specs.Stocks.{is_known}
 use Rattle.foreign_parts.specs.declared.boxes.Kind.{Kind}
 use Rattle.foreign_parts.specs.declared.boxes.Kind.TheVariants as kind
-use Rattle.plugin_graph.specs.Conditions.{compiled}
-use Rattle.plugin_graph.specs.Each.{each_made, named}
-use Rattle.plugin_graph.specs.Makes.{boxed_of, boxed_unless, built_of, filter_of}
-use Rattle.plugin_graph.specs.declared.boxed.BoxedFilter.{BoxedFilter}
-use Rattle.plugin_graph.specs.declared.built.BuiltFilter.{BuiltFilter}
-use Rattle.plugin_graph.specs.declared.condition.NamedCondition.{NamedCondition}
-use Rattle.plugin_graph.specs.declared.filter.Filter.{Filter}
-use Rattle.plugin_graph.specs.declared.filter.Filter.TheVariants as f
+use Rattle.built_plugins.specs.Conditions.{compiled}
+use Rattle.built_plugins.specs.Each.{each_made, named}
+use Rattle.built_plugins.specs.Makes.{boxed_of, boxed_unless, built_of, filter_of}
+use Rattle.built_plugins.specs.declared.boxed.BoxedFilter.{BoxedFilter}
+use Rattle.built_plugins.specs.declared.built.BuiltFilter.{BuiltFilter}
+use Rattle.built_plugins.specs.declared.condition.NamedCondition.{NamedCondition}
+use Rattle.built_plugins.specs.declared.filter.Filter.{Filter}
+use Rattle.built_plugins.specs.declared.filter.Filter.TheVariants as f
 use Rattle.graph_checks.specs.Answers.{Checked, next, of_plugin, all_checked}
 use Rattle.graph_checks.specs.Boxes.{Stand, Counts, asked, box_read, count_of}
 use Rattle.graph_checks.specs.BuiltIn.{built_in, no_path}

@@ -14,21 +14,21 @@ use Rattle.event_flow.specs.Parts.{parts_of}
 use Rattle.event_flow.specs.Places.{Draws}
 use Rattle.filter_settings.specs.Settings.{Made, next, with_made}
 use Rattle.foreign_parts.specs.declared.boxes.Kind.TheVariants as kind
-use Rattle.plugin_graph.specs.Conditions.{compiled}
+use Rattle.built_plugins.specs.Conditions.{compiled}
 use Rattle.plugin_graph.specs.Counts.{patterns_in}
-use Rattle.plugin_graph.specs.Each.{each_made}
+use Rattle.built_plugins.specs.Each.{each_made}
 use Rattle.plugin_graph.specs.Graphs.{built_in, contents_of}
-use Rattle.plugin_graph.specs.Kits.{is_boxed, table_of}
+use Rattle.plugin_graph.specs.Kits.{table_of}
+use Rattle.built_plugins.specs.Makes.{boxed_of, boxed_unless, built_of, filter_of, is_boxed, makes}
 use Rattle.plugin_graph.specs.Loads.{Contents, contents, conditions_of, loaded}
-use Rattle.plugin_graph.specs.Makes.{boxed_of, boxed_unless, built_of, filter_of, makes}
-use Rattle.plugin_graph.specs.Numbering.{outputs_of}
-use Rattle.plugin_graph.specs.declared.boxed.BoxedFilter.{BoxedFilter}
-use Rattle.plugin_graph.specs.declared.built.BuiltFilter.{BuiltFilter}
-use Rattle.plugin_graph.specs.declared.condition.NamedCondition.{NamedCondition}
-use Rattle.plugin_graph.specs.declared.filter.Filter.{Filter}
-use Rattle.plugin_graph.specs.declared.filter.Filter.TheVariants as f
+use Rattle.built_plugins.specs.Numbering.{outputs_of}
+use Rattle.built_plugins.specs.declared.boxed.BoxedFilter.{BoxedFilter}
+use Rattle.built_plugins.specs.declared.built.BuiltFilter.{BuiltFilter}
+use Rattle.built_plugins.specs.declared.condition.NamedCondition.{NamedCondition}
+use Rattle.built_plugins.specs.declared.filter.Filter.{Filter}
+use Rattle.built_plugins.specs.declared.filter.Filter.TheVariants as f
 use Rattle.plugin_graph.specs.declared.kit.Kit.{Kit}
-use Rattle.plugin_graph.proofs.Making.{Fails, in_front, is_same}
+use Rattle.built_plugins.proofs.Making.{Fails, in_front, is_same}
 use Rattle.graph_checks.specs.BuiltIn.{built_in as built_in_of, no_path}
 use Rattle.graph_checks.specs.Filling.{one_if, wanted, wanted_at}
 use Rattle.graph_checks.specs.Plans.{IsKitOf, most, width}

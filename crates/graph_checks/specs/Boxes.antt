@@ -11,8 +11,8 @@ use Rattle.foreign_parts.specs.Stocks.{left_of, refusals_of}
 pub use Rattle.foreign_parts.specs.Boxes.{Stand, Keeps}
 use Rattle.foreign_parts.specs.declared.boxes.Kind.{Kind}
 use Rattle.foreign_parts.specs.declared.boxes.Kind.TheVariants as kind
-use Rattle.plugin_graph.specs.Makes.{boxed_of}
-use Rattle.plugin_graph.specs.declared.boxed.BoxedFilter.{BoxedFilter}
+use Rattle.built_plugins.specs.Makes.{boxed_of}
+use Rattle.built_plugins.specs.declared.boxed.BoxedFilter.{BoxedFilter}
 use Rattle.graph_checks.specs.declared.asking.BoxedOutput.{BoxedOutput}
 
 -- names, each with how many plugins of it there are

@@ -5,8 +5,8 @@ use Rattle.filter_settings.specs.Settings.{Made, with_made}
 use Rattle.plugin_settings.specs.Read.{output_of}
 use Rattle.plugin_settings.specs.declared.read.Output.{Output}
 use Rattle.plugin_settings.specs.declared.read.Output.TheVariants as o
-use Rattle.plugin_graph.specs.Makes.{built_of}
-use Rattle.plugin_graph.specs.declared.built.BuiltFilter.{BuiltFilter}
+use Rattle.built_plugins.specs.Makes.{built_of}
+use Rattle.built_plugins.specs.declared.built.BuiltFilter.{BuiltFilter}
 use Rattle.foreign_parts.specs.declared.boxes.Kind.{Kind}
 use Rattle.foreign_parts.specs.declared.boxes.Kind.TheVariants as kind
 use Rattle.graph_checks.specs.declared.built_in.BuiltIn.{BuiltIn}

@@ -2,7 +2,8 @@
 use Rattle.std.specs.Prelude.{◌≡◌, ◌≤◌, ◌<◌, ℕ, zero, suc, ◌+◌, List, [], ◌∷◌, Bool, false, if◌then◌else◌, slice_get}
 use Rattle.event_tree.specs.Paths.{over}
 use Rattle.plugin_graph.specs.Graphs.{boxes_in, contents_of}
-use Rattle.plugin_graph.specs.Kits.{is_boxed, no_boxes}
+use Rattle.plugin_graph.specs.Kits.{no_boxes}
+use Rattle.built_plugins.specs.Makes.{is_boxed}
 use Rattle.plugin_graph.specs.Loads.{Contents}
 use Rattle.plugin_graph.specs.declared.kit.Kit.{Kit}
 use Rattle.graph_checks.specs.Plans.{IsIts}

@@ -3,7 +3,7 @@ use Rattle.std.specs.Prelude.{◌≡◌, ℕ, ◌+◌, List, [], ◌∷◌, fals
 use Rattle.config_tree.specs.declared.tree.Config.{Config}
 use Rattle.config_tree.specs.declared.tree.Plugin.{Plugin}
 use Rattle.event_flow.specs.Parts.{parts_of}
-use Rattle.plugin_graph.specs.Numbering.{output_id}
+use Rattle.built_plugins.specs.Numbering.{output_id}
 use Rattle.graph_checks.specs.Plugins.{stands}
 
 -- the ids of outputs that a text counts from k on

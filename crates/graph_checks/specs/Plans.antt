@@ -9,9 +9,9 @@ use Rattle.plugin_graph.specs.Counts.{patterns_in}
 use Rattle.plugin_graph.specs.Graphs.{boxes_in, built_in, contents_of, steps_in}
 use Rattle.plugin_graph.specs.Kits.{no_boxes, table_of}
 use Rattle.plugin_graph.specs.Loads.{Contents, loaded}
-use Rattle.plugin_graph.specs.Makes.{makes}
-use Rattle.plugin_graph.specs.declared.filter.Filter.{Filter}
-use Rattle.plugin_graph.specs.declared.filter.Filter.TheVariants as f
+use Rattle.built_plugins.specs.Makes.{makes}
+use Rattle.built_plugins.specs.declared.filter.Filter.{Filter}
+use Rattle.built_plugins.specs.declared.filter.Filter.TheVariants as f
 use Rattle.plugin_graph.specs.declared.kit.Kit.{Kit}
 use Rattle.graph_checks.specs.Wants.{so_often, wants_of}
 use Rattle.graph_checks.specs.declared.plan.Plan.{Plan}

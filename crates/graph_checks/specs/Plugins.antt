@@ -11,7 +11,7 @@ use Rattle.position_file.specs.declared.name.PositionOf.{PositionOf}
 use Rattle.position_file.specs.declared.name.PositionOf.TheVariants as position
 use Rattle.foreign_parts.specs.Stocks.{is_known}
 use Rattle.event_flow.specs.Ids as ids
-pub use Rattle.plugin_graph.specs.Conditions.{patterns_read}
+pub use Rattle.built_plugins.specs.Conditions.{patterns_read}
 use Rattle.graph_checks.specs.Answers.{Checked, next, of_plugin, all_checked}
 use Rattle.graph_checks.specs.Boxes.{Stand, count_of, one_more, box_read}
 use Rattle.graph_checks.specs.BuiltIn.{built_in}

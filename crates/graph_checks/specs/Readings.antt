@@ -6,11 +6,11 @@ use Rattle.config_tree.specs.declared.tree.Plugin.{Plugin}
 use Rattle.event_flow.specs.Parts.{parts_of}
 use Rattle.foreign_parts.specs.declared.boxes.Kind.{Kind}
 use Rattle.foreign_parts.specs.declared.boxes.Kind.TheVariants as kind
-use Rattle.plugin_graph.specs.Conditions.{compiled}
-use Rattle.plugin_graph.specs.Each.{each_made, named}
-use Rattle.plugin_graph.specs.Makes.{filter_of}
-use Rattle.plugin_graph.specs.declared.condition.NamedCondition.{NamedCondition}
-use Rattle.plugin_graph.specs.declared.filter.Filter.{Filter}
+use Rattle.built_plugins.specs.Conditions.{compiled}
+use Rattle.built_plugins.specs.Each.{each_made, named}
+use Rattle.built_plugins.specs.Makes.{filter_of}
+use Rattle.built_plugins.specs.declared.condition.NamedCondition.{NamedCondition}
+use Rattle.built_plugins.specs.declared.filter.Filter.{Filter}
 use Rattle.graph_checks.specs.Plugins.{section_name}
 
 -- each filter reads; of outputs nothing is said here

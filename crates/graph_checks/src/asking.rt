@@ -4,10 +4,10 @@ ghost use Rattle.foreign_parts.specs.Stocks.{left_of, refusals_of};
 ghost use Rattle.graph_checks.specs.Boxes as spec;
 ghost use Rattle.graph_checks.specs.Boxes.{Keeps};
 
+use built_plugins::BoxedFilter;
 use config_tree::{FromFault, Plugin, SettingValue, Settings};
 use filter_settings::{SetByName, read_id, read_settings};
 use foreign_parts::{Boxes, Kind};
-use plugin_graph::BoxedFilter;
 use std::alloc::Global;
 
 /// What is read here of an output that is a box: its id, which is not kept. The box reads the others.

@@ -2,10 +2,10 @@ ghost use Rattle.std.specs.Prelude.{◌≡◌, IfOk};
 ghost use Rattle.filter_settings.specs.Settings.{Gives};
 ghost use Rattle.graph_checks.specs.BuiltIn as spec;
 
+use built_plugins::BuiltFilter;
 use config_tree::{FromFault, Plugin};
 use foreign_parts::Kind;
 use plain_data::Text;
-use plugin_graph::BuiltFilter;
 use plugin_settings::{Output, read_output};
 use std::alloc::AllocError;
 

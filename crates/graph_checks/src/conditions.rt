@@ -1,8 +1,8 @@
 ghost use Rattle.filter_settings.specs.Settings.{Gives};
 ghost use Rattle.graph_checks.specs.Plugins as spec;
 
+use built_plugins::read_patterns;
 use config_tree::{Condition, FromFault};
-use plugin_graph::read_patterns;
 use std::alloc::Global;
 
 /// Sees whether each pattern of a condition is one. The fault is `BadPattern` of `condition`.

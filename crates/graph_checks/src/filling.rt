@@ -3,7 +3,7 @@ ghost use Rattle.event_tree.specs.Paths.{over};
 ghost use Rattle.graph_checks.specs.Plans.{HasItsBoxes, HasNoBox, boxes_of_kits, column, held, rows, width};
 ghost use Rattle.graph_checks.specs.Filling.{StandsFrom, one_if, wanted, wanted_at};
 ghost use Rattle.plugin_graph.specs.Graphs.{boxes_in, built_in, contents_of};
-ghost use Rattle.plugin_graph.specs.Kits.{is_boxed};
+ghost use Rattle.built_plugins.specs.Makes.{is_boxed};
 
 use plugin_graph::Kit;
 

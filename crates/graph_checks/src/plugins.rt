@@ -9,10 +9,10 @@ use crate::fault::GraphFault;
 use crate::texts::MetTexts;
 use crate::walk::Walk;
 use crate::want::Want;
+use built_plugins::plugin_id;
 use config_tree::{FromFault, Plugin};
 use foreign_parts::{Boxes, Kind};
 use plain_data::Text;
-use plugin_graph::plugin_id;
 use position_file::{PositionOf, position_name};
 use std::alloc::{AllocError, Global};
 

@@ -9,10 +9,10 @@ use crate::fault::GraphFault;
 use crate::plugins::{section_name, setting_fault};
 use crate::texts::MetTexts;
 use crate::want::Want;
+use built_plugins::condition_id;
 use config_tree::{Arm, Condition, Statement};
 use foreign_parts::{Boxes, Kind};
 use plain_data::Items;
-use plugin_graph::condition_id;
 use std::alloc::{AllocError, Global};
 
 /// What was met so far of a section.

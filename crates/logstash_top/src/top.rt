@@ -23,13 +23,14 @@ use crate::start::{Job, WORKERS, refused, start};
 use crate::status::Status;
 use crate::world::ThinWorld;
 use batch_rows::{Closed, OutputCodec, Runner, close_kit, codecs_of_config};
+use built_plugins::plugin_id;
 use config_tree::{Config, Plugin};
 use foreign_parts::{Asked, Stockroom};
 use graph_checks::{Plan, compile};
 use in_lines::LineInput;
 use io_traits::{Clock, Sink, Source};
 use plain_data::{Items, Text};
-use plugin_graph::{Kit, plugin_id};
+use plugin_graph::Kit;
 use std::alloc::{AllocError, Global};
 use std::sync::Wait;
 

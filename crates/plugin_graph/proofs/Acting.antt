@@ -15,13 +15,13 @@ use Rattle.event_flow.specs.declared.cell.Cell.TheVariants as c
 use Rattle.event_flow.specs.declared.cell.Outcome.TheVariants as o
 use Rattle.plugin_graph.specs.Kits.{HasOwnTargets, HaveOwnTargets, MayAt, acts_at, boxes_of, filter_acts, output_act, output_acts, table_of, target_at}
 use Rattle.plugin_graph.specs.Loads.{Contents}
-use Rattle.plugin_graph.specs.Makes.{filtered_by}
+use Rattle.built_plugins.specs.Makes.{filtered_by}
 use Rattle.plugin_graph.specs.Meetings.{Meeting, MayAnswer, act_by, filter_act}
-use Rattle.plugin_graph.specs.declared.condition.NamedCondition.{NamedCondition}
-use Rattle.plugin_graph.specs.declared.filter.Filter.{Filter}
+use Rattle.built_plugins.specs.declared.condition.NamedCondition.{NamedCondition}
+use Rattle.built_plugins.specs.declared.filter.Filter.{Filter}
 use Rattle.plugin_graph.specs.declared.kit_filter.KitFilter.{KitFilter}
-use Rattle.plugin_graph.specs.declared.output.Output.{Output}
-use Rattle.plugin_graph.specs.declared.output.Target.{Target}
+use Rattle.built_plugins.specs.declared.output.Output.{Output}
+use Rattle.built_plugins.specs.declared.output.Target.{Target}
 use Rattle.plugin_graph.proofs.Encounters.{Meets_it, one_cell}
 
 -- the filter of a number

@@ -10,11 +10,11 @@ use Rattle.event_flow.specs.declared.cell.Cell.TheVariants as c
 use Rattle.event_flow.specs.declared.cell.Outcome.TheVariants as o
 use Rattle.event_flow.proofs.Cells.{started_marks}
 use Rattle.plugin_graph.specs.Meetings.{Answered, Meeting, MayAnswer, filter_act}
-use Rattle.plugin_graph.specs.Makes.{applied, optioned}
-use Rattle.plugin_graph.specs.declared.boxed.BoxedFilter.{BoxedFilter}
-use Rattle.plugin_graph.specs.declared.built.BuiltFilter.{BuiltFilter}
-use Rattle.plugin_graph.specs.declared.filter.Filter.{Filter}
-use Rattle.plugin_graph.specs.declared.filter.Filter.TheVariants as f
+use Rattle.built_plugins.specs.Makes.{applied, optioned}
+use Rattle.built_plugins.specs.declared.boxed.BoxedFilter.{BoxedFilter}
+use Rattle.built_plugins.specs.declared.built.BuiltFilter.{BuiltFilter}
+use Rattle.built_plugins.specs.declared.filter.Filter.{Filter}
+use Rattle.built_plugins.specs.declared.filter.Filter.TheVariants as f
 
 -- one cell more
 pub one_cell : (table : Table) (old new : List Cell) (x : Cell) → new ≡ old ++ x ∷ [] → marks table new ≡ marks table old ++ marks_of table x

@@ -1,11 +1,5 @@
 pub mod Acting
 pub mod Coming
 pub mod Encounters
-pub mod Flattening
-pub mod Making
-pub mod Onces
-pub mod Outputting
-pub mod Patterns
 pub mod Rereading
-pub mod Sums
 pub mod Tables

@@ -19,14 +19,14 @@ use Rattle.event_flow.specs.declared.cell.Cell.{Cell}
 use Rattle.event_flow.specs.declared.step.Step.{Step}
 use Rattle.plugin_graph.specs.Kits.{acts_at, output_acts, table_of}
 use Rattle.plugin_graph.specs.Loads.{Contents}
-use Rattle.plugin_graph.specs.Makes.{applied, built_of, boxed_unless, makes}
+use Rattle.built_plugins.specs.Makes.{applied, built_of, boxed_unless, makes}
 use Rattle.filter_settings.specs.Settings.{next}
 use Rattle.plugin_graph.specs.Meetings.{filter_act}
 use Rattle.plugin_graph.specs.Passages.{IsPassageOf}
 use Rattle.plugin_graph.specs.Walks.{IsKitOf, IsRead, MetAnew, ReadsAlike, is_plain}
-use Rattle.plugin_graph.specs.declared.built.BuiltFilter.{BuiltFilter}
-use Rattle.plugin_graph.specs.declared.filter.Filter.{Filter}
-use Rattle.plugin_graph.specs.declared.filter.Filter.TheVariants as f
+use Rattle.built_plugins.specs.declared.built.BuiltFilter.{BuiltFilter}
+use Rattle.built_plugins.specs.declared.filter.Filter.{Filter}
+use Rattle.built_plugins.specs.declared.filter.Filter.TheVariants as f
 use Rattle.plugin_graph.specs.declared.kit_filter.KitFilter.{KitFilter}
 use Rattle.plugin_graph.specs.declared.passage.Passage.{Passage}
 use Rattle.plugin_graph.proofs.Tables.{makes_as}

@@ -24,19 +24,19 @@ use Rattle.event_flow.specs.Parts.{Section, parts_of}
 use Rattle.event_flow.specs.Places.{Draws}
 use Rattle.event_flow.specs.Steps.{Act, acted}
 use Rattle.event_flow.specs.Steps as act
-use Rattle.plugin_graph.specs.Conditions.{compiled, has_patterns}
-use Rattle.plugin_graph.specs.Each.{each_made, named}
+use Rattle.built_plugins.specs.Conditions.{compiled, has_patterns}
+use Rattle.built_plugins.specs.Each.{each_made, named}
 use Rattle.plugin_graph.specs.Kits.{output_act, output_acts, target_at, table_of, HaveOwnTargets}
 use Rattle.plugin_graph.specs.Loads.{Contents, IsLoaded, conditions_of, contents, loaded}
 use Rattle.plugin_graph.specs.Meetings.{act_by, filter_act}
-use Rattle.plugin_graph.specs.Numbering.{numbers, targets_of, outputs_from, targets_from, outputs_of, output_id, output_places}
-use Rattle.plugin_graph.specs.Makes.{filter_of, filtered_by, filtered_where, makes}
-use Rattle.plugin_graph.specs.declared.condition.NamedCondition.{NamedCondition}
-use Rattle.plugin_graph.specs.declared.filter.Filter.{Filter}
-use Rattle.plugin_graph.specs.declared.output.Output.{Output}
-use Rattle.plugin_graph.specs.declared.output.Target.{Target}
-use Rattle.plugin_graph.proofs.Outputting.{as_long}
-use Rattle.plugin_graph.proofs.Making.{Fails, is_same, in_front, as_many}
+use Rattle.built_plugins.specs.Numbering.{numbers, targets_of, outputs_from, targets_from, outputs_of, output_id, output_places}
+use Rattle.built_plugins.specs.Makes.{filter_of, filtered_by, filtered_where, makes}
+use Rattle.built_plugins.specs.declared.condition.NamedCondition.{NamedCondition}
+use Rattle.built_plugins.specs.declared.filter.Filter.{Filter}
+use Rattle.built_plugins.specs.declared.output.Output.{Output}
+use Rattle.built_plugins.specs.declared.output.Target.{Target}
+use Rattle.built_plugins.proofs.Outputting.{as_long}
+use Rattle.built_plugins.proofs.Making.{Fails, is_same, in_front, as_many}
 
 -- what stands behind others
 middle : {A : Type 0} (xs : List A) (y : A) (ys : List A) → slice_get (xs ++ y ∷ ys) (length xs) ≡ Some y

@@ -1,5 +1,5 @@
 -- What a kit does to events, and says of them, by the numbers of its plugins and conditions.
-use Rattle.std.specs.Prelude.{◌≡◌, ℕ, ◌+◌, ◌-◌, List, [], map, length, Bool, true, false, Option, Some, None, slice_get}
+use Rattle.std.specs.Prelude.{◌≡◌, ℕ, ◌+◌, ◌-◌, List, [], map, length, Option, Some, None, slice_get}
 use Rattle.event_tree.specs.Events.{Ev}
 use Rattle.event_tree.specs.Paths.{over}
 use Rattle.condition_eval.specs.Truths.{truth}
@@ -12,12 +12,11 @@ use Rattle.event_flow.specs.Steps.{Act, Table}
 use Rattle.event_flow.specs.Steps as act
 use Rattle.plugin_graph.specs.Loads.{Contents}
 use Rattle.plugin_graph.specs.Meetings.{MayAnswer, filter_act}
-use Rattle.plugin_graph.specs.declared.condition.NamedCondition.{NamedCondition}
-use Rattle.plugin_graph.specs.declared.filter.Filter.{Filter}
-use Rattle.plugin_graph.specs.declared.filter.Filter.TheVariants as f
+use Rattle.built_plugins.specs.declared.condition.NamedCondition.{NamedCondition}
+use Rattle.built_plugins.specs.declared.filter.Filter.{Filter}
 use Rattle.plugin_graph.specs.declared.kit_filter.KitFilter.{KitFilter}
-use Rattle.plugin_graph.specs.declared.output.Output.{Output}
-use Rattle.plugin_graph.specs.declared.output.Target.{Target}
+use Rattle.built_plugins.specs.declared.output.Output.{Output}
+use Rattle.built_plugins.specs.declared.output.Target.{Target}
 
 -- the place of a target, behind the id of its output
 abbrev pub target_at : List Target → ℕ → List ℕ × Place
@@ -54,10 +53,6 @@ HasOwnTargets ts o = map (λ n. (target_at ts n).0) o.targets ≡ map (λ n. o.i
 
 abbrev pub HaveOwnTargets : List Target → List Output → Type 0
 HaveOwnTargets ts os = map (λ o. map (λ n. (target_at ts n).0) o.targets) os ≡ map (λ o. map (λ n. o.id) o.targets) os
-
-abbrev pub is_boxed : Filter → Bool
-is_boxed (f.Built x) = false
-is_boxed (f.Boxed x) = true
 
 -- the boxes of filters, where these are boxed ones and their boxes were put in
 abbrev pub boxes_of : {X : Type 0} → List (KitFilter X) → List (Option X)

@@ -1,8 +1,3 @@
-pub mod Makes
-pub mod Flats
-pub mod Conditions
-pub mod Each
-pub mod Numbering
 pub mod Meetings
 pub mod Loads
 pub mod Counts

@@ -4,15 +4,15 @@ use Rattle.config_tree.specs.declared.tree.Config.{Config}
 use Rattle.filter_settings.specs.Settings.{Made, with_made, next}
 use Rattle.event_flow.specs.Parts.{parts_of}
 use Rattle.event_flow.specs.Places.{Draws}
-use Rattle.plugin_graph.specs.Conditions.{compiled}
-use Rattle.plugin_graph.specs.Each.{each_made, named}
-use Rattle.plugin_graph.specs.Makes.{filter_of}
-use Rattle.plugin_graph.specs.Numbering.{outputs_of}
-use Rattle.plugin_graph.specs.declared.condition.NamedCondition.{NamedCondition}
-use Rattle.plugin_graph.specs.declared.filter.Filter.{Filter}
-use Rattle.plugin_graph.specs.declared.output.Output.{Output}
-use Rattle.plugin_graph.specs.declared.output.Outputs.{Outputs}
-use Rattle.plugin_graph.specs.declared.output.Target.{Target}
+use Rattle.built_plugins.specs.Conditions.{compiled}
+use Rattle.built_plugins.specs.Each.{each_made, named}
+use Rattle.built_plugins.specs.Makes.{filter_of}
+use Rattle.built_plugins.specs.Numbering.{outputs_of}
+use Rattle.built_plugins.specs.declared.condition.NamedCondition.{NamedCondition}
+use Rattle.built_plugins.specs.declared.filter.Filter.{Filter}
+use Rattle.built_plugins.specs.declared.output.Output.{Output}
+use Rattle.built_plugins.specs.declared.output.Outputs.{Outputs}
+use Rattle.built_plugins.specs.declared.output.Target.{Target}
 
 -- what a kit has, but for its boxes
 pub record Contents : Type 0 where

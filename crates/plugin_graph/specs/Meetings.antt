@@ -7,9 +7,9 @@ use Rattle.event_flow.specs.Marks.{Mark, Acts, Used, at_once, dids, marks, sent_
 use Rattle.event_flow.specs.Steps.{Act, Table}
 use Rattle.event_flow.specs.Steps as act
 use Rattle.event_flow.specs.declared.cell.Cell.{Cell}
-use Rattle.plugin_graph.specs.Makes.{filtered_by, optioned}
-use Rattle.plugin_graph.specs.declared.boxed.BoxedFilter.{BoxedFilter}
-use Rattle.plugin_graph.specs.declared.filter.Filter.{Filter}
+use Rattle.built_plugins.specs.Makes.{filtered_by, optioned}
+use Rattle.built_plugins.specs.declared.boxed.BoxedFilter.{BoxedFilter}
+use Rattle.built_plugins.specs.declared.filter.Filter.{Filter}
 
 abbrev pub act_by : ℕ → Filtered → Act
 act_by k (Gives es) = act.Gives es

@@ -10,13 +10,13 @@ use Rattle.event_flow.specs.Places.{Draws}
 use Rattle.event_flow.specs.Steps.{Table}
 use Rattle.event_flow.specs.Steps as act
 use Rattle.event_flow.specs.declared.cell.Cell.{Cell}
-use Rattle.plugin_graph.specs.Counts.{built_patterns}
+use Rattle.built_plugins.specs.Counts.{built_patterns}
 use Rattle.plugin_graph.specs.Kits.{table_of}
 use Rattle.plugin_graph.specs.Loads.{Contents}
-use Rattle.plugin_graph.specs.Makes.{built_of, makes}
-use Rattle.plugin_graph.specs.declared.built.BuiltFilter.{BuiltFilter}
-use Rattle.plugin_graph.specs.declared.filter.Filter.{Filter}
-use Rattle.plugin_graph.specs.declared.filter.Filter.TheVariants as f
+use Rattle.built_plugins.specs.Makes.{built_of, makes}
+use Rattle.built_plugins.specs.declared.built.BuiltFilter.{BuiltFilter}
+use Rattle.built_plugins.specs.declared.filter.Filter.{Filter}
+use Rattle.built_plugins.specs.declared.filter.Filter.TheVariants as f
 
 -- whether a filter is built in and has no pattern
 abbrev pub is_plain : Filter → Bool

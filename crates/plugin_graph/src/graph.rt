@@ -6,7 +6,7 @@ ghost use Rattle.event_flow.specs.Laying.{AreStepsOf, IsTableOf};
 ghost use Rattle.event_flow.specs.Places.{Draws};
 ghost use Rattle.plugin_graph.specs.Graphs.{steps_in, contents_of, built_in, boxes_in};
 ghost use Rattle.plugin_graph.specs.Kits.{table_of, MayAt};
-ghost use Rattle.plugin_graph.specs.Makes.{makes};
+ghost use Rattle.built_plugins.specs.Makes.{makes};
 ghost use Rattle.plugin_graph.specs.Passages.{IsPassageOf};
 
 use crate::kit::Kit;

@@ -4,9 +4,9 @@ ghost use Rattle.event_flow.specs.Laying.{IsTableOf};
 ghost use Rattle.filter_settings.specs.Settings.{Refuses};
 ghost use Rattle.plugin_graph.specs.Counts.{patterns_in};
 ghost use Rattle.plugin_graph.specs.Graphs.{contents_of, boxes_in, built_in};
-ghost use Rattle.plugin_graph.specs.Kits.{is_boxed, table_of, no_boxes};
+ghost use Rattle.plugin_graph.specs.Kits.{table_of, no_boxes};
+ghost use Rattle.built_plugins.specs.Makes.{is_boxed, makes};
 ghost use Rattle.plugin_graph.specs.Loads.{loaded};
-ghost use Rattle.plugin_graph.specs.Makes.{makes};
 
 use crate::counting::count_patterns;
 use crate::loading::load;

@@ -4,12 +4,10 @@ ghost use Rattle.event_flow.specs.Marks.{At, Came, Comes, at_once, dids, marks, 
 ghost use Rattle.event_flow.specs.Steps.{Table};
 ghost use Rattle.event_flow.specs.declared.cell.Cell.TheVariants as cell;
 ghost use Rattle.plugin_graph.specs.Meetings.{Answered, Meeting, MayAnswer, filter_act};
-ghost use Rattle.plugin_graph.specs.Makes.{applied, optioned};
+ghost use Rattle.built_plugins.specs.Makes.{applied, optioned};
 
-use crate::boxed::BoxedFilter;
-use crate::built::BuiltFilter;
-use crate::filter::Filter;
 use crate::passage::taken;
+use built_plugins::{BoxedFilter, BuiltFilter, Filter};
 use event_flow::{Cell, Outcome, Targets};
 use event_text::Options;
 use event_tree::{Event, Events, Items};

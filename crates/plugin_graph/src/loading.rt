@@ -1,22 +1,21 @@
 ghost use Rattle.std.specs.Prelude.{◌≡◌, ◌++◌, IfOk, IfErr, codes, map};
 ghost use Rattle.event_flow.specs.Parts.{parts_of};
 ghost use Rattle.filter_settings.specs.Settings.{Gives, Refuses};
-ghost use Rattle.plugin_graph.specs.Conditions.{compiled};
-ghost use Rattle.plugin_graph.specs.Each.{each_made, named};
-ghost use Rattle.plugin_graph.specs.Flats.{flat_of};
+ghost use Rattle.built_plugins.specs.Conditions.{compiled};
+ghost use Rattle.built_plugins.specs.Each.{each_made, named};
+ghost use Rattle.built_plugins.specs.Flats.{flat_of};
 ghost use Rattle.plugin_graph.specs.KitParts.{contents_in};
 ghost use Rattle.plugin_graph.specs.Kits.{boxes_of, no_boxes};
 ghost use Rattle.plugin_graph.specs.Loads as spec;
-ghost use Rattle.plugin_graph.specs.Makes.{filter_of};
-ghost use Rattle.plugin_graph.specs.Numbering.{outputs_of};
+ghost use Rattle.built_plugins.specs.Makes.{filter_of};
+ghost use Rattle.built_plugins.specs.Numbering.{outputs_of};
 
-use crate::condition::{CompiledCondition, NamedCondition};
-use crate::filter::Filter;
-use crate::flat::Flat;
 use crate::kit_filter::KitFilter;
-use crate::lists::{add_named, compile_conditions, read_filters};
-use crate::output::Outputs;
 use crate::parts::Parts;
+use built_plugins::{
+    CompiledCondition, Filter, Flat, NamedCondition, Outputs, add_named, compile_conditions,
+    read_filters,
+};
 use config_tree::{Condition, Config, FromFault, Plugin};
 use plain_data::{Items, Text};
 use std::alloc::{AllocError, Global};

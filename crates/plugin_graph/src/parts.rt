@@ -6,13 +6,11 @@ ghost use Rattle.event_flow.specs.declared.cell.Outcome.TheVariants as outcome;
 ghost use Rattle.plugin_graph.specs.Kits.{HaveOwnTargets, MayAt, boxes_of, filter_acts};
 ghost use Rattle.plugin_graph.specs.Meetings.{Meeting};
 
-use crate::condition::CompiledCondition;
 use crate::kit_filter::KitFilter;
-use crate::output::{Output, Target};
 use crate::passage::taken;
-use crate::shared::Shared;
+use built_plugins::{CompiledCondition, Output, Shared, Target};
 use condition_eval::Truth;
-use event_flow::{Cell, Kit, Outcome, Targets};
+use event_flow::{Cell, Outcome, Plugins, Targets};
 use event_tree::{Event, Items};
 use foreign_parts::Asked;
 use std::alloc::{AllocError, Global};
@@ -40,7 +38,7 @@ impl<X: Drop> Parts<X> {
     }
 }
 
-impl<X: Asked> Kit for Parts<X> {
+impl<X: Asked> Plugins for Parts<X> {
     ghost use Rattle.plugin_graph.specs.KitParts.{contents_in};
     ghost use Rattle.plugin_graph.specs.Kits.{table_of, MayAt, boxes_of};
 

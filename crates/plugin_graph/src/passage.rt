@@ -6,9 +6,8 @@ ghost use Rattle.plugin_graph.specs.KitParts.{contents_in};
 ghost use Rattle.plugin_graph.specs.Kits.{id_at, table_of, target_at};
 ghost use Rattle.plugin_graph.specs.Passages as spec;
 
-use crate::output::Target;
 use crate::parts::Parts;
-use crate::shared::Shared;
+use built_plugins::{Shared, Target};
 use condition_eval::Reason;
 use event_flow::{Cell, Outcome};
 use event_tree::{DeadList, DeadPart, Event, Events, Items, Text};

@@ -7,21 +7,18 @@ ghost use Rattle.event_flow.specs.Parts.{parts_of};
 ghost use Rattle.event_flow.specs.Places.{Draws};
 ghost use Rattle.plugin_graph.specs.KitParts.{contents_in};
 ghost use Rattle.plugin_graph.specs.Kits.{MayAt, boxes_of, table_of};
-ghost use Rattle.plugin_graph.specs.Makes.{makes};
+ghost use Rattle.built_plugins.specs.Makes.{makes};
 ghost use Rattle.plugin_graph.specs.Passages.{IsPassageOf};
 ghost use Rattle.plugin_graph.specs.Walks as spec;
 ghost use Rattle.plugin_graph.specs.Walks.{IsRead, MetAnew, ReadsAlike};
 
-use crate::built::BuiltFilter;
-use crate::counting::in_built;
-use crate::filter::Filter;
-use crate::flat::Flat;
 use crate::kit_filter::{KitFilter, meet};
 use crate::parts::Parts;
 use crate::passage::Passage;
+use built_plugins::{BuiltFilter, Filter, Flat};
 use condition_eval::Truth;
 use config_tree::{Config, Plugin};
-use event_flow::{Cell, Kit, Targets, lay_config};
+use event_flow::{Cell, Plugins, Targets, lay_config};
 use event_tree::{Event, Events, Items};
 use foreign_parts::Asked;
 use std::alloc::{AllocError, Global};
@@ -39,7 +36,7 @@ pub(crate) struct Walker<X> {
     pub reads: u64,
 }
 
-impl<X: Asked> Kit for Walker<X> {
+impl<X: Asked> Plugins for Walker<X> {
     ghost use Rattle.plugin_graph.specs.KitParts.{contents_in};
     ghost use Rattle.plugin_graph.specs.Kits.{table_of, MayAt, boxes_of};
     ghost use Rattle.plugin_graph.specs.Walks.{ReadsAlike};
@@ -132,7 +129,7 @@ fn is_plain(filter: &Filter) -> Result<bool, AllocError>
     ensures { IfOk result (λ plain. plain ≡ spec.is_plain filter.now) }
 {
     match filter {
-        Filter::Built(filter) => Ok(in_built(filter)? == 0),
+        Filter::Built(filter) => Ok(filter.count_patterns()? == 0),
         Filter::Boxed(_) => Ok(false),
     }
 }

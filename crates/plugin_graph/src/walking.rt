@@ -5,7 +5,7 @@ ghost use Rattle.event_flow.specs.Laying.{IsTableOf};
 ghost use Rattle.event_flow.specs.Places.{Draws};
 ghost use Rattle.plugin_graph.specs.Graphs.{boxes_in, built_in, contents_of};
 ghost use Rattle.plugin_graph.specs.Kits.{MayAt, table_of};
-ghost use Rattle.plugin_graph.specs.Makes.{makes};
+ghost use Rattle.built_plugins.specs.Makes.{makes};
 ghost use Rattle.plugin_graph.specs.Passages.{IsPassageOf};
 ghost use Rattle.plugin_graph.specs.Walks.{IsKitOf};
 

@@ -8,16 +8,16 @@ use Rattle.event_flow.proofs.running.one_step.Goals as goal
 pub loop-index-init : goal.loop-index-init
 loop-index-init g c = record {
   stands = c.requires;
-  same = same_first (g.K.Kit.table c.args.kit.now) (g.K.Kit.may c.args.kit.now);
+  same = same_first (g.K.Plugins.table c.args.kit.now) (g.K.Plugins.may c.args.kit.now);
   boxes = refl;
-  through = through_first (g.K.Kit.may c.args.kit.now) (g.K.Kit.table c.args.kit.now) c.args.step c.args.cells [] [] refl;
+  through = through_first (g.K.Plugins.may c.args.kit.now) (g.K.Plugins.table c.args.kit.now) c.args.step c.args.cells [] [] refl;
   none = c.new-others.ensures;
   counted = c.len-index-end.ensures;
 }
 
 pub loop-index-preserved : goal.loop-index-preserved
 loop-index-preserved g c =
-    let kit = g.K.Kit in
+    let kit = g.K.Plugins in
     let e = c.in_ok-step_at.ensures in
     let i = c.loop-index.invariant in
     let none : c.step_at.new.others ≡ [] = search rules in
@@ -33,7 +33,7 @@ loop-index-preserved g c =
 
 pub returns-then-not-is_empty-clause-ok : goal.returns-then-not-is_empty-clause-ok
 returns-then-not-is_empty-clause-ok g c =
-    let kit = g.K.Kit in
+    let kit = g.K.Plugins in
     let e = c.in_ok-step_at.ensures in
     let i = c.loop-index.invariant in
     through_rest c.step_rest.result (kit.may c.args.kit.now) (kit.may c.step_at.new.kit) (kit.table c.args.kit.now) (kit.table c.step_at.new.kit) c.args.step c.args.cells (drop (c.loop-index.index + 1) c.step_at.new.cells) (take (c.loop-index.index + 1) c.step_at.new.cells ++ c.step_at.new.others)
@@ -46,4 +46,4 @@ returns-clause-ok g c =
     let end : length c.loop-index.cells ≤ c.loop-index.index = omega (arith, c.loop-index.invariant.counted) in
     let left : drop c.loop-index.index c.loop-index.cells ≡ [] = grind (arith, common_steps) in
     let all : take c.loop-index.index c.loop-index.cells ≡ c.loop-index.cells = grind (arith, common_steps) in
-    through_end (g.K.Kit.may c.args.kit.now) (g.K.Kit.table c.args.kit.now) c.args.step c.args.cells (drop c.loop-index.index c.loop-index.cells) (take c.loop-index.index c.loop-index.cells) c.loop-index.cells left all c.loop-index.invariant.through
+    through_end (g.K.Plugins.may c.args.kit.now) (g.K.Plugins.table c.args.kit.now) c.args.step c.args.cells (drop c.loop-index.index c.loop-index.cells) (take c.loop-index.index c.loop-index.cells) c.loop-index.cells left all c.loop-index.invariant.through

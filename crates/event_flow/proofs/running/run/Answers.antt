@@ -8,15 +8,15 @@ use Rattle.event_flow.proofs.running.run.Goals as goal
 pub loop-step-init : goal.loop-step-init
 loop-step-init g c = record {
   stands = c.requires;
-  same = same_first (g.K.Kit.table c.args.kit.now) (g.K.Kit.may c.args.kit.now);
+  same = same_first (g.K.Plugins.table c.args.kit.now) (g.K.Plugins.may c.args.kit.now);
   boxes = refl;
-  running = running_starts (g.K.Kit.table c.args.kit.now) (g.K.Kit.may c.args.kit.now) c.args.steps.now c.args.events (marks (g.K.Kit.table c.args.kit.now) c.in_ok-cells.cells)
-      (ap (marks (g.K.Kit.table c.args.kit.now)) c.in_ok-cells.ensures ∙ started_marks (g.K.Kit.table c.args.kit.now) c.args.events);
+  running = running_starts (g.K.Plugins.table c.args.kit.now) (g.K.Plugins.may c.args.kit.now) c.args.steps.now c.args.events (marks (g.K.Plugins.table c.args.kit.now) c.in_ok-cells.cells)
+      (ap (marks (g.K.Plugins.table c.args.kit.now)) c.in_ok-cells.ensures ∙ started_marks (g.K.Plugins.table c.args.kit.now) c.args.events);
 }
 
 pub loop-step-preserved : goal.loop-step-preserved
 loop-step-preserved g c =
-    let kit = g.K.Kit in
+    let kit = g.K.Plugins in
     let e = c.in_ok-cells-2.ensures in
     let i = c.loop-step.invariant in
     record {
@@ -27,9 +27,9 @@ loop-step-preserved g c =
     }
 
 pub returns-clause-ran : goal.returns-clause-ran
-returns-clause-ran g c = running_ends (g.K.Kit.table c.args.kit.now) (g.K.Kit.may c.args.kit.now) c.args.steps.now c.args.events (marks (g.K.Kit.table c.args.kit.now) c.loop-step.cells) c.loop-step.step-index (omega arith) c.loop-step.invariant.running
+returns-clause-ran g c = running_ends (g.K.Plugins.table c.args.kit.now) (g.K.Plugins.may c.args.kit.now) c.args.steps.now c.args.events (marks (g.K.Plugins.table c.args.kit.now) c.loop-step.cells) c.loop-step.step-index (omega arith) c.loop-step.invariant.running
 
 pub returns-clause-derived : goal.returns-clause-derived
 returns-clause-derived g c makes config draws steps is =
-    ran_config config c.args.steps.now makes draws (g.K.Kit.table c.args.kit.now) (g.K.Kit.may c.args.kit.now) c.args.events (marks (g.K.Kit.table c.args.kit.now) c.loop-step.cells) steps is
-    (running_ends (g.K.Kit.table c.args.kit.now) (g.K.Kit.may c.args.kit.now) c.args.steps.now c.args.events (marks (g.K.Kit.table c.args.kit.now) c.loop-step.cells) c.loop-step.step-index (omega arith) c.loop-step.invariant.running)
+    ran_config config c.args.steps.now makes draws (g.K.Plugins.table c.args.kit.now) (g.K.Plugins.may c.args.kit.now) c.args.events (marks (g.K.Plugins.table c.args.kit.now) c.loop-step.cells) steps is
+    (running_ends (g.K.Plugins.table c.args.kit.now) (g.K.Plugins.may c.args.kit.now) c.args.steps.now c.args.events (marks (g.K.Plugins.table c.args.kit.now) c.loop-step.cells) c.loop-step.step-index (omega arith) c.loop-step.invariant.running)

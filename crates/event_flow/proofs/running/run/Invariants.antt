@@ -5,8 +5,8 @@ use Rattle.event_flow.proofs.running.run.Given as goal
 
 abbrev pub invariant-loop-step : goal.invariant-loop-step
 invariant-loop-step g l = record {
-  stands : g.K.Kit.stands l.kit;
-  same : Same (g.K.Kit.table l.fn.kit) (g.K.Kit.table l.kit) (g.K.Kit.may l.fn.kit) (g.K.Kit.may l.kit);
-  boxes : g.K.Kit.boxes l.kit ≡ g.K.Kit.boxes l.fn.kit;
-  running : Running (g.K.Kit.table l.fn.kit) (g.K.Kit.may l.fn.kit) l.fn.steps l.fn.events (marks (g.K.Kit.table l.fn.kit) l.cells) l.step-index;
+  stands : g.K.Plugins.stands l.kit;
+  same : Same (g.K.Plugins.table l.fn.kit) (g.K.Plugins.table l.kit) (g.K.Plugins.may l.fn.kit) (g.K.Plugins.may l.kit);
+  boxes : g.K.Plugins.boxes l.kit ≡ g.K.Plugins.boxes l.fn.kit;
+  running : Running (g.K.Plugins.table l.fn.kit) (g.K.Plugins.may l.fn.kit) l.fn.steps l.fn.events (marks (g.K.Plugins.table l.fn.kit) l.cells) l.step-index;
 }

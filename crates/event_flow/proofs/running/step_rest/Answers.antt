@@ -7,7 +7,7 @@ use Rattle.event_flow.proofs.running.step_rest.Goals as goal
 
 pub loop-cell-preserved : goal.loop-cell-preserved
 loop-cell-preserved g c =
-    let kit = g.K.Kit in
+    let kit = g.K.Plugins in
     let e = c.in_ok-add_step.ensures in
     let i = c.loop-cell.invariant in
     let next = c.in-Some.ensures.steps in
@@ -22,4 +22,4 @@ loop-cell-preserved g c =
 pub returns-clause-ok : goal.returns-clause-ok
 returns-clause-ok g c =
     let none : length c.loop-cell.cell-iterator.rest.items ≡ 0 = omega (arith, c.loop-cell.invariant.counted, c.in-None.ensures.steps.0) in
-    through_all (g.K.Kit.may c.args.kit.now) (g.K.Kit.table c.args.kit.now) c.args.step (drop c.args.from c.args.cells) c.loop-cell.cell-iterator.rest.items (marks (g.K.Kit.table c.args.kit.now) (take c.args.from c.args.cells ++ c.args.others)) c.loop-cell.out (nil_from_length _ none) c.loop-cell.invariant.through
+    through_all (g.K.Plugins.may c.args.kit.now) (g.K.Plugins.table c.args.kit.now) c.args.step (drop c.args.from c.args.cells) c.loop-cell.cell-iterator.rest.items (marks (g.K.Plugins.table c.args.kit.now) (take c.args.from c.args.cells ++ c.args.others)) c.loop-cell.out (nil_from_length _ none) c.loop-cell.invariant.through

@@ -7,10 +7,10 @@ use Rattle.event_flow.proofs.running.step_rest.Given as goal
 
 abbrev pub invariant-loop-cell : goal.invariant-loop-cell
 invariant-loop-cell g l = record {
-  stands : g.K.Kit.stands l.kit;
-  same : Same (g.K.Kit.table l.fn.kit) (g.K.Kit.table l.kit) (g.K.Kit.may l.fn.kit) (g.K.Kit.may l.kit);
-  boxes : g.K.Kit.boxes l.kit ≡ g.K.Kit.boxes l.fn.kit;
-  through : Through (g.K.Kit.may l.fn.kit) (g.K.Kit.table l.fn.kit) l.fn.step (drop l.fn.from l.fn.cells) l.cell-iterator.rest.items
-      (marks (g.K.Kit.table l.fn.kit) (take l.fn.from l.fn.cells ++ l.fn.others)) l.out;
+  stands : g.K.Plugins.stands l.kit;
+  same : Same (g.K.Plugins.table l.fn.kit) (g.K.Plugins.table l.kit) (g.K.Plugins.may l.fn.kit) (g.K.Plugins.may l.kit);
+  boxes : g.K.Plugins.boxes l.kit ≡ g.K.Plugins.boxes l.fn.kit;
+  through : Through (g.K.Plugins.may l.fn.kit) (g.K.Plugins.table l.fn.kit) l.fn.step (drop l.fn.from l.fn.cells) l.cell-iterator.rest.items
+      (marks (g.K.Plugins.table l.fn.kit) (take l.fn.from l.fn.cells ++ l.fn.others)) l.out;
   counted : into_iter_len l.cell-iterator ≡ length l.cell-iterator.rest.items;
 }

@@ -1,7 +1,7 @@
 use Rattle.std.proofs.Common.{◌≡◌, ap, sym, ◌∙◌, arith, slice_get, slice_set, true, false}
 use Rattle.event_tree.specs.Paths.{over}
 use Rattle.plugin_graph.specs.Graphs.{boxes_in, contents_of}
-use Rattle.plugin_graph.specs.Kits.{is_boxed}
+use Rattle.built_plugins.specs.Makes.{is_boxed}
 use Rattle.graph_checks.specs.Filling.{one_if}
 use Rattle.graph_checks.proofs.Fillings.{boxes_boxed, boxes_plain, get_other, popped, stands_boxed, stands_plain}
 use Rattle.graph_checks.proofs.filling.fill.Goals as goal

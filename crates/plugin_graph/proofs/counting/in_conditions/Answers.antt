@@ -1,6 +1,6 @@
 use Rattle.std.proofs.Common.{arith}
-use Rattle.plugin_graph.specs.Conditions.{condition_patterns}
-use Rattle.plugin_graph.proofs.Sums.{sum_more}
+use Rattle.built_plugins.specs.Conditions.{condition_patterns}
+use Rattle.built_plugins.proofs.Sums.{sum_more}
 use Rattle.plugin_graph.proofs.counting.in_conditions.Goals as goal
 
 pub loop-condition-preserved : goal.loop-condition-preserved

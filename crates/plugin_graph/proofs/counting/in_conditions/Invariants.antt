@@ -1,6 +1,6 @@
 use Rattle.std.proofs.Common.{◌≡◌, ◌+◌, drop}
 use Rattle.std.specs.List.{sum_by}
-use Rattle.plugin_graph.specs.Conditions.{condition_patterns}
+use Rattle.built_plugins.specs.Conditions.{condition_patterns}
 use Rattle.plugin_graph.proofs.counting.in_conditions.Given as goal
 
 abbrev pub invariant-loop-condition : goal.invariant-loop-condition

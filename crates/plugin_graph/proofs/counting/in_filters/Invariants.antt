@@ -1,6 +1,6 @@
 use Rattle.std.proofs.Common.{◌≡◌, ◌+◌, drop}
 use Rattle.std.specs.List.{sum_by}
-use Rattle.plugin_graph.specs.Counts.{filter_patterns}
+use Rattle.built_plugins.specs.Counts.{filter_patterns}
 use Rattle.plugin_graph.proofs.counting.in_filters.Given as goal
 
 abbrev pub invariant-loop-filter : goal.invariant-loop-filter

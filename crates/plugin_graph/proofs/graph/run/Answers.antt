@@ -1,7 +1,7 @@
 use Rattle.plugin_graph.specs.Graphs.{steps_in, contents_of, boxes_in}
 use Rattle.plugin_graph.specs.KitParts.{contents_in}
 use Rattle.plugin_graph.specs.Kits.{table_of, MayAt}
-use Rattle.plugin_graph.specs.Makes.{makes}
+use Rattle.built_plugins.specs.Makes.{makes}
 use Rattle.plugin_graph.proofs.Coming.{run_passed}
 use Rattle.plugin_graph.proofs.graph.run.Goals as goal
 

@@ -1,7 +1,7 @@
 use Rattle.std.proofs.Common.{◌≡◌, ◌++◌, ◌∙◌, ap, subst}
 use Rattle.event_flow.specs.Marks.{dids, marks, sent_to}
 use Rattle.event_flow.specs.Steps.{Table}
-use Rattle.plugin_graph.specs.Makes.{applied}
+use Rattle.built_plugins.specs.Makes.{applied}
 use Rattle.plugin_graph.proofs.Encounters.{built_met}
 use Rattle.plugin_graph.proofs.kit_filter.meet.Goals as goal
 

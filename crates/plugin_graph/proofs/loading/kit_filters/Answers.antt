@@ -1,6 +1,6 @@
 use Rattle.std.proofs.Common.{length, ap, arith}
 use Rattle.plugin_graph.specs.Kits.{no_boxes}
-use Rattle.plugin_graph.proofs.Sums.{mapped_next}
+use Rattle.built_plugins.proofs.Sums.{mapped_next}
 use Rattle.plugin_graph.proofs.loading.kit_filters.Goals as goal
 
 pub loop-filter-preserved : goal.loop-filter-preserved

@@ -1,10 +1,10 @@
 use Rattle.std.proofs.Common.{◌≡◌, Ok, rules}
 use Rattle.filter_settings.specs.Settings.{Refuses}
 use Rattle.event_flow.specs.Parts.{parts_of}
-use Rattle.plugin_graph.specs.Conditions.{compiled}
-use Rattle.plugin_graph.specs.Each.{each_made}
+use Rattle.built_plugins.specs.Conditions.{compiled}
+use Rattle.built_plugins.specs.Each.{each_made}
 use Rattle.plugin_graph.specs.Loads.{conditions_of}
-use Rattle.plugin_graph.specs.Makes.{filter_of}
+use Rattle.built_plugins.specs.Makes.{filter_of}
 use Rattle.plugin_graph.proofs.Tables.{hands_on, filters_refuse, conditions_refuse}
 use Rattle.plugin_graph.proofs.loading.load.Goals as goal
 

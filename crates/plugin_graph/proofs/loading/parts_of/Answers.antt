@@ -1,6 +1,6 @@
 use Rattle.std.proofs.Common.{subst, sym}
 use Rattle.plugin_graph.specs.Kits.{HaveOwnTargets}
-use Rattle.plugin_graph.specs.declared.output.Outputs.{Outputs}
+use Rattle.built_plugins.specs.declared.output.Outputs.{Outputs}
 use Rattle.plugin_graph.proofs.Tables.{own_of}
 use Rattle.plugin_graph.proofs.loading.parts_of.Goals as goal
 

@@ -3,7 +3,7 @@ use Rattle.event_flow.specs.Laying.{IsTableOf}
 use Rattle.event_flow.specs.Places.{Draws}
 use Rattle.plugin_graph.specs.KitParts.{contents_in}
 use Rattle.plugin_graph.specs.Kits.{MayAt, boxes_of, table_of}
-use Rattle.plugin_graph.specs.Makes.{makes}
+use Rattle.built_plugins.specs.Makes.{makes}
 use Rattle.plugin_graph.specs.Passages.{IsPassageOf}
 use Rattle.plugin_graph.specs.Walks.{ReadsAlike, is_plain}
 use Rattle.plugin_graph.proofs.Rereading.{reads_alike}

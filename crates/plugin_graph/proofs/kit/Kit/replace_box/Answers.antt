@@ -2,7 +2,7 @@ use Rattle.std.proofs.lemmas.List.{map-set}
 use Rattle.std.proofs.Common.{List, ap, sym, ◌∙◌, slice_set}
 use Rattle.plugin_graph.specs.Kits.{boxes_of}
 use Rattle.plugin_graph.specs.Loads.{Contents}
-use Rattle.plugin_graph.specs.declared.filter.Filter.{Filter}
+use Rattle.built_plugins.specs.declared.filter.Filter.{Filter}
 use Rattle.plugin_graph.proofs.Acting.{same_filters, there_is_none}
 use Rattle.plugin_graph.proofs.kit.Kit.replace_box.Goals as goal
 

@@ -1,7 +1,7 @@
 use Rattle.std.proofs.Common.{[], ◌∷◌}
 use Rattle.plugin_graph.specs.KitParts.{contents_in}
 use Rattle.plugin_graph.specs.Kits.{MayAt, boxes_of, table_of}
-use Rattle.plugin_graph.specs.Makes.{makes}
+use Rattle.built_plugins.specs.Makes.{makes}
 use Rattle.plugin_graph.proofs.Coming.{run_passed}
 use Rattle.plugin_graph.proofs.Rereading.{of_one}
 use Rattle.plugin_graph.proofs.walker.Walker.pass.Goals as goal

@@ -1,8 +1,0 @@
-use Rattle.std.proofs.Common.{◌≡◌, drop}
-use Rattle.plugin_graph.proofs.Making.{behind}
-use Rattle.plugin_graph.specs.Each.{each_made}
-use Rattle.plugin_graph.specs.Makes.{filter_of}
-use Rattle.plugin_graph.proofs.lists.read_filters.Given as goal
-
-abbrev pub invariant-loop-plugin : goal.invariant-loop-plugin
-invariant-loop-plugin l = behind l.filters (each_made filter_of (drop l.plugin-index l.plugins)) ≡ each_made filter_of l.plugins
