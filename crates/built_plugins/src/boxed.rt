@@ -1,3 +1,5 @@
+// Boxed filters: what is read here of their settings.
+
 ghost use Rattle.std.specs.Prelude.{◌≡◌};
 ghost use Rattle.filter_settings.specs.Settings.{Gives};
 ghost use Rattle.built_plugins.specs.Makes as spec;

@@ -1,3 +1,5 @@
+// Filters that are built in, by their names.
+
 ghost use Rattle.std.specs.Prelude.{◌≡◌, IfOk};
 ghost use Rattle.filter_settings.specs.Settings.{Gives};
 ghost use Rattle.filters_date.specs.Dates.{date_of};

@@ -1,3 +1,5 @@
+// Conditions with their ids, and with their patterns compiled.
+
 ghost use Rattle.std.specs.Prelude.{◌≡◌, IfOk, IfErr, Ok};
 ghost use Rattle.condition_eval.specs.Made.{AreMadeOf};
 ghost use Rattle.condition_eval.specs.Truths.{truth};

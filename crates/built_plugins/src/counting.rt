@@ -1,4 +1,4 @@
-//! How many patterns a filter has.
+// How many patterns a filter has.
 
 ghost use Rattle.std.specs.Prelude.{◌≡◌, ◌+◌, length, IfOk};
 ghost use Rattle.std.specs.List.{sum_by};

@@ -1,3 +1,5 @@
+// Filters of a configuration: a built-in one, or a boxed one.
+
 ghost use Rattle.std.specs.Prelude.{◌≡◌};
 ghost use Rattle.filter_settings.specs.Settings.{Gives};
 ghost use Rattle.built_plugins.specs.Makes as spec;

@@ -1,3 +1,5 @@
+// The plugins and the conditions of statements, taken apart.
+
 ghost use Rattle.std.specs.Prelude.{◌≡◌, IfOk, OnOk, map};
 ghost use Rattle.event_flow.specs.Parts.{parts_of, part_of, arm_of, branch};
 ghost use Rattle.built_plugins.specs.Flats as spec;

@@ -1,3 +1,5 @@
+// The ids of plugins and conditions.
+
 ghost use Rattle.std.specs.Prelude.{◌≡◌, IfOk};
 ghost use Rattle.event_flow.specs.Ids as spec;
 

@@ -1,3 +1,5 @@
+// Lists of filters and conditions that are read one after another, up to the first fault.
+
 ghost use Rattle.std.specs.Prelude.{◌≡◌, ◌+◌, ◌++◌, ◌∷◌, [], IfOk, OnOk};
 ghost use Rattle.filter_settings.specs.Settings.{Gives};
 ghost use Rattle.built_plugins.specs.Conditions.{compiled};

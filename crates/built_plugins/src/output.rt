@@ -1,3 +1,5 @@
+// Outputs with the numbers of their targets.
+
 ghost use Rattle.std.specs.Prelude.{◌≡◌, ◌++◌, ◌∷◌, [], IfOk, OnOk};
 ghost use Rattle.built_plugins.specs.Numbering as spec;
 

@@ -1,3 +1,5 @@
+// The places to which an output sends.
+
 ghost use Rattle.std.specs.Prelude.{◌≡◌, ◌∷◌, [], IfOk, bytes_eq, codes, map, option_and_then};
 ghost use Rattle.config_tree.specs.Readers.{value_at};
 ghost use Rattle.filter_settings.specs.Readers.{text_of, texts_of};

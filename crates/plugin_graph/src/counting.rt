@@ -1,4 +1,4 @@
-//! How many patterns stand in the parts of a kit.
+// How many patterns stand in the parts of a kit.
 
 ghost use Rattle.std.specs.Prelude.{◌≡◌, IfOk};
 ghost use Rattle.std.specs.List.{sum_by};

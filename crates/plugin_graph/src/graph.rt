@@ -1,3 +1,5 @@
+// The steps of a configuration, and batches that run through them.
+
 ghost use Rattle.std.specs.Prelude.{◌≡◌, ℕ, IfOk};
 ghost use Rattle.event_tree.specs.Events.{Ev};
 ghost use Rattle.config_tree.specs.declared.tree.Config.{Config};

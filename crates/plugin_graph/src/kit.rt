@@ -1,3 +1,5 @@
+// Kits: what one worker has to run a configuration.
+
 ghost use Rattle.std.specs.Prelude.{◌≡◌, ◌<◌, length, slice_get, slice_set, IfOk, IfErr, Ok, Some, false};
 ghost use Rattle.event_tree.specs.Paths.{over};
 ghost use Rattle.event_flow.specs.Laying.{IsTableOf};

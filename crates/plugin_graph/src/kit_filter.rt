@@ -1,3 +1,5 @@
+// A filter of a kit with its box, and the events that meet it.
+
 ghost use Rattle.std.specs.Prelude.{◌≡◌, ℕ, ◌++◌, [], map, IfOk, OnOk};
 ghost use Rattle.event_text.specs.Options as spec;
 ghost use Rattle.event_flow.specs.Marks.{At, Came, Comes, at_once, dids, marks, sent_to};

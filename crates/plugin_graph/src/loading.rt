@@ -1,3 +1,5 @@
+// The parts of a kit, made from a configuration.
+
 ghost use Rattle.std.specs.Prelude.{◌≡◌, ◌++◌, IfOk, IfErr, codes, map};
 ghost use Rattle.event_flow.specs.Parts.{parts_of};
 ghost use Rattle.filter_settings.specs.Settings.{Gives, Refuses};

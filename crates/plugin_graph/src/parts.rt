@@ -1,3 +1,5 @@
+// The plugins and conditions of a kit, by their numbers.
+
 ghost use Rattle.std.specs.Prelude.{◌≡◌, IfOk};
 ghost use Rattle.event_flow.specs.Marks.{Comes};
 ghost use Rattle.event_flow.specs.Steps.{Table};

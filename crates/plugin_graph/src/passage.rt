@@ -1,3 +1,5 @@
+// What came of a batch.
+
 ghost use Rattle.std.specs.Prelude.{◌≡◌, ◌++◌, ◌∷◌, [], IfOk, OnOk};
 ghost use Rattle.condition_eval.specs.Texts.{reason_text};
 ghost use Rattle.event_flow.specs.Flows.{To, Dead, wrong_letter};

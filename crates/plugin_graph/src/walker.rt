@@ -1,3 +1,5 @@
+// A kit whose filters without patterns are read anew for each event.
+
 ghost use Rattle.std.specs.Prelude.{◌≡◌, ℕ, ◌∷◌, [], false, map, slice_get, IfOk};
 ghost use Rattle.event_tree.specs.Events.{Ev};
 ghost use Rattle.event_tree.specs.Paths.{over};

@@ -1,3 +1,5 @@
+// One event that is taken through a configuration as it is written.
+
 ghost use Rattle.std.specs.Prelude.{◌≡◌, ◌≤◌, ℕ, ◌∷◌, [], IfOk};
 ghost use Rattle.event_tree.specs.Events.{Ev};
 ghost use Rattle.foreign_parts.specs.declared.filter.Verdict.{Verdict};
