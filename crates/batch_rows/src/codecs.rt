@@ -5,12 +5,11 @@ ghost use Rattle.plugin_settings.specs.declared.outputs.StdoutSettings.{StdoutSe
 ghost use Rattle.batch_rows.specs.Codecs as spec;
 
 use built_plugins::{Flat, plugin_id};
-use config_tree::{Config, FromFault, Plugin};
+use config_tree::{Config, FromFault, Plugin, copy_statements};
 use line_codecs::OutCodec;
 use plain_data::{Items, Text};
 use plugin_settings::StdoutSettings;
 use std::alloc::{AllocError, Global};
-use std::mem;
 
 /// The codec of an output that writes to stdout.
 pub struct OutputCodec {
@@ -45,8 +44,7 @@ pub fn codecs_of_config(alloc: Global, config: &Config) -> Result<Items<OutputCo
 pub fn output_plugins(alloc: Global, config: &Config) -> Result<Items<Plugin>, AllocError>
     ensures { IfOk result (λ plugins. plugins ≡ (parts_of config.now.outputs).plugins) }
 {
-    let mut copy = config.copy()?;
-    let outputs = mem::replace(&mut copy.outputs, Items::new(alloc));
+    let outputs = copy_statements(alloc, config.outputs.as_slice())?;
     let Flat { plugins, .. } = Flat::of_statements(alloc, outputs)?;
     Ok(plugins)
 }

@@ -120,8 +120,12 @@ fn copy_statement(statement: &Statement) -> Result<Statement, AllocError>
     }
 }
 
+/// The statements of a section again, with all that stands in them.
 #[cycle(copy_statements)]
-fn copy_statements(alloc: Global, statements: &[Statement]) -> Result<Items<Statement>, AllocError>
+pub fn copy_statements(
+    alloc: Global,
+    statements: &[Statement],
+) -> Result<Items<Statement>, AllocError>
     ensures { IfOk result (λ copies. copies ≡ statements.now) }
 {
     let mut copies = Items::with_capacity(alloc, statements.len())?;

@@ -8,6 +8,7 @@ mod operators;
 mod readers;
 mod tree;
 
+pub use copies::copy_statements;
 pub use fault::{FromFault, SettingFault};
 pub use operators::{Comparison, Conjunction, Disjunction, Matching};
 pub use tree::{

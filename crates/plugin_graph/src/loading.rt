@@ -18,10 +18,9 @@ use built_plugins::{
     CompiledCondition, Filter, Flat, NamedCondition, Outputs, add_named, compile_conditions,
     read_filters,
 };
-use config_tree::{Condition, Config, FromFault, Plugin};
+use config_tree::{Condition, Config, FromFault, Plugin, copy_statements};
 use plain_data::{Items, Text};
 use std::alloc::{AllocError, Global};
-use std::mem;
 
 /// The filter and output sections of a configuration.
 #[derive(Drop)]
@@ -103,9 +102,8 @@ impl Sections {
         ensures outputs { IfOk result
             (λ sections. sections.outputs ≡ flat_of (parts_of config.now.outputs)) }
     {
-        let mut copy = config.copy()?;
-        let filters = mem::replace(&mut copy.filters, Items::new(alloc));
-        let outputs = mem::replace(&mut copy.outputs, Items::new(alloc));
+        let filters = copy_statements(alloc, config.filters.as_slice())?;
+        let outputs = copy_statements(alloc, config.outputs.as_slice())?;
         Ok(Sections {
             filters: Flat::of_statements(alloc, filters)?,
             outputs: Flat::of_statements(alloc, outputs)?,

@@ -19,12 +19,11 @@ use crate::parts::Parts;
 use crate::passage::Passage;
 use built_plugins::{BuiltFilter, Filter, Flat};
 use condition_eval::Truth;
-use config_tree::{Config, Plugin};
+use config_tree::{Config, Plugin, copy_statements};
 use event_flow::{Cell, Plugins, Targets, lay_config};
 use event_tree::{Event, Events, Items};
 use foreign_parts::Asked;
 use std::alloc::{AllocError, Global};
-use std::mem;
 
 /// The parts of a kit, with the plugins of its filters. Some of the filters are read anew from their
 /// plugins, each time an event meets one.
@@ -106,8 +105,7 @@ impl<X: Asked> Walker<X> {
 pub(crate) fn filter_plugins(alloc: Global, config: &Config) -> Result<Items<Plugin>, AllocError>
     ensures { IfOk result (λ plugins. plugins ≡ (parts_of config.now.filters).plugins) }
 {
-    let mut copy = config.copy()?;
-    let filters = mem::replace(&mut copy.filters, Items::new(alloc));
+    let filters = copy_statements(alloc, config.filters.as_slice())?;
     let Flat { plugins, .. } = Flat::of_statements(alloc, filters)?;
     Ok(plugins)
 }
