@@ -1,7 +1,7 @@
 use Rattle.std.proofs.Common.{◌≡◌, ◌++◌, length}
 use Rattle.std.specs.Vec.Iter.{into_iter_len}
-use Rattle.plugin_graph.specs.Numbering.{targets_of}
-use Rattle.plugin_graph.proofs.output.Outputs.add_targets.Given as goal
+use Rattle.built_plugins.specs.Numbering.{targets_of}
+use Rattle.built_plugins.proofs.output.Outputs.add_targets.Given as goal
 
 abbrev pub invariant-loop-place : goal.invariant-loop-place
 invariant-loop-place l = record {
