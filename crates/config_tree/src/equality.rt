@@ -21,6 +21,15 @@ impl Config {
     }
 }
 
+impl Plugin {
+    /// Whether two plugins are equal: the same name with the same settings in the same order. It takes no memory.
+    pub fn same(&self, other: &Plugin) -> bool
+        ensures { IsTrue result ↔ (self.now ≡ other.now) }
+    {
+        same_plugin(self, other)
+    }
+}
+
 fn same_plugins(left: &[Plugin], right: &[Plugin]) -> bool
     ensures { IsTrue result ↔ (left.now ≡ right.now) }
 {

@@ -1,43 +1,22 @@
-//! Judges of histories: plain, slow code beside the definitions of what a pipeline promises, equal to them.
+//! Judges of histories, for tests: plain code that reads as the definitions of `history_laws` do. It is proved to be safe
+//! and to end, and it is tested; no clause ties it to the definitions.
 //!
-//! - [`state_after`] says where a pipeline stands after entries, and [`State::tell`] where it stands after one more.
-//! - [`first_fault`] names the first entry of a history that isn't legal, and the part of its rule that doesn't hold
-//!   there ([`Reason`]); [`State::fault`] says the same of one entry.
-//! - [`rejections`], [`are_chosen`], [`kept`] and [`same_letters`] say which letters events that a box rejects have.
-//! - [`Meaning`] is what a judge has to be told of configurations: what is due of a batch.
+//! - [`State::step`] is the rule of each entry, and where a pipeline stands behind it ([`Reason`] says why one isn't legal);
+//!   [`state_after`] goes through a history ([`history_of`] a book).
+//! - [`rejections`] and its like say which letters events have that a box rejects.
+//! - [`Meaning`] is what a judge has to be told of configurations.
 //!
-//! The definitions of entries, of where a pipeline stands after some, and of which histories are legal stand in
-//! `history_laws`; `specs/States` and `specs/Judging` say which of them the types here stand for.
+//! What stands around a run is judged by `run_judges`.
 #![tactic(auto)]
 
-mod after;
-mod batches;
-mod choosing;
-mod delivering;
-mod equality;
-mod fault;
-mod found;
-mod inputs;
-pub mod laws;
-mod letters;
+mod history;
 mod meaning;
-mod named;
-mod naming;
-mod opening;
 mod reason;
-mod rejecting;
-mod rules;
-mod shedding;
+pub mod rejections;
 mod state;
 mod steps;
 
-pub use after::state_after;
-pub use choosing::are_chosen;
-pub use equality::same_letters;
-pub use fault::{Illegal, first_fault};
-pub use meaning::{Meaning, Meant};
-pub use naming::plugin_id;
-pub use reason::Reason;
-pub use rejecting::{is_place, kept, rejections};
-pub use state::{Between, Delivery, Limits, Out, Plan, State, Written};
-pub use steps::copy_places;
+pub use history::{history_of, state_after};
+pub use meaning::{Derived, Due, DueEvents, Given, Look, Meaning, Plan};
+pub use reason::{Fault, Illegal, Judged, Reason, want};
+pub use state::{Between, Input, Limits, Out, Row, Shed, State};

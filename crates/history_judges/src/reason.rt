@@ -1,3 +1,5 @@
+use std::alloc::{AllocError, AllocFailed};
+
 /// Why an entry isn't legal: the part of its rule that doesn't hold.
 #[derive(Clone, Copy, Debug, PartialEq, Eq)]
 pub enum Reason {
@@ -55,4 +57,48 @@ pub enum Reason {
     Lost,
     /// A row before one that was found is neither found nor acknowledged.
     Gap,
+    /// No answer was heard that assures a parcel of these events, or it served a delivery before.
+    Unanswered,
+    /// The parcel isn't the next one on its way to the address.
+    Parcel,
+    /// The answer isn't that of the oldest parcel with events that has none.
+    Answer,
+}
+
+/// An entry that isn't legal: its place among those that its pipeline told, from 0 on, and why.
+#[derive(Clone, Copy, Debug, PartialEq, Eq)]
+pub struct Illegal {
+    pub place: usize,
+    pub reason: Reason,
+}
+
+/// Why a judge doesn't go on: what it judges isn't legal, or it found no memory.
+#[derive(Clone, Copy, Debug, PartialEq, Eq)]
+pub enum Fault {
+    Illegal(Reason),
+    Memory,
+}
+
+impl From<AllocError> for Fault {
+    fn from(_error: AllocError) -> Fault {
+        Fault::Memory
+    }
+}
+
+impl<T: Drop> From<AllocFailed<T>> for Fault {
+    fn from(_error: AllocFailed<T>) -> Fault {
+        Fault::Memory
+    }
+}
+
+/// What a judge says, where it goes on.
+pub type Judged<T> = Result<T, Fault>;
+
+/// What a rule wants.
+pub fn want(holds: bool, reason: Reason) -> Judged<()> {
+    if holds {
+        Ok(())
+    } else {
+        Err(Fault::Illegal(reason))
+    }
 }

@@ -1,62 +1,69 @@
-ghost use Rattle.std.specs.Prelude.{◌≡◌, IfOk};
-ghost use Rattle.history_laws.specs.States.{start};
-ghost use Rattle.history_judges.specs.States.{state_of};
+// Where a pipeline stands after what it told.
 
-use config_tree::Config;
-use dead_letters::Shedding;
-use event_tree::{DeadList, Event, Events, Text};
-use foreign_parts::{Place, Verdict};
-use plain_data::Items;
+use crate::meaning::{Due, Plan};
+use crate::reason::{Fault, Judged, Reason, want};
+use config_tree::Plugin;
+use element_code::Origin;
+use event_tree::{DeadPart, Event, Text};
+use history_book::ParcelAt;
+use persistent_queue::QueueRow;
 use settings_lines::Policy;
-use std::alloc::{AllocError, Global};
+use std::alloc::Global;
 
-/// A configuration that was adopted, with the numbers of its boxes.
+/// An input of a pipeline. Numbers count from 0 since the pipeline was opened.
 #[derive(Drop)]
-pub struct Plan {
-    pub generation: u64,
-    pub config: Config,
-    pub draws: Items<(Text, u64)>,
+pub struct Input<'a> {
+    pub number: usize,
+    pub statement: &'a Plugin,
+    pub id: Text,
+    /// Whether the newest configuration has it.
+    pub is_open: bool,
 }
 
-/// A row that was written: the number of its input, and the configurations up to then since the pipeline was opened,
-/// the newest first.
+/// A row that was written.
 #[derive(Drop)]
-pub struct Written {
+pub struct Row<'a> {
     pub number: u64,
+    pub event: &'a Event,
+    /// The number of its input, and the parcel in which the event came, if it came in one.
     pub input: usize,
-    pub under: Items<Plan>,
-    pub event: Event,
+    pub parcel: Option<ParcelAt>,
+    /// The input's statement and its id, as they were then.
+    pub statement: &'a Plugin,
+    pub id: Text,
+    /// Whether it was accepted since the pipeline was last opened.
+    pub is_new: bool,
 }
 
-/// A delivery that is due of a batch.
+/// A batch that is read and not acknowledged: the configuration that it goes by, and its rows.
 #[derive(Drop)]
-pub enum Delivery {
-    /// Letters to the dead letter queue.
-    Letters(DeadList),
-    /// Events of the output with this id to one of its places.
-    Events(Text, Place, Events),
-}
-
-/// A batch that is read and not acknowledged: the configuration that it goes by and its rows; the verdicts, once it is
-/// back; and of what is due of it what was told, and what is left, both in order.
-#[derive(Drop)]
-pub struct Out {
+pub struct Out<'a> {
     pub batch: u64,
-    pub plan: Plan,
-    pub rows: Items<Written>,
-    pub verdicts: Option<Items<Verdict>>,
-    pub told: Items<Delivery>,
-    pub left: Items<Delivery>,
+    pub plan: Plan<'a>,
+    pub numbers: &'a [u64],
+    pub events: Vec<&'a Event>,
+    pub is_back: bool,
+    /// What is due of it, once it is back, and how many of these deliveries were told.
+    pub due: Vec<Due>,
+    pub told: usize,
 }
 
-/// What stands between two entries that belong together.
-#[derive(Drop)]
-pub enum Between {
+/// What is shed of the dead letters: so many of the oldest segments, and of the letters that come next those at these
+/// places.
+#[derive(Clone, Copy)]
+pub struct Shed<'a> {
+    pub older: u64,
+    pub newer: &'a [usize],
+}
+
+/// What stands between two entries that belong together, with the number of their batch.
+#[derive(Clone, Copy)]
+pub enum Between<'a> {
     Nothing,
-    /// What is shed of the letters of this batch that come next, and of the segments before them.
-    Shed(u64, Shedding),
+    /// What is shed of the letters that come next, and of the segments before them.
+    Shed(u64, Shed<'a>),
     /// The same, with the letters of events that the next delivery's place rejected, less those that were shed.
-    Rejecting(u64, Shedding, DeadList),
+    Rejecting(u64, Shed<'a>, &'a [DeadPart]),
 }
 
 /// The limit of the dead letters in bytes, and what is done there.
@@ -66,106 +73,115 @@ pub struct Limits {
     pub policy: Policy,
 }
 
-/// Where a pipeline stands after what it told.
+/// Where a pipeline stands.
 #[derive(Drop)]
-pub struct State {
+pub struct State<'a> {
     /// None before the pipeline was first opened.
     pub limits: Option<Limits>,
-    /// The configurations since it was opened, the newest first.
-    pub plans: Items<Plan>,
-    pub rows: Items<Written>,
+    /// The newest configuration since it was opened.
+    pub plan: Option<Plan<'a>>,
+    /// The inputs since it was opened, the open ones first.
+    pub inputs: Vec<Input<'a>>,
+    pub rows: Vec<Row<'a>>,
     /// The number up to which rows are settled.
     pub front: u64,
-    pub acknowledged: Items<u64>,
-    /// The numbers that batches were given since the pipeline was opened.
-    pub read: Items<u64>,
-    /// The numbers of these batches, the newest first.
-    pub used: Items<u64>,
-    pub out: Items<Out>,
-    /// The next row's number is above this one.
-    pub last: u64,
-    /// And it is at most one above this one.
-    pub highest: u64,
-    pub between: Between,
+    pub acknowledged: Vec<u64>,
+    /// The numbers of rows that batches were given since it was opened, and the numbers of these batches.
+    pub read: Vec<u64>,
+    pub batches: Vec<u64>,
+    pub out: Vec<Out<'a>>,
+    /// The least and the greatest number that the next row may have.
+    pub low: u128,
+    pub high: u128,
+    pub between: Between<'a>,
+    /// The inputs that were told since it was opened that rows are settled, and up to which.
+    pub assured: Vec<(usize, u64)>,
 }
 
-impl State {
+impl<'a> State<'a> {
     /// Where a pipeline stands that told nothing yet. It takes no memory.
-    pub fn start(alloc: Global) -> State
-        ensures { state_of result ≡ start }
-    {
+    pub fn start(alloc: Global) -> State<'a> {
         State {
             limits: None,
-            plans: Items::new(alloc),
-            rows: Items::new(alloc),
+            plan: None,
+            inputs: Vec::new(alloc),
+            rows: Vec::new(alloc),
             front: 0,
-            acknowledged: Items::new(alloc),
-            read: Items::new(alloc),
-            used: Items::new(alloc),
-            out: Items::new(alloc),
-            last: 0,
-            highest: 0,
+            acknowledged: Vec::new(alloc),
+            read: Vec::new(alloc),
+            batches: Vec::new(alloc),
+            out: Vec::new(alloc),
+            low: 1,
+            high: 1,
             between: Between::Nothing,
+            assured: Vec::new(alloc),
         }
     }
-}
 
-impl Plan {
-    /// The same again.
-    pub fn copy(&self) -> Result<Plan, AllocError>
-        ensures { IfOk result (λ copy. copy ≡ self.now) }
-    {
-        Ok(Plan {
-            generation: self.generation,
-            draws: copy_draws(self.draws.allocator(), self.draws.as_slice())?,
-            config: self.config.copy()?,
-        })
+    /// The allocator of what it keeps.
+    pub fn alloc(&self) -> Global {
+        *self.rows.allocator()
+    }
+
+    /// The newest configuration, where the last entry wants no other just behind it.
+    pub fn running(&self) -> Judged<Plan<'a>> {
+        let Some(plan) = self.plan else {
+            return Err(Fault::Illegal(Reason::NotAdopted));
+        };
+        want(self.is_between_none(), Reason::Unfinished)?;
+        Ok(plan)
+    }
+
+    /// Whether the last entry wants no other just behind it.
+    pub fn is_between_none(&self) -> bool {
+        matches!(self.between, Between::Nothing)
+    }
+
+    /// The batch of this number, if it is out.
+    pub fn batch(&self, batch: u64) -> Option<&Out<'a>> {
+        self.out.iter().find(|out| out.batch == batch)
+    }
+
+    /// The batch of this number, if it is out and back.
+    pub fn batch_back(&self, batch: u64) -> Judged<&Out<'a>> {
+        let Some(out) = self.batch(batch) else {
+            return Err(Fault::Illegal(Reason::NotOut));
+        };
+        want(out.is_back, Reason::NotBack)?;
+        Ok(out)
+    }
+
+    /// What is shed with the letters that come now.
+    pub fn shed_now(&self) -> Shed<'a> {
+        match self.between {
+            Between::Nothing => Shed {
+                older: 0,
+                newer: &[],
+            },
+            Between::Shed(_, shed) | Between::Rejecting(_, shed, _) => shed,
+        }
+    }
+
+    /// The number behind which no row was found, and none is settled.
+    pub fn top(&self, found: &[QueueRow]) -> u64 {
+        self.front.max(found.last().map_or(0, |row| row.number))
     }
 }
 
-impl Clone for Plan {
-    ghost is_clone = { λ plan copy. copy ≡ plan };
-
-    fn clone(&self) -> Result<Self, AllocError> {
-        self.copy()
+impl Out<'_> {
+    /// What is told next of what is due of it.
+    pub fn next(&self) -> Option<&Due> {
+        self.due.get(self.told)
     }
 }
 
-/// The numbers of boxes, once more.
-pub(crate) fn copy_draws(
-    alloc: Global,
-    draws: &[(Text, u64)],
-) -> Result<Items<(Text, u64)>, AllocError>
-    ensures { IfOk result (λ copies. copies ≡ draws.now) }
-{
-    let mut copies = Items::with_capacity(alloc, draws.len())?;
-    for draw in draws {
-        copies.push((draw.0.copy()?, draw.1))?;
+impl Row<'_> {
+    /// Whether what was found is this row: it names no input, or the id that its input had then.
+    pub fn is(&self, found: &QueueRow) -> bool {
+        let named = match &found.origin {
+            Origin::Unknown => true,
+            Origin::Id(id) => *id == self.id,
+        };
+        named && found.number == self.number && found.event.same(self.event)
     }
-    Ok(copies)
-}
-
-impl Written {
-    /// The same again.
-    pub fn copy(&self) -> Result<Written, AllocError>
-        ensures { IfOk result (λ copy. copy ≡ self.now) }
-    {
-        Ok(Written {
-            number: self.number,
-            input: self.input,
-            event: self.event.copy()?,
-            under: copy_plans(self.under.allocator(), self.under.as_slice())?,
-        })
-    }
-}
-
-/// Configurations, once more.
-pub(crate) fn copy_plans(alloc: Global, plans: &[Plan]) -> Result<Items<Plan>, AllocError>
-    ensures { IfOk result (λ copies. copies ≡ plans.now) }
-{
-    let mut copies = Items::with_capacity(alloc, plans.len())?;
-    for plan in plans {
-        copies.push(plan.copy()?)?;
-    }
-    Ok(copies)
 }

@@ -1,3 +1,1 @@
-mod Delivered
-mod Derived
 mod Unheard

@@ -6,8 +6,8 @@ use crate::meaning::OneOutput;
 use element_code::Origin;
 use event_tree::{DeadList, DeadPart, Event, Events, Number, Path, Text, Value};
 use foreign_parts::{Fate, Fates, Place, Verdict};
-use history_book::{KeptEntry, ParcelAt};
-use history_judges::first_fault;
+use history_book::{KeptEntry, ParcelAt, Told};
+use history_judges::{Judged, history_of, state_after};
 use persistent_queue::QueueRow;
 use plain_data::Items;
 use settings_lines::Policy;
@@ -20,20 +20,30 @@ pub const LIMIT: u64 = 180;
 pub fn add_judged(to: &mut String, row: &str) -> Result<(), AllocError> {
     let alloc = *to.allocator();
     let (name, told) = row.split_once(':').unwrap_or((row, ""));
-    let entries = entries_of(alloc, told)?;
-    match first_fault(alloc, &OneOutput, entries.as_slice())? {
-        None => write!(to, "{name}: legal"),
-        Some(fault) => write!(to, "{name}: {} {:?}", fault.place, fault.reason),
+    let told = told_of(alloc, told)?;
+    let meaning = OneOutput { alloc };
+    let history = unless_memory(history_of(alloc, told.as_slice(), 0))?;
+    match unless_memory(state_after(alloc, &meaning, history.as_slice()))? {
+        Ok(_state) => write!(to, "{name}: legal"),
+        Err(illegal) => write!(to, "{name}: {} {:?}", illegal.place, illegal.reason),
     }
 }
 
-fn entries_of(alloc: Global, told: &str) -> Result<Items<KeptEntry>, AllocError> {
-    let mut entries = Items::new(alloc);
-    for text in told.split(';') {
-        let entry = entry_of(alloc, text)?;
-        entries.push(entry)?;
+/// What a judge says. Where it doesn't go on, that is for want of memory: what isn't legal is said before.
+pub fn unless_memory<T: Drop>(judged: Judged<T>) -> Result<T, AllocError> {
+    match judged {
+        Ok(said) => Ok(said),
+        Err(_) => Err(AllocError),
     }
-    Ok(entries)
+}
+
+fn told_of(alloc: Global, entries: &str) -> Result<Vec<Told>, AllocError> {
+    let mut told = Vec::new(alloc);
+    for text in entries.split(';') {
+        let entry = entry_of(alloc, text)?;
+        told.push(Told { line: 0, entry })?;
+    }
+    Ok(told)
 }
 
 pub fn first_word(line: &str) -> (&str, &str) {

@@ -15,7 +15,6 @@ mod letters;
 mod meaning;
 mod parting;
 mod scene;
-mod writing;
 
 use config_tree::Config;
 use element_code::Origin;

@@ -1,149 +1,108 @@
-ghost use Rattle.std.specs.Prelude.{◌≡◌, ◌↔◌, ◌∷◌, ◌++◌, IsTrue, IfOk, [], codes, map, option_and_then};
-ghost use Rattle.config_tree.specs.Readers.{value_at};
-ghost use Rattle.filter_settings.specs.Readers.{text_of};
-ghost use Rattle.event_flow.specs.Meaning.{some_letters};
-ghost use Rattle.event_flow.specs.Places as places;
-ghost use Rattle.history_judges.specs.States.{IsMeant, delivery_of};
-ghost use Rattle.history_tests.specs.Plain.{AreOutputs, due_there, passes};
+// What configurations mean in histories that are written by hand.
 
 use crate::parting::{Parted, part};
-use config_tree::{Config, Plugin, SettingValue, Settings, Statement};
-use event_tree::{Event, Text};
-use filter_settings::{read_text, unless_refused};
+use config_tree::{Config, Plugin, SettingValue, Statement};
+use element_code::encode;
+use event_tree::{Event, Events, Text};
 use foreign_parts::{Place, Verdict};
-use history_judges::{Delivery, Meaning, Meant, plugin_id};
-use plain_data::Items;
+use history_judges::{Derived, Due, DueEvents, Given, Look, Meaning, Plan};
 use std::alloc::{AllocError, Global};
 
 /// What configurations mean whose filters are none or one condition with an empty block, and whose outputs are none or
-/// one with one place. Of others it says that memory ran out.
-pub struct OneOutput;
+/// one with one place, which writes each event as a queue spells it. No statement gives an id. Of other configurations it
+/// says that memory ran out. No input looks at a source.
+#[derive(Clone, Copy)]
+pub struct OneOutput {
+    pub alloc: Global,
+}
 
 impl Meaning for OneOutput {
-    ghost use Rattle.history_tests.specs.Plain.{passes};
-
-    ghost makes = { passes };
-
     fn due(
         &self,
-        config: &Config,
-        draws: &[(Text, u64)],
-        events: &[Event],
+        plan: Plan<'_>,
+        events: &[&Event],
         verdicts: &[Verdict],
-    ) -> Result<Meant, AllocError> {
-        meant(config, draws, events, verdicts)
+    ) -> Result<Derived, AllocError> {
+        let parted = part(self.alloc, plan.config.filters.as_slice(), events)?;
+        Ok(Derived {
+            exactly: verdicts.is_empty(),
+            due: self.due_of(plan, parted)?,
+        })
     }
-}
 
-fn meant(
-    config: &Config,
-    draws: &[(Text, u64)],
-    events: &[Event],
-    verdicts: &[Verdict],
-) -> Result<Meant, AllocError>
-    ensures { IfOk result (IsMeant passes config.now draws.now events.now verdicts.now) }
-{
-    let alloc = config.inputs.allocator();
-    let exactly = is_none(verdicts);
-    let output = output_of(alloc, draws, config.outputs.as_slice())?;
-    let parted = part(alloc, config.filters.as_slice(), events)?;
-    let due = due_of(alloc, output, parted)?;
-    Ok(Meant { exactly, due })
-}
-
-fn is_none(verdicts: &[Verdict]) -> bool
-    ensures { IsTrue result ↔ (verdicts.now ≡ []) }
-{
-    verdicts.is_empty()
-}
-
-// The letters first, and then the events that pass, to where they go.
-fn due_of(
-    alloc: Global,
-    output: Option<(Text, Place)>,
-    parted: Parted,
-) -> Result<Items<Delivery>, AllocError>
-    ensures { IfOk result (λ due. map delivery_of due
-        ≡ some_letters parted.letters ++ due_there output parted.passing) }
-{
-    let Parted { letters, passing } = parted;
-    let mut due = Items::new(alloc);
-    if !letters.is_empty() {
-        due.push(Delivery::Letters(letters))?;
+    fn bytes(&self, _config: &Config, _id: &Text, events: &[Event]) -> Result<Vec<u8>, AllocError> {
+        spelling_of(self.alloc, events)
     }
-    if let Some((id, place)) = output {
-        if !passing.is_empty() {
-            due.push(Delivery::Events(id, place, passing))?;
+
+    fn input_id(&self, place: usize, _statement: &Plugin) -> Result<Text, AllocError> {
+        let number = place.saturating_add(1);
+        Ok(Text::from_string(format!(in self.alloc; "input_{number}")?))
+    }
+
+    fn address(&self, statement: &Plugin) -> Result<Option<Text>, AllocError> {
+        match statement.settings.get("address") {
+            Some(SettingValue::Text(address)) => Ok(Some(address.copy()?)),
+            _ => Ok(None),
         }
     }
-    Ok(due)
+
+    fn applied(&self, _statement: &Plugin, event: &Event) -> Result<Event, AllocError> {
+        event.copy()
+    }
+
+    fn given(&self, _statement: &Plugin, _looks: &[Look]) -> Result<Given, AllocError> {
+        Ok(Given {
+            events: Events::new(self.alloc),
+            is_ended: true,
+        })
+    }
 }
 
-// The id of the one output and its one place; none where there is no output.
-fn output_of(
-    alloc: Global,
-    draws: &[(Text, u64)],
-    outputs: &[Statement],
-) -> Result<Option<(Text, Place)>, AllocError>
-    ensures { IfOk result (AreOutputs draws.now outputs.now) }
-{
-    match outputs {
-        [] => Ok(None),
-        [Statement::Plugin(output)] => {
-            let id = plugin_id(alloc, "output", 1, output)?;
-            let place = place_of(alloc, draws, id.as_str(), output)?;
-            Ok(Some((id, place)))
+impl OneOutput {
+    // The letters first, and then the events that pass, to where they go.
+    fn due_of(&self, plan: Plan<'_>, parted: Parted) -> Result<Vec<Due>, AllocError> {
+        let Parted { letters, passing } = parted;
+        let mut due = Vec::new(self.alloc);
+        if !letters.is_empty() {
+            due.push(Due::Letters(letters))?;
         }
-        _ => Err(AllocError),
+        match plan.config.outputs.as_slice() {
+            [] => {}
+            [Statement::Plugin(output)] => {
+                if !passing.is_empty() {
+                    due.push(Due::Events(DueEvents {
+                        id: Text::of(self.alloc, "output_1")?,
+                        kind: output.name.copy()?,
+                        place: place_of(plan, output)?,
+                        events: passing,
+                    }))?;
+                }
+            }
+            _ => return Err(AllocError),
+        }
+        Ok(due)
     }
 }
 
 // The one place of an output.
-fn place_of(
-    alloc: Global,
-    draws: &[(Text, u64)],
-    id: &str,
-    output: &Plugin,
-) -> Result<Place, AllocError>
-    ensures { IfOk result (λ at. places.places_of draws.now id.now output.now ≡ at ∷ []) }
-{
-    match output.name.as_str() {
-        "stdout" => Ok(Place::Stdout),
-        "file" => match given_path(alloc, &output.settings)? {
-            Some(path) => Ok(Place::File(path)),
-            None => Err(AllocError),
-        },
-        "pipeline" => match output.settings.get("send_to") {
-            Some(SettingValue::Text(address)) => Ok(Place::Address(address.copy()?)),
+fn place_of(plan: Plan<'_>, output: &Plugin) -> Result<Place, AllocError> {
+    match (output.name.as_str(), output.settings.list.as_slice()) {
+        ("stdout", _) => Ok(Place::Stdout),
+        ("sink", _) => Ok(Place::Discard),
+        ("file", [(_, SettingValue::Text(path))]) => Ok(Place::File(path.copy()?)),
+        ("pipeline", [(_, SettingValue::Text(address))]) => Ok(Place::Address(address.copy()?)),
+        _ => match plan.draws {
+            [(_, number)] => Ok(Place::Foreign(*number)),
             _ => Err(AllocError),
         },
-        "sink" => Ok(Place::Discard),
-        _ => match drawn_for(id, draws) {
-            Some(number) => Ok(Place::Foreign(number)),
-            None => Err(AllocError),
-        },
     }
 }
 
-// The path that settings give.
-fn given_path(alloc: Global, settings: &Settings) -> Result<Option<Text>, AllocError>
-    ensures { IfOk result (λ path. path
-        ≡ option_and_then text_of (value_at (codes "path") settings.now.list)) }
-{
-    match settings.get("path") {
-        Some(value) => unless_refused(read_text(alloc, "path", value)),
-        None => Ok(None),
+/// The bytes of these events.
+pub fn spelling_of(alloc: Global, events: &[Event]) -> Result<Vec<u8>, AllocError> {
+    let mut bytes = Vec::new(alloc);
+    for event in events {
+        encode(event, &mut bytes)?;
     }
-}
-
-// The number of the box that was drawn for an id.
-fn drawn_for(id: &str, draws: &[(Text, u64)]) -> Option<u64>
-    ensures { result ≡ places.drawn_for id.now draws.now }
-{
-    for draw in draws {
-        if draw.0.as_str() == id {
-            return Some(draw.1);
-        }
-    }
-    None
+    Ok(bytes)
 }

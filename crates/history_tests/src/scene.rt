@@ -6,19 +6,15 @@
 //! - `?`: for each choice of a stop, whether what it leaves agrees with the entries so far at all moments of the last call,
 //!   at some or at none.
 
-ghost use Rattle.std.specs.Prelude.{◌≡◌, IfOk};
-ghost use Rattle.io_traits.specs.Folders.{folder_start};
-
 use crate::calls::make_call;
 use crate::configs::FILE;
-use crate::judged::{entry_of, first_word};
+use crate::judged::{entry_of, first_word, unless_memory};
 use crate::letters::letters_of;
 use crate::meaning::OneOutput;
-use crate::writing::Spelling;
 use event_tree::Text;
-use history_book::KeptEntry;
+use history_book::Told;
 use plain_data::Items;
-use sound_judges::{AppendedLetters, FilePlace, HeldLetters, Places, is_sound};
+use run_judges::{AppendedLetters, FilePlace, HeldLetters, Judge, Places, Witnesses};
 use std::alloc::{AllocError, Global};
 use store_disk::{Call, MemoryStore, Script, Table};
 
@@ -46,8 +42,8 @@ struct Scene {
     store: MemoryStore,
     // the moment before the last call
     from: u64,
-    entries: Items<KeptEntry>,
-    letters: AppendedLetters,
+    told: Vec<Told>,
+    witnesses: Witnesses,
 }
 
 // Written out, so that it is one call wherever an error is handed on.
@@ -56,8 +52,8 @@ impl Drop for Scene {
         let Scene {
             store: _store,
             from: _,
-            entries: _entries,
-            letters: _letters,
+            told: _told,
+            witnesses: _witnesses,
         } = self;
     }
 }
@@ -70,10 +66,13 @@ pub fn add_scene(to: &mut String, row: &str) -> Result<(), AllocError> {
     let mut scene = Scene {
         store: MemoryStore::new(Table::new(alloc), Script::empty(alloc), u64::MAX)?,
         from: 0,
-        entries: Items::new(alloc),
-        letters: AppendedLetters {
-            by_entries: Items::new(alloc),
-            last: None,
+        told: Vec::new(alloc),
+        witnesses: Witnesses {
+            letters: AppendedLetters {
+                by_entries: Vec::new(alloc),
+                last: None,
+            },
+            files: Vec::new(alloc),
         },
     };
     for item in items.split(';') {
@@ -90,22 +89,21 @@ fn add_item(to: &mut String, scene: &mut Scene, item: &str) -> Result<(), AllocE
         return Ok(());
     }
     let (kind, rest) = first_word(item);
+    let letters = &mut scene.witnesses.letters;
     match kind {
-        "?" => add_verdicts(to, scene),
+        "?" => add_verdicts(to, scene)?,
         "by" => {
-            let letters = letters_of(alloc, rest)?;
-            let _none = scene.letters.by_entries.pop();
-            scene.letters.by_entries.push(Some(letters))
+            let _none = letters.by_entries.pop();
+            letters.by_entries.push(Some(letters_of(alloc, rest)?))?;
         }
-        "left" => {
-            scene.letters.last = Some(letters_of(alloc, rest)?);
-            Ok(())
-        }
+        "left" => letters.last = Some(letters_of(alloc, rest)?),
         _ => {
-            scene.entries.push(entry_of(alloc, item)?)?;
-            scene.letters.by_entries.push(None)
+            let entry = entry_of(alloc, item)?;
+            scene.told.push(Told { line: 0, entry })?;
+            letters.by_entries.push(None)?;
         }
     }
+    Ok(())
 }
 
 fn add_verdicts(to: &mut String, scene: &Scene) -> Result<(), AllocError> {
@@ -150,16 +148,10 @@ fn is_sound_at(alloc: Global, scene: &Scene, moment: u64, choice: u64) -> Result
         return Ok(false);
     }
     let image = table_of(alloc, &scene.store.images(moment, choice)?)?;
-    let places = places(alloc)?;
-    is_sound(
-        alloc,
-        &OneOutput,
-        &Spelling { alloc },
-        &places,
-        scene.entries.as_slice(),
-        &scene.letters,
-        &image,
-    )
+    let meaning = OneOutput { alloc };
+    let judge = unless_memory(Judge::of(alloc, &meaning, scene.told.as_slice(), 0))?;
+    let unsound = judge.unsound(&places(alloc)?, &scene.witnesses, &image);
+    Ok(unless_memory(unsound)?.is_none())
 }
 
 // The files of a store.
@@ -175,17 +167,15 @@ fn table_of(alloc: Global, store: &MemoryStore) -> Result<Table, AllocError> {
 }
 
 // Where the pipeline of each row keeps what it holds, with nothing there at first.
-fn places(alloc: Global) -> Result<Places, AllocError>
-    ensures { IfOk result (λ places. folder_start places.queue ≡ places.queue) }
-{
-    let mut files = Items::with_capacity(alloc, 1)?;
+fn places(alloc: Global) -> Result<Places, AllocError> {
+    let mut files = Vec::new(alloc);
     files.push(FilePlace {
         path: Text::of(alloc, FILE)?,
         slot: Text::of(alloc, SLOT)?,
-        base: Items::new(alloc),
+        base: Vec::new(alloc),
     })?;
-    let mut segments = Items::with_capacity(alloc, 1)?;
-    segments.push(Items::new(alloc))?;
+    let mut segments = Vec::new(alloc);
+    segments.push(Vec::new(alloc))?;
     Ok(Places {
         queue: Text::of(alloc, QUEUE)?,
         files,

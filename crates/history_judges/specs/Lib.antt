@@ -1,6 +1,0 @@
-pub mod States
-pub mod Judging
-pub mod Naming
-pub mod Letters
-pub mod Finding
-pub mod Inputs
