@@ -15,7 +15,7 @@ Rows that tell bodies apart which are wrong:
 - letters are told of events that a box took: `a letter of an event that was taken`
 - a letter that has to be shed is told, and one that needn't: `a letter that was shed is told`, `a place behind the letters`
 
-That a delivery to an address without its answer isn't legal is no row, since answers are no entries: it is the contract of
+That a delivery to an address without its answer isn't legal is no row here, since answers are no entries: it is one of `runs`, and the contract of
 `laws::a_delivery_without_its_answer_is_not_legal`.
 
 `scenes` shows of a stop's image that the same bodies aren't sound, and letters past the limit without a shedding.

@@ -65,6 +65,7 @@ fn plugin(alloc: Global, name: &str) -> Result<Plugin, AllocError> {
     let list = match name {
         "file" => setting(alloc, "path", FILE)?,
         "pipeline" => setting(alloc, "send_to", ADDRESS)?,
+        "listen" => setting(alloc, "address", ADDRESS)?,
         _ => Items::new(alloc),
     };
     Ok(Plugin {

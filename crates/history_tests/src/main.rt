@@ -4,7 +4,8 @@
 //!
 //! What is expected of the histories is what `data/histories.py` says, which goes by the tables of legal histories alone.
 //! Behind these it prints what the judges say of what a stop leaves in the scenes of `data/scenes` (see `scene`), of which
-//! `data/scenes.py` says what is expected.
+//! `data/scenes.py` says what is expected. Last it prints what they say of the runs of `data/runs` (see `runs`), whose
+//! answers were worked out by hand.
 #![tactic(auto)]
 
 mod calls;
@@ -14,6 +15,7 @@ mod laws;
 mod letters;
 mod meaning;
 mod parting;
+mod runs;
 mod scene;
 
 use config_tree::Config;
@@ -45,6 +47,11 @@ fn main(rt: HostRuntime) -> io::Result<()> {
     for row in fs::read_to_string(&rt, "scenes")?.lines() {
         let mut answer = String::new(rt.alloc());
         scene::add_scene(&mut answer, row)?;
+        println!(rt; "{answer}")?;
+    }
+    for row in fs::read_to_string(&rt, "runs")?.lines() {
+        let mut answer = String::new(rt.alloc());
+        runs::add_run(&mut answer, row)?;
         println!(rt; "{answer}")?;
     }
     Ok(())

@@ -1,16 +1,19 @@
 // What configurations mean in histories that are written by hand.
 
+use crate::judged::event_of;
 use crate::parting::{Parted, part};
 use config_tree::{Config, Plugin, SettingValue, Statement};
 use element_code::encode;
 use event_tree::{Event, Events, Text};
 use foreign_parts::{Place, Verdict};
 use history_judges::{Derived, Due, DueEvents, Given, Look, Meaning, Plan};
+use in_lines::Piece;
 use std::alloc::{AllocError, Global};
+use std::str;
 
 /// What configurations mean whose filters are none or one condition with an empty block, and whose outputs are none or
 /// one with one place, which writes each event as a queue spells it. No statement gives an id. Of other configurations it
-/// says that memory ran out. No input looks at a source.
+/// says that memory ran out. An input makes one event of all that a look finds.
 #[derive(Clone, Copy)]
 pub struct OneOutput {
     pub alloc: Global,
@@ -50,11 +53,20 @@ impl Meaning for OneOutput {
         event.copy()
     }
 
-    fn given(&self, _statement: &Plugin, _looks: &[Look]) -> Result<Given, AllocError> {
-        Ok(Given {
-            events: Events::new(self.alloc),
-            is_ended: true,
-        })
+    fn given(&self, _statement: &Plugin, looks: &[Look]) -> Result<Given, AllocError> {
+        let mut events = Events::new(self.alloc);
+        let mut is_ended = false;
+        for look in looks {
+            match &look.poll.piece {
+                Piece::Bytes(bytes) => {
+                    let text = str::from_utf8(bytes.as_slice()).unwrap_or("");
+                    events.push(event_of(self.alloc, text)?)?;
+                }
+                Piece::End => is_ended = true,
+                Piece::Nothing => {}
+            }
+        }
+        Ok(Given { events, is_ended })
     }
 }
 
