@@ -17,6 +17,6 @@ mod state;
 mod steps;
 
 pub use history::{history_of, state_after};
-pub use meaning::{Derived, Due, DueEvents, Given, Look, Meaning, Plan};
+pub use meaning::{Derived, Due, DueEvents, Given, Meaning, Plan, SourceLook};
 pub use reason::{Fault, Illegal, Judged, Reason, want};
-pub use state::{Between, Input, Limits, Out, Row, Shed, State};
+pub use state::{Between, Input, Limits, Out, Shed, State, Written};

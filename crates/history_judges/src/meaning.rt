@@ -1,3 +1,5 @@
+// What a judge is told of configurations, and what it is told that they make of events.
+
 use config_tree::{Config, Plugin};
 use event_tree::{DeadList, Event, Events, Text};
 use foreign_parts::{Place, Verdict};
@@ -41,7 +43,7 @@ pub struct Derived {
 /// A look of an input at one of its sources: the name of the source, as the number of a connection or the path of a
 /// file, and what was found there.
 #[derive(Drop)]
-pub struct Look {
+pub struct SourceLook {
     pub source: Text,
     pub poll: Poll,
 }
@@ -78,5 +80,5 @@ pub trait Meaning {
     fn applied(&self, statement: &Plugin, event: &Event) -> Result<Event, AllocError>;
 
     /// What an input makes of the looks that it made since it was opened.
-    fn given(&self, statement: &Plugin, looks: &[Look]) -> Result<Given, AllocError>;
+    fn given(&self, statement: &Plugin, looks: &[SourceLook]) -> Result<Given, AllocError>;
 }

@@ -1,3 +1,5 @@
+// Why a judge doesn't go on: what isn't legal, or want of memory.
+
 use std::alloc::{AllocError, AllocFailed};
 
 /// Why an entry isn't legal: the part of its rule that doesn't hold.

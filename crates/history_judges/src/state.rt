@@ -22,7 +22,7 @@ pub struct Input<'a> {
 
 /// A row that was written.
 #[derive(Drop)]
-pub struct Row<'a> {
+pub struct Written<'a> {
     pub number: u64,
     pub event: &'a Event,
     /// The number of its input, and the parcel in which the event came, if it came in one.
@@ -82,7 +82,7 @@ pub struct State<'a> {
     pub plan: Option<Plan<'a>>,
     /// The inputs since it was opened, the open ones first.
     pub inputs: Vec<Input<'a>>,
-    pub rows: Vec<Row<'a>>,
+    pub rows: Vec<Written<'a>>,
     /// The number up to which rows are settled.
     pub front: u64,
     pub acknowledged: Vec<u64>,
@@ -175,7 +175,7 @@ impl Out<'_> {
     }
 }
 
-impl Row<'_> {
+impl Written<'_> {
     /// Whether what was found is this row: it names no input, or the id that its input had then.
     pub fn is(&self, found: &QueueRow) -> bool {
         let named = match &found.origin {

@@ -5,7 +5,7 @@ use crate::reason::{Fault, Judged, Reason, want};
 use crate::rejections::{
     are_below, are_kept, are_some_rejected, fates_fit, is_box, rejections, same_events, same_place,
 };
-use crate::state::{Between, Input, Limits, Out, Row, Shed, State};
+use crate::state::{Between, Input, Limits, Out, Shed, State, Written};
 use config_tree::Config;
 use event_tree::{DeadPart, Event, Text};
 use foreign_parts::{Fate, Place, Verdict};
@@ -76,7 +76,7 @@ impl<'a> State<'a> {
             return Err(Fault::Illegal(Reason::Input));
         };
         want(by.is_open || parcel.is_some(), Reason::Input)?;
-        let row = Row {
+        let row = Written {
             number,
             event,
             input,
@@ -372,7 +372,7 @@ impl<'a> State<'a> {
     }
 
     // Whether a row is found or acknowledged.
-    fn stands(&self, found: &[QueueRow], row: &Row) -> bool {
+    fn stands(&self, found: &[QueueRow], row: &Written) -> bool {
         self.acknowledged.contains(&row.number) || found.iter().any(|one| row.is(one))
     }
 }

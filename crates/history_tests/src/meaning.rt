@@ -6,7 +6,7 @@ use config_tree::{Config, Plugin, SettingValue, Statement};
 use element_code::encode;
 use event_tree::{Event, Events, Text};
 use foreign_parts::{Place, Verdict};
-use history_judges::{Derived, Due, DueEvents, Given, Look, Meaning, Plan};
+use history_judges::{Derived, Due, DueEvents, Given, Meaning, Plan, SourceLook};
 use in_lines::Piece;
 use std::alloc::{AllocError, Global};
 use std::str;
@@ -53,7 +53,7 @@ impl Meaning for OneOutput {
         event.copy()
     }
 
-    fn given(&self, _statement: &Plugin, looks: &[Look]) -> Result<Given, AllocError> {
+    fn given(&self, _statement: &Plugin, looks: &[SourceLook]) -> Result<Given, AllocError> {
         let mut events = Events::new(self.alloc);
         let mut is_ended = false;
         for look in looks {

@@ -15,7 +15,7 @@ use crate::judged::{entry_of, events_of, first_number, first_word, unless_memory
 use crate::meaning::OneOutput;
 use event_tree::{Events, Instant, Text};
 use history_book::KeptEntry;
-use history_judges::{Fault, Look};
+use history_judges::{Fault, SourceLook};
 use in_lines::{Piece, Poll};
 use pipeline_bus::{Answer, Heard, Parcel};
 use run_judges::{Deed, InputLooks, LinkTraffic, Run};
@@ -124,8 +124,8 @@ fn looks_of(alloc: Global, texts: &str) -> Result<Vec<InputLooks>, AllocError> {
     Ok(all)
 }
 
-fn look(alloc: Global, piece: Piece) -> Result<Look, AllocError> {
-    Ok(Look {
+fn look(alloc: Global, piece: Piece) -> Result<SourceLook, AllocError> {
+    Ok(SourceLook {
         source: Text::of(alloc, "")?,
         poll: Poll {
             moment: Instant::epoch(),

@@ -6,7 +6,7 @@ use crate::links::LinkTraffic;
 use crate::run::{Line, Run};
 use event_tree::Event;
 use foreign_parts::Place;
-use history_judges::{Judged, Look, Meaning, Row};
+use history_judges::{Judged, Meaning, SourceLook, Written};
 use io_memory::Table;
 use pipeline_bus::Heard;
 
@@ -14,7 +14,7 @@ use pipeline_bus::Heard;
 #[derive(Drop)]
 pub struct InputLooks {
     pub input: usize,
-    pub looks: Vec<Look>,
+    pub looks: Vec<SourceLook>,
 }
 
 impl<'a> Run<'a> {
@@ -62,7 +62,7 @@ impl<'a> Run<'a> {
 }
 
 // Whether a row was accepted of this input since the pipeline was opened, and came in no parcel.
-fn is_accepted_by(row: &Row, input: usize) -> bool {
+fn is_accepted_by(row: &Written, input: usize) -> bool {
     row.is_new && row.parcel.is_none() && row.input == input
 }
 
@@ -183,13 +183,13 @@ impl<'a> Line<'a> {
     }
 
     // Whether the row's input was told that it is settled.
-    fn is_assured(&self, row: &Row) -> bool {
+    fn is_assured(&self, row: &Written) -> bool {
         let mut assured = self.state.assured.iter();
         assured.any(|(input, front)| *input == row.input && row.number <= *front)
     }
 
     // Whether the parcel in which the row's event came was answered so.
-    fn is_answered(&self, row: &Row, links: &[LinkTraffic]) -> bool {
+    fn is_answered(&self, row: &Written, links: &[LinkTraffic]) -> bool {
         let Some(at) = row.parcel else {
             return false;
         };

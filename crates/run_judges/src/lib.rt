@@ -23,4 +23,4 @@ pub use ends::InputLooks;
 pub use judge::{Judge, Places, Unsound, Witnesses, queue_is_sound};
 pub use links::LinkTraffic;
 pub use positions::{FileReading, WatchedFile};
-pub use run::{Closing, Deed, Line, Run, Sent};
+pub use run::{ClosedAddress, Deed, Line, Run, SentParcel};

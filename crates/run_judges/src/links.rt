@@ -2,7 +2,7 @@
 
 use crate::run::{Line, Run};
 use event_tree::{Event, Text};
-use history_judges::{Judged, Meaning, Row};
+use history_judges::{Judged, Meaning, Written};
 use pipeline_bus::{Answer, Heard, Parcel};
 
 /// A link by which a pipeline, or something outside of all of them, sends to an address where another pipeline, or the
@@ -90,7 +90,7 @@ fn is_same(left: &Parcel, right: &Parcel) -> bool {
 }
 
 // Whether a row was made of the parcel of this number, since the listener was last opened.
-fn is_from(row: &Row, link: &LinkTraffic, number: u64) -> bool {
+fn is_from(row: &Written, link: &LinkTraffic, number: u64) -> bool {
     match row.parcel {
         Some(at) => row.is_new && at.place == link.place && at.number == number,
         None => false,
@@ -166,7 +166,12 @@ fn are_made<M: Meaning>(meaning: &M, taker: &Line, link: &LinkTraffic) -> Judged
     Ok(true)
 }
 
-fn is_made<M: Meaning>(meaning: &M, row: &Row, link: &LinkTraffic, event: &Event) -> Judged<bool> {
+fn is_made<M: Meaning>(
+    meaning: &M,
+    row: &Written,
+    link: &LinkTraffic,
+    event: &Event,
+) -> Judged<bool> {
     let listens = match meaning.address(row.statement)? {
         Some(address) => address == link.address,
         None => false,

@@ -4,7 +4,7 @@ use crate::found::recorded;
 use crate::judge::Judge;
 use config_tree::Plugin;
 use event_tree::{Event, Text};
-use history_judges::{Judged, Look, Meaning, State};
+use history_judges::{Judged, Meaning, SourceLook, State};
 use in_lines::Piece;
 use io_memory::Table;
 
@@ -12,7 +12,7 @@ use io_memory::Table;
 #[derive(Drop)]
 pub struct FileReading {
     pub statement: Plugin,
-    pub looks: Vec<Look>,
+    pub looks: Vec<SourceLook>,
 }
 
 /// A file that a pipeline watches: its path, the name of its position file, where the first reading began that left a

@@ -20,14 +20,14 @@ pub enum Deed<'a> {
 
 /// A parcel that was sent, and the number of deeds before it.
 #[derive(Clone, Copy)]
-pub struct Sent<'a> {
+pub struct SentParcel<'a> {
     pub at: usize,
     pub parcel: &'a Parcel,
 }
 
 /// An address that lost its listener by an adoption, and the number of deeds before that.
 #[derive(Drop)]
-pub struct Closing {
+pub struct ClosedAddress {
     pub at: usize,
     pub address: Text,
 }
@@ -37,11 +37,11 @@ pub struct Closing {
 pub struct Line<'a> {
     pub number: u32,
     pub state: State<'a>,
-    pub sent: Vec<Sent<'a>>,
+    pub sent: Vec<SentParcel<'a>>,
     pub heard: Vec<(&'a Text, Answer)>,
     /// The parcels that an answer assured, which served no delivery yet.
     pub assured: Vec<&'a Parcel>,
-    pub closings: Vec<Closing>,
+    pub closings: Vec<ClosedAddress>,
 }
 
 /// A run: its pipelines, and what stdout and boxes were given since any of them was last opened.
@@ -188,7 +188,7 @@ impl<'a> Line<'a> {
         for input in self.state.inputs.iter() {
             if !input.is_open && was_open.contains(&input.number) {
                 if let Some(address) = meaning.address(input.statement)? {
-                    self.closings.push(Closing { at, address })?;
+                    self.closings.push(ClosedAddress { at, address })?;
                 }
             }
         }
@@ -219,13 +219,13 @@ impl<'a> Line<'a> {
         want(parcel.number == next, Reason::Parcel)?;
         let is_due = self.state.out.iter().any(|out| is_next_for(out, parcel));
         want(parcel.is_last() || is_due, Reason::NotDue)?;
-        self.sent.push(Sent { at, parcel })?;
+        self.sent.push(SentParcel { at, parcel })?;
         Ok(())
     }
 
     // How many parcels with events were sent to an address.
     fn filled(&self, address: &Text) -> u64 {
-        let filled = |sent: &&Sent| sent.parcel.address == *address && !sent.parcel.is_last();
+        let filled = |sent: &&SentParcel| sent.parcel.address == *address && !sent.parcel.is_last();
         self.sent.iter().filter(filled).count() as u64
     }
 
