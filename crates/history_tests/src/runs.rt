@@ -178,7 +178,7 @@ fn link_of(
     let mut given = Vec::new(alloc);
     for (place, said) in answers.split(',').enumerate() {
         if !said.is_empty() {
-            given.push(answer_of(place as u64 + 1, said))?;
+            given.push(answer_of((place as u64).saturating_add(1), said))?;
         }
     }
     Ok(LinkTraffic {
