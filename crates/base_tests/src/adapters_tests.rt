@@ -1,3 +1,4 @@
+// Tests of the real sources and sinks, over readers and writers that fail.
 use std::cell::Cell;
 use std::io::{self, BufWriter, ErrorKind, Read, Write};
 use std::test::Fail;
@@ -60,9 +61,9 @@ fn a_stdin_source_reads_its_reader(rt: HostRuntime) {
 
 // A writer that counts the bytes that reached it.
 #[derive(Drop)]
-struct Counting<'a>(&'a Cell<usize>);
+struct CountingWriter<'a>(&'a Cell<usize>);
 
-impl Write for Counting<'_> {
+impl Write for CountingWriter<'_> {
     fn write(&mut self, bytes: &[u8]) -> io::Result<usize> {
         self.0.set(self.0.get().saturating_add(bytes.len()));
         Ok(bytes.len())
@@ -111,7 +112,7 @@ fn empties<W: Write>(sink: &mut WriteSink<W, &HostRuntime>, want: Result<(), Fai
 // What is written reaches a writer behind a buffer once it is flushed.
 fn writes_behind_a_buffer(rt: &HostRuntime) -> io::Result<bool> {
     let reached = Cell::new(0);
-    let mut sink = WriteSink::new(rt, BufWriter::new(rt.alloc(), Counting(&reached))?);
+    let mut sink = WriteSink::new(rt, BufWriter::new(rt.alloc(), CountingWriter(&reached))?);
     let written = hands_on(&mut sink, Ok(3)) && reached.get() == 0;
     let flushed = empties(&mut sink, Ok(())) && reached.get() == 3;
     Ok(written && flushed && sink.faults() == 0)

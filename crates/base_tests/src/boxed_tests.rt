@@ -1,3 +1,4 @@
+// Tests of boxes on the heap.
 use plain_data::Boxed;
 use std::alloc::{AllocError, Global};
 

@@ -1,3 +1,4 @@
+// Tests of the control that looks every three seconds.
 use std::thread;
 use std::time::Duration;
 use store_disk::{Control, GoControl, Said};

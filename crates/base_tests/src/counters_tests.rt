@@ -1,3 +1,4 @@
+// Tests of counters at their last number.
 use monitor_core::{Counter, Monitor, MonitorOpen, Total};
 use std::test::Fail;
 

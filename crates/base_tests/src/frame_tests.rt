@@ -1,3 +1,4 @@
+// Tests of CRCs, frames and slots.
 ghost use Rattle.std.specs.Prelude.{◌<◌};
 
 use crate::bitwise::crc32_bitwise;

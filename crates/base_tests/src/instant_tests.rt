@@ -1,3 +1,4 @@
+// Tests of instants at the bounds of their years.
 use time_instant::Instant;
 
 // Whether there is an instant of so many nanoseconds, which gives them back.

@@ -1,3 +1,4 @@
+// Tests of lines in pieces of each size, against lines read byte by byte.
 ghost use Rattle.std.specs.Prelude.{◌≡◌, ◌<◌, [], true, false, OnOk};
 ghost use Rattle.byte_lines.specs.Unread.{lines_left};
 

@@ -1,3 +1,4 @@
+// Tests of links between pipelines: parcels, answers and full rings.
 ghost use Rattle.std.specs.Prelude.{◌≡◌, IfOk, length};
 
 use event_tree::Event;

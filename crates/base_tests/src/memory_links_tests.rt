@@ -1,29 +1,32 @@
+// Tests of connections in memory.
 use std::alloc::{AllocError, Global};
-use store_disk::{Come, ConnState, Failed, Gave, MemoryLinks, Script, Sent, Step};
+use store_disk::{
+    Come, ConnState, ConnectionEvent, Failed, MemoryLinks, Script, SourceEvent, Step,
+};
 
 // What a piece of the list is: some bytes, or with None an end.
-type Piece = (u32, Option<&'static str>);
+type LinkPiece = (u32, Option<&'static str>);
 
 fn links_of(
     alloc: Global,
     connections: u32,
-    pieces: &[Piece],
+    pieces: &[LinkPiece],
     script: Script,
 ) -> Result<MemoryLinks, AllocError> {
     let mut list = Vec::new(alloc);
     for (conn, bytes) in pieces {
         let gave = match bytes {
-            Some(bytes) => Gave::Bytes(Vec::from_slice(alloc, bytes.as_bytes())?),
-            None => Gave::End,
+            Some(bytes) => SourceEvent::Bytes(Vec::from_slice(alloc, bytes.as_bytes())?),
+            None => SourceEvent::End,
         };
-        list.push(Sent { conn: *conn, gave })?;
+        list.push(ConnectionEvent { conn: *conn, gave })?;
     }
     Ok(MemoryLinks::new(alloc, connections, list, script))
 }
 
 // A call of the links, with what it answers.
 #[derive(Drop)]
-enum Call {
+enum LinksCall {
     Look(Result<Come, Failed>),
     // A read of a connection into a room of three bytes, and what stands there then.
     Read(u32, Result<Step, Failed>, &'static [u8; 3]),
@@ -35,11 +38,11 @@ fn reads(links: &mut MemoryLinks, conn: u32, want: Result<Step, Failed>, stands:
     u64::from(conn) < links.came() && links.read(conn, &mut room) == want && &room == stands
 }
 
-fn answers(links: &mut MemoryLinks, call: &Call) -> bool {
+fn answers(links: &mut MemoryLinks, call: &LinksCall) -> bool {
     match call {
-        Call::Look(want) => links.accept("localhost", 5044) == *want,
-        Call::Read(conn, want, stands) => reads(links, *conn, *want, stands),
-        Call::Close(conn) => {
+        LinksCall::Look(want) => links.accept("localhost", 5044) == *want,
+        LinksCall::Read(conn, want, stands) => reads(links, *conn, *want, stands),
+        LinksCall::Close(conn) => {
             links.close(*conn);
             true
         }
@@ -47,7 +50,7 @@ fn answers(links: &mut MemoryLinks, call: &Call) -> bool {
 }
 
 // The number of the first call that answers something else.
-fn first_wrong(links: &mut MemoryLinks, calls: &[Call]) -> Option<usize> {
+fn first_wrong(links: &mut MemoryLinks, calls: &[LinksCall]) -> Option<usize> {
     for (number, call) in calls.iter().enumerate() {
         if !answers(links, call) {
             return Some(number);
@@ -66,27 +69,27 @@ fn closed(faults: u64, waits: u64) -> ConnState {
 
 // Two connections come, the first of which gives its pieces up to those of the second. Then the pieces
 // of both come in turn, and the second is closed before its end.
-const CALLS: [Call; 16] = [
-    Call::Look(Ok(Come::Conn(0))),
-    Call::Look(Ok(Come::NotYet)),
-    Call::Look(Err(Failed)),
-    Call::Read(0, Ok(Step::Bytes(3)), b"abc"),
-    Call::Read(0, Ok(Step::NotYet), b"---"),
-    Call::Read(0, Ok(Step::Bytes(2)), b"de-"),
-    Call::Read(0, Ok(Step::NotYet), b"---"),
-    Call::Look(Ok(Come::Conn(1))),
-    Call::Look(Ok(Come::Ended)),
-    Call::Read(1, Err(Failed), b"---"),
-    Call::Read(1, Ok(Step::Bytes(2)), b"fg-"),
-    Call::Read(0, Ok(Step::End), b"---"),
-    Call::Read(0, Ok(Step::End), b"---"),
-    Call::Read(1, Ok(Step::Bytes(1)), b"h--"),
-    Call::Close(1),
-    Call::Read(1, Ok(Step::End), b"---"),
+const CALLS: [LinksCall; 16] = [
+    LinksCall::Look(Ok(Come::Conn(0))),
+    LinksCall::Look(Ok(Come::NotYet)),
+    LinksCall::Look(Err(Failed)),
+    LinksCall::Read(0, Ok(Step::Bytes(3)), b"abc"),
+    LinksCall::Read(0, Ok(Step::NotYet), b"---"),
+    LinksCall::Read(0, Ok(Step::Bytes(2)), b"de-"),
+    LinksCall::Read(0, Ok(Step::NotYet), b"---"),
+    LinksCall::Look(Ok(Come::Conn(1))),
+    LinksCall::Look(Ok(Come::Ended)),
+    LinksCall::Read(1, Err(Failed), b"---"),
+    LinksCall::Read(1, Ok(Step::Bytes(2)), b"fg-"),
+    LinksCall::Read(0, Ok(Step::End), b"---"),
+    LinksCall::Read(0, Ok(Step::End), b"---"),
+    LinksCall::Read(1, Ok(Step::Bytes(1)), b"h--"),
+    LinksCall::Close(1),
+    LinksCall::Read(1, Ok(Step::End), b"---"),
 ];
 
 // What comes on the connections.
-const PIECES: [Piece; 7] = [
+const PIECES: [LinkPiece; 7] = [
     (0, Some("abcde")),
     (1, Some("")),
     (1, Some("fg")),

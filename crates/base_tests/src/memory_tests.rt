@@ -1,3 +1,4 @@
+// Tests of sources, sinks, clocks, controls and files in memory.
 use crate::tables::files_of;
 use std::alloc::{AllocError, Global};
 use store_disk::{

@@ -1,3 +1,4 @@
+// Tests of patterns: spans, replacements and limits.
 use pattern_box::{Pattern, PatternFault, Patterns};
 use std::alloc::{AllocError, Global};
 

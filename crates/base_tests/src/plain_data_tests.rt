@@ -1,3 +1,4 @@
+// Tests of texts, items and fields.
 ghost use Rattle.std.specs.Prelude.{◌≤◌, length};
 
 use plain_data::{Fields, Items, Text};

@@ -1,3 +1,4 @@
+// Tests of shops whose workers run in threads.
 ghost use Rattle.std.specs.Prelude.{◌≡◌, ◌+◌, ◌%◌, ◌^◌, ⊤};
 
 use batch_shop::{InlineShop, Shop, Task, ThreadShop};
@@ -9,9 +10,9 @@ use std::thread;
 
 /// A number whose successor is wanted.
 #[derive(Drop)]
-struct Next(u64);
+struct NextJob(u64);
 
-impl Task for Next {
+impl Task for NextJob {
     type Done = u64;
 
     ghost gives = { λ job done. done ≡ (job.0 + 1) % 2 ^ 64 };
@@ -51,9 +52,9 @@ fn sum(numbers: &[u64]) -> u64 {
 }
 
 // Whether the shop takes 64 jobs.
-fn takes_64(shop: &mut ThreadShop<Next>) -> bool {
+fn takes_64(shop: &mut ThreadShop<NextJob>) -> bool {
     for number in 0..64u64 {
-        if shop.give(Next(number)).is_some() {
+        if shop.give(NextJob(number)).is_some() {
             return false;
         }
     }
@@ -63,8 +64,8 @@ fn takes_64(shop: &mut ThreadShop<Next>) -> bool {
 #[test]
 fn a_shop_does_its_jobs_itself(rt: HostRuntime) -> Result<(), Fail> {
     let mut shop = InlineShop::new(rt.alloc(), 2)?;
-    let given = shop.give(Next(1)).is_none() && shop.give(Next(2)).is_none();
-    let back = shop.give(Next(3));
+    let given = shop.give(NextJob(1)).is_none() && shop.give(NextJob(2)).is_none();
+    let back = shop.give(NextJob(3));
     let first = shop.take();
     let second = shop.take();
     assert!(rt;
@@ -80,7 +81,7 @@ fn workers_do_the_jobs(rt: HostRuntime) -> Result<(), Fail> {
         let worker = shop.hire()?;
         let _ = thread::spawn(&rt, move || worker.serve(&rt))?;
     }
-    let given = shop.give(Next(1)).is_none() && shop.give(Next(2)).is_none();
+    let given = shop.give(NextJob(1)).is_none() && shop.give(NextJob(2)).is_none();
     assert!(rt; given && sum(shop.close(&rt).as_slice()) == 5);
     Ok(())
 }
@@ -93,7 +94,7 @@ fn a_result_is_waited_for_where_a_job_is_out(rt: HostRuntime) -> Result<(), Fail
         let _ = thread::spawn(&rt, move || worker.serve(&rt))?;
     }
     let none = shop.take_next(&rt).is_none();
-    let given = shop.give(Next(1)).is_none() && shop.give(Next(2)).is_none();
+    let given = shop.give(NextJob(1)).is_none() && shop.give(NextJob(2)).is_none();
     let first = shop.take_next(&rt).unwrap_or(0);
     let second = shop.take_next(&rt).unwrap_or(0);
     let last = shop.take_next(&rt).is_none();
@@ -120,7 +121,7 @@ fn a_shop_without_workers_hands_each_job_back(rt: HostRuntime) -> Result<(), Fai
     let mut shop = ThreadShop::new(rt.alloc(), 2)?;
     let _not_started = shop.hire()?;
     let dismissed = shop.dismiss();
-    let back = shop.give(Next(1));
+    let back = shop.give(NextJob(1));
     let none = shop.take();
     assert!(rt;
         dismissed && back.is_some() && none.is_none() && shop.close(&rt).as_slice().is_empty()

@@ -16,7 +16,7 @@ use Rattle.plugin_graph.specs.declared.passage.Passage.{Passage}
 use Rattle.batch_rows.specs.declared.codecs.OutputCodec.{OutputCodec}
 use Rattle.graph_checks.specs.OwnIds.{HaveOwnIds}
 use Rattle.batch_rows.specs.Codecs.{codecs_of}
-use Rattle.batch_rows.specs.Batches.{AreBytesOf, AreVerdicts, TookBatch, TookBatchInPart, TookBatches, TookFirst, batch_bytes}
+use Rattle.batch_rows.specs.Batches.{AreBytesOf, AreVerdicts, TookBatch, TookBatchInPart, TookBatches, WrotePrefix, batch_bytes}
 use Rattle.batch_rows.specs.Running.{RanUpTo, batch_limit, batches_behind}
 use Rattle.batch_rows.specs.Sends.{sent_bytes}
 use Rattle.batch_rows.proofs.Deliveries.{batch_bytes-sent}
@@ -52,7 +52,7 @@ module _ (config : Config) (draws : Draws) (may other : ℕ → Ev → Verdict �
     took = grows_by (sym (append-nil (batch_bytes config draws t.verdicts es))) t.took;
   }
 
-  first_part : (old new : Option (List ℕ)) (later : List (List Ev)) → TookBatchInPart config draws may es old new → TookFirst config draws other (es ∷ later) old new
+  first_part : (old new : Option (List ℕ)) (later : List (List Ev)) → TookBatchInPart config draws may es old new → WrotePrefix config draws other (es ∷ later) old new
   first_part old new later t = record {
     first = es ∷ [];
     others = later;
@@ -63,13 +63,13 @@ module _ (config : Config) (draws : Draws) (may other : ℕ → Ev → Verdict �
   }
 
   -- a part of it, or nothing
-  pub one_part : (old new : Option (List ℕ)) (later : List (List Ev)) → Grows old new [] ⊎ TookBatchInPart config draws may es old new → TookFirst config draws other (es ∷ later) old new
+  pub one_part : (old new : Option (List ℕ)) (later : List (List Ev)) → Grows old new [] ⊎ TookBatchInPart config draws may es old new → WrotePrefix config draws other (es ∷ later) old new
   one_part old new later (inr t) = first_part old new later t
   one_part old new later (inl none) = record { first = []; others = es ∷ later; whole = refl; bytes = []; are = refl; took = in_part_none [] none }
 
 module _ (config : Config) (draws : Draws) (may : ℕ → Ev → Verdict → Type 0) where
   -- no batch was run
-  pub none_took : (all : List (List Ev)) (old : Option (List ℕ)) → TookFirst config draws may all old old
+  pub none_took : (all : List (List Ev)) (old : Option (List ℕ)) → WrotePrefix config draws may all old old
   none_took all old = record { first = []; others = all; whole = refl; bytes = []; are = refl; took = in_part_none [] (grows_same old) }
 
   bytes-join : (xs ys : List (List Ev)) (a b : List ℕ) → AreBytesOf config draws may xs a → AreBytesOf config draws may ys b → AreBytesOf config draws may (xs ++ ys) (a ++ b)
@@ -82,7 +82,7 @@ module _ (config : Config) (draws : Draws) (may : ℕ → Ev → Verdict → Typ
   batches_then xs ys a b c one other = record { bytes = one.bytes ++ other.bytes; are = bytes-join xs ys one.bytes other.bytes one.are other.are; took = grows_then one.took other.took }
 
   -- batches, and then some of others
-  pub first_then : (xs ys : List (List Ev)) (a b c : Option (List ℕ)) → TookBatches config draws may xs a b → TookFirst config draws may ys b c → TookFirst config draws may (xs ++ ys) a c
+  pub first_then : (xs ys : List (List Ev)) (a b c : Option (List ℕ)) → TookBatches config draws may xs a b → WrotePrefix config draws may ys b c → WrotePrefix config draws may (xs ++ ys) a c
   first_then xs ys a b c one other = record {
     first = xs ++ other.first;
     others = other.others;
@@ -105,8 +105,8 @@ module _ {X : Type 0} (may : X → Ev → Verdict → Type 0) (config : Config) 
   }
 
   -- and stops
-  pub up_first : (all mid : List (List Ev)) (a b c : Option (List ℕ)) → RanUpTo may config draws boxes all mid a b → TookFirst config draws (MayAt may boxes) mid b c → TookFirst config draws (MayAt may boxes) all a c
-  up_first all mid a b c one other = subst (λ t. TookFirst config draws (MayAt may boxes) t a c) (sym one.whole) (first_then config draws (MayAt may boxes) one.batches mid a b c one.took other)
+  pub up_first : (all mid : List (List Ev)) (a b c : Option (List ℕ)) → RanUpTo may config draws boxes all mid a b → WrotePrefix config draws (MayAt may boxes) mid b c → WrotePrefix config draws (MayAt may boxes) all a c
+  up_first all mid a b c one other = subst (λ t. WrotePrefix config draws (MayAt may boxes) t a c) (sym one.whole) (first_then config draws (MayAt may boxes) one.batches mid a b c one.took other)
 
   -- to its end
   pub up_end : (all later : List (List Ev)) (a b c : Option (List ℕ)) → RanUpTo may config draws boxes all later a b → TookBatches config draws (MayAt may boxes) later b c → TookBatches config draws (MayAt may boxes) all a c
@@ -129,8 +129,8 @@ module _ {X : Type 0} (may : X → Ev → Verdict → Type 0) (config : Config) 
   full_ran now none took = record { batches = after ∷ []; whole = now_full held es e full ∙ ap₂ (λ x y. x ∷ batches_behind y es) (sym is) (sym none); took = took }
 
   -- or of which a part is written
-  pub full_part : TookFirst config draws (MayAt may boxes) (after ∷ batches_behind [] es) a b → TookFirst config draws (MayAt may boxes) (batches_behind held (e ∷ es)) a b
-  full_part took = subst (λ t. TookFirst config draws (MayAt may boxes) t a b) (ap (λ x. x ∷ batches_behind [] es) is ∙ sym (now_full held es e full)) took
+  pub full_part : WrotePrefix config draws (MayAt may boxes) (after ∷ batches_behind [] es) a b → WrotePrefix config draws (MayAt may boxes) (batches_behind held (e ∷ es)) a b
+  full_part took = subst (λ t. WrotePrefix config draws (MayAt may boxes) t a b) (ap (λ x. x ∷ batches_behind [] es) is ∙ sym (now_full held es e full)) took
 
 pub is_full : (held after : List Ev) (e : Ev) → after ≡ held ++ e ∷ [] → length held < batch_limit → batch_limit ≤ length after → length held + 1 ≡ batch_limit
 is_full held after e is below above = let long = ap length is ∙ length-append held (e ∷ []) in omega (arith, long, below, above)

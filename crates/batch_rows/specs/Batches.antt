@@ -71,7 +71,7 @@ module _ (config : Config) (draws : Draws) where
       pub took : Grows old new bytes
 
     -- it took a first part of what stdout gets of the first few of these batches
-    pub record TookFirst (batches : List (List Ev)) (old new : Option (List ℕ)) : Type 0 where
+    pub record WrotePrefix (batches : List (List Ev)) (old new : Option (List ℕ)) : Type 0 where
       pub first : List (List Ev)
       pub others : List (List Ev)
       pub whole : batches ≡ first ++ others

@@ -1,3 +1,4 @@
+// Running one batch through a graph, and writing its rows to stdout.
 ghost use Rattle.std.specs.Prelude.{◌≡◌, ◌⊎◌, ℕ, [], Err, OnOk};
 ghost use Rattle.event_tree.specs.Events.{Ev};
 ghost use Rattle.config_tree.specs.declared.tree.Config.{Config};
@@ -13,7 +14,7 @@ use crate::codecs::OutputCodec;
 use crate::fault::BatchFault;
 use crate::sends::write_sent;
 use event_tree::Events;
-use foreign_parts::Asked;
+use foreign_parts::FilterCall;
 use io_traits::Sink;
 use plugin_graph::{Graph, Kit, run};
 use std::alloc::Global;
@@ -23,7 +24,7 @@ use std::alloc::Global;
 ///
 /// Where memory runs out the events are lost. A batch is written whole, or a first part of what is due of it, or
 /// nothing.
-pub(crate) fn run_batch<X: Asked, O: Sink>(
+pub(crate) fn run_batch<X: FilterCall, O: Sink>(
     alloc: Global,
     graph: &Graph,
     kit: &mut Kit<X>,

@@ -1,3 +1,4 @@
+// Closing the boxes of a kit at the end of a run.
 ghost use Rattle.std.specs.Prelude.{◌≡◌, ◌<◌, ◌+◌, length};
 ghost use Rattle.std.specs.Option.{option_map};
 ghost use Rattle.io_traits.specs.Counts.{one_more};
@@ -9,7 +10,7 @@ use graph_checks::Drawn;
 use plugin_graph::Kit;
 
 /// What is closed at the end of a run: a box, or what holds one.
-pub trait Closed: Drop {
+pub trait Close: Drop {
     ghost use Rattle.std.specs.Prelude.{◌≡◌, ℕ};
     ghost use Rattle.io_traits.specs.Counts.{one_more};
 
@@ -29,7 +30,7 @@ pub trait Closed: Drop {
 }
 
 // `ForeignFilter-box` stands for the box's members where the impl names the type of the box.
-impl Closed for PluggedFilter {
+impl Close for PluggedFilter {
     type Inside = Box<dyn ForeignFilter>;
 
     ghost number = { λ p. p.number };
@@ -41,7 +42,7 @@ impl Closed for PluggedFilter {
     }
 }
 
-impl<F: Closed> Closed for Drawn<F> {
+impl<F: Close> Close for Drawn<F> {
     type Inside = F::Inside;
 
     ghost number = { λ drawn. F.number drawn.plugged };
@@ -54,7 +55,7 @@ impl<F: Closed> Closed for Drawn<F> {
 }
 
 /// Closes each box that stands in a kit once, and leaves it where it is.
-pub fn close_kit<F: Closed>(kit: &mut Kit<F>)
+pub fn close_kit<F: Close>(kit: &mut Kit<F>)
     ensures numbers { told F.number (boxes_in kit.new) ≡ told F.number (boxes_in kit.old) }
     ensures closed { told F.closes (boxes_in kit.new)
         ≡ each_once_more (told F.closes (boxes_in kit.old)) }
@@ -67,7 +68,7 @@ pub fn close_kit<F: Closed>(kit: &mut Kit<F>)
 }
 
 // Closes the box of the filter of a number, if one stands there.
-fn close_at<F: Closed>(kit: &mut Kit<F>, at: usize)
+fn close_at<F: Close>(kit: &mut Kit<F>, at: usize)
     requires { at < length (contents_of kit.old).filters }
     ensures numbers { told F.number (boxes_in kit.new) ≡ told F.number (boxes_in kit.old) }
     ensures closed { once_more_from (at + 1) (told F.closes (boxes_in kit.new))
@@ -76,10 +77,10 @@ fn close_at<F: Closed>(kit: &mut Kit<F>, at: usize)
     ensures built { built_in kit.new ≡ built_in kit.old }
 {
     let plugged = kit.replace_box(at, None);
-    let _ = kit.replace_box(at, once_closed(plugged));
+    let _ = kit.replace_box(at, close_box(plugged));
 }
 
-fn once_closed<F: Closed>(plugged: Option<F>) -> Option<F>
+fn close_box<F: Close>(plugged: Option<F>) -> Option<F>
     ensures number { option_map F.number result ≡ option_map F.number plugged }
     ensures closes { option_map F.closes result
         ≡ option_map one_more (option_map F.closes plugged) }

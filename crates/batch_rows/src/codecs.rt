@@ -1,3 +1,4 @@
+// The codecs of a configuration's outputs to stdout.
 ghost use Rattle.std.specs.Prelude.{◌≡◌, ◌++◌, IfOk, OnOk};
 ghost use Rattle.event_flow.specs.Parts.{parts_of};
 ghost use Rattle.filter_settings.specs.Settings.{Gives, Made};

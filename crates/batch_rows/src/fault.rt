@@ -1,3 +1,4 @@
+// Why a batch was not written whole.
 ghost use Rattle.std.specs.Prelude.{◌≡◌};
 ghost use Rattle.batch_rows.specs.declared.fault.BatchFault.TheVariants.{Memory, Output};
 

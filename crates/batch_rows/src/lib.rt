@@ -9,7 +9,7 @@ mod fault;
 mod runner;
 mod sends;
 
-pub use closing::{Closed, close_kit};
+pub use closing::{Close, close_kit};
 pub use codecs::{OutputCodec, codecs_of_config, output_plugins};
 pub use fault::BatchFault;
 pub use runner::{BATCH_LIMIT, Runner};

@@ -1,3 +1,4 @@
+// Running a configuration over events, batch after batch.
 ghost use Rattle.std.specs.Prelude.{◌≡◌, ◌<◌, ◌∷◌, [], List, Option, Err, OnOk, length};
 ghost use Rattle.event_tree.specs.Events.{Ev};
 ghost use Rattle.config_tree.specs.declared.tree.Config.{Config};
@@ -5,14 +6,14 @@ ghost use Rattle.event_flow.specs.Places.{Draws};
 ghost use Rattle.io_traits.specs.Counts.{HasCause};
 ghost use Rattle.plugin_graph.specs.Graphs.{boxes_in};
 ghost use Rattle.plugin_graph.specs.Kits.{MayAt};
-ghost use Rattle.batch_rows.specs.Batches.{AreMadeOf, TookBatches, TookFirst};
+ghost use Rattle.batch_rows.specs.Batches.{AreMadeOf, TookBatches, WrotePrefix};
 ghost use Rattle.batch_rows.specs.Running.{IsRunnerOf, RanUpTo, batch_limit, batches_behind};
 
 use crate::batch::run_batch;
 use crate::codecs::OutputCodec;
 use crate::fault::BatchFault;
 use event_tree::{Event, Events};
-use foreign_parts::Asked;
+use foreign_parts::FilterCall;
 use io_traits::Sink;
 use plain_data::Items;
 use plugin_graph::{Graph, Kit};
@@ -36,7 +37,7 @@ pub struct Runner<X> {
     pub row: Vec<u8>,
 }
 
-impl<X: Asked> Runner<X> {
+impl<X: FilterCall> Runner<X> {
     /// No event is held.
     pub fn new(graph: Graph, kit: Kit<X>, codecs: Items<OutputCodec>) -> Runner<X>
         ensures made { (config : Config) (draws : Draws) (boxes : List (Option X))
@@ -65,7 +66,7 @@ impl<X: Asked> Runner<X> {
             (O.taken stdout.old) (O.taken stdout.new)) }
         ensures part { (config : Config) (draws : Draws) (boxes : List (Option X))
             → IsRunnerOf X.may config draws boxes self.old → (es : List Ev)
-            → TookFirst config draws (MayAt X.may boxes)
+            → WrotePrefix config draws (MayAt X.may boxes)
             (batches_behind self.old.held (event ∷ es))
             (O.taken stdout.old) (O.taken stdout.new) }
         ensures stays { (config : Config) (draws : Draws) (boxes : List (Option X))
@@ -91,7 +92,7 @@ impl<X: Asked> Runner<X> {
             (O.taken stdout.old) (O.taken stdout.new)) }
         ensures part { (config : Config) (draws : Draws) (boxes : List (Option X))
             → IsRunnerOf X.may config draws boxes self.old
-            → TookFirst config draws (MayAt X.may boxes) (batches_behind self.old.held [])
+            → WrotePrefix config draws (MayAt X.may boxes) (batches_behind self.old.held [])
             (O.taken stdout.old) (O.taken stdout.new) }
         ensures stays { (config : Config) (draws : Draws) (boxes : List (Option X))
             → IsRunnerOf X.may config draws boxes self.old
@@ -114,7 +115,7 @@ impl<X: Asked> Runner<X> {
             (O.taken stdout.old) (O.taken stdout.new)) }
         ensures part { (config : Config) (draws : Draws) (boxes : List (Option X))
             → IsRunnerOf X.may config draws boxes self.old → (later : List (List Ev))
-            → TookFirst config draws (MayAt X.may boxes) (self.old.held ∷ later)
+            → WrotePrefix config draws (MayAt X.may boxes) (self.old.held ∷ later)
             (O.taken stdout.old) (O.taken stdout.new) }
         ensures stays { (config : Config) (draws : Draws) (boxes : List (Option X))
             → IsRunnerOf X.may config draws boxes self.old

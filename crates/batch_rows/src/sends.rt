@@ -1,3 +1,4 @@
+// Writing what outputs send to stdout.
 ghost use Rattle.std.specs.Prelude.{◌≡◌, ◌++◌, ◌&&◌, bytes_eq, Err, OnOk};
 ghost use Rattle.event_flow.specs.Meaning.{same_place};
 ghost use Rattle.foreign_parts.specs.declared.place.Place.TheVariants.{Stdout};

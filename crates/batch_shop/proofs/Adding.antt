@@ -5,7 +5,7 @@ use Rattle.std.proofs.lemmas.Grind.{flat_map-append, reverse_onto}
 use Rattle.std.specs.List.{AllZip}
 use Rattle.batch_shop.specs.Desks.{job_out}
 use Rattle.batch_shop.specs.Adding.{AddsResult}
-use Rattle.batch_shop.specs.declared.desk.Desk.{Desk}
+use Rattle.batch_shop.specs.declared.worker_slot.WorkerSlot.{WorkerSlot}
 
 module _ {T D : Type 0} where
   zip_more : (gives : T → D → Type 0) (js : List T) (ds : List D) (j : T) (d : D) → AllZip gives js ds → gives j d → AllZip gives (js ++ j ∷ []) (ds ++ d ∷ [])
@@ -15,12 +15,12 @@ module _ {T D : Type 0} where
   zip_more gives (i ∷ js) (x ∷ ds) j d z h = (z.0, zip_more gives js ds j d z.1 h)
 
   -- the jobs that came home, the last worker's first, with their results
-  pub record Homes (gives : T → D → Type 0) (all : List T) (left : List (Desk T D)) (dones : List D) : Type 0 where
+  pub record Homes (gives : T → D → Type 0) (all : List T) (left : List (WorkerSlot T D)) (dones : List D) : Type 0 where
     pub home : List T
     pub split : all ≡ flat_map job_out left ++ home
     pub results : AllZip gives (reverse home) dones
 
-  pub one_home : (gives : T → D → Type 0) (all : List T) (left : List (Desk T D)) (d : Desk T D) (old new : List D) → Homes gives all (left ++ d ∷ []) old
+  pub one_home : (gives : T → D → Type 0) (all : List T) (left : List (WorkerSlot T D)) (d : WorkerSlot T D) (old new : List D) → Homes gives all (left ++ d ∷ []) old
       → AddsResult gives (job_out d) old new → Homes gives all left new
   one_home gives all left d old new h adds = by (job_out d) refl adds
     where

@@ -8,10 +8,10 @@ use mathlib.Core.Option.{some-ne-none, some-injective}
 use prog.Atomic.{either}
 use lib.ListN.{get_elem?}
 use Rattle.atomic_table.specs.Table.{State, Me, Act, keeps, takes, gives as hands, stepped, carried_after, opening, Valid, Allows, Splits}
-use Rattle.batch_shop.specs.Rule.{Slot, HasResult, Running, Row, Kept, Carries, Free, Opens, Hands, TakesJob, HandsBack, TakesHome, Closes}
+use Rattle.batch_shop.specs.Rule.{MessageSlot, HasResult, Running, Row, Kept, Carries, Free, Opens, Hands, TakesJob, HandsBack, TakesHome, Closes}
 use Rattle.batch_shop.specs.declared.rule.View.{View}
 use Rattle.batch_shop.specs.declared.rule.View.TheVariants as view
-use Rattle.batch_shop.specs.declared.rule.Letter.TheVariants as letter
+use Rattle.batch_shop.specs.declared.rule.Message.TheVariants as letter
 
 -- whose view it is
 abbrev pub is_shop : {T : Type 0} → View T → Bool
@@ -36,12 +36,12 @@ module _ {T D : Type 0} (gives : T → D → Type 0) where
       by zero f = (refl, subst (λ x. is_shop x ≡ false) (some-injective v u f) h)
       by (suc i) f = absurd (some-ne-none u (sym f))
 
-  running_sides : (w : ℕ) (h : home.Option (Slot T D)) (j : T) (n : ℕ) (others : List (View T)) → Running gives w h j others → Sides (view.Out j n) others
+  running_sides : (w : ℕ) (h : home.Option (MessageSlot T D)) (j : T) (n : ℕ) (others : List (View T)) → Running gives w h j others → Sides (view.Out j n) others
   running_sides w h j n others (inl r) = record { here = refl; there = one_other view.Waiting others r.2 refl }
   running_sides w h j n others (inr (inl r)) = record { here = refl; there = one_other (view.Working j) others r.2 refl }
   running_sides w h j n others (inr (inr r)) = record { here = refl; there = one_other view.Waiting others r.2 refl }
 
-  sides : (w : ℕ) (h : home.Option (Slot T D)) (shop : View T) (others : List (View T)) → Row gives w h shop others → Sides shop others
+  sides : (w : ℕ) (h : home.Option (MessageSlot T D)) (shop : View T) (others : List (View T)) → Row gives w h shop others → Sides shop others
   sides w h view.Alone others r = record { here = refl; there = λ i v at. absurd (some-ne-none v (sym (ap (λ vs. get_elem? vs i) (sym r.2) ∙ at))) }
   sides w h view.Ready others r = record { here = refl; there = one_other view.Waiting others r.2 refl }
   sides w h (view.Idle n) others r = record { here = refl; there = one_other view.Waiting others r.2 refl }
@@ -50,7 +50,7 @@ module _ {T D : Type 0} (gives : T → D → Type 0) where
   sides w h view.Waiting others r = absurd r
   sides w h (view.Working j) others r = absurd r
 
-  module _ (s : State (Slot T D) (View T)) (k : Kept gives s) where
+  module _ (s : State (MessageSlot T D) (View T)) (k : Kept gives s) where
     both : Sides k.shop k.others
     both = sides k.word k.slot k.shop k.others k.row
 
@@ -76,10 +76,10 @@ module _ {T D : Type 0} (gives : T → D → Type 0) where
     word_set : (n : ℕ) → set s.words 0 n ≡ n ∷ []
     word_set n = ap (λ ws. set ws 0 n) k.words
 
-    slot_set : (h : home.Option (Slot T D)) → set s.homes 0 h ≡ h ∷ []
+    slot_set : (h : home.Option (MessageSlot T D)) → set s.homes 0 h ≡ h ∷ []
     slot_set h = ap (λ hs. set hs 0 h) k.homes
 
-    slot_there : (x : Slot T D) → k.slot ≡ home.some x → get_elem? s.homes 0 ≡ home.some (home.some x)
+    slot_there : (x : MessageSlot T D) → k.slot ≡ home.some x → get_elem? s.homes 0 ≡ home.some (home.some x)
     slot_there x e = ap (λ hs. get_elem? hs 0) k.homes ∙ ap home.some e
 
     -- the row of the shop's own view
@@ -129,7 +129,7 @@ module _ {T D : Type 0} (gives : T → D → Type 0) where
         refl,
       )
 
-  pub closes : (slots id : ℕ) (looks : ℕ) (x : Slot T D) → Allows (Kept gives) slots id (Carries (view.Idle looks) x) 0 (λ _. 4)
+  pub closes : (slots id : ℕ) (looks : ℕ) (x : MessageSlot T D) → Allows (Kept gives) slots id (Carries (view.Idle looks) x) 0 (λ _. 4)
       (λ _ after. Closes gives after)
   closes slots id looks x s k homes at fits =
       let first = shop_first s k id (view.Idle looks) at refl in
@@ -151,7 +151,7 @@ module _ {T D : Type 0} (gives : T → D → Type 0) where
       )
 
   -- where the word is 3, the result of the job lies in the slot
-  result_there : (w : ℕ) (h : home.Option (Slot T D)) (j : T) (others : List (View T)) → Running gives w h j others → w ≡ 3 → HasResult gives j h × (others ≡ view.Waiting ∷ [])
+  result_there : (w : ℕ) (h : home.Option (MessageSlot T D)) (j : T) (others : List (View T)) → Running gives w h j others → w ≡ 3 → HasResult gives j h × (others ≡ view.Waiting ∷ [])
   result_there w h j others (inl r) e = absurd (omega (arith, r.0, e))
   result_there w h j others (inr (inl r)) e = absurd (omega (arith, r.0, e))
   result_there w h j others (inr (inr r)) e = (r.1, r.2)
@@ -172,7 +172,7 @@ module _ {T D : Type 0} (gives : T → D → Type 0) where
       row : Running gives k.word k.slot j k.others
       row = row_of s k (view.Out j looks) first.1
 
-      by : (b : Bool) → (n == 3) ≡ b → (w : View T) × (a : Act (Slot T D)) × Valid s.homes [] a × Kept gives (stepped s 0 (either (n == 3) 0 n) id [] w a)
+      by : (b : Bool) → (n == 3) ≡ b → (w : View T) × (a : Act (MessageSlot T D)) × Valid s.homes [] a × Kept gives (stepped s 0 (either (n == 3) 0 n) id [] w a)
           × TakesHome gives (Free (view.Out j looks)) n (w, carried_after [] a)
       by true e =
           let there = result_there k.word k.slot j k.others row (sym found ∙ eqb-true n 3 e) in (
@@ -211,14 +211,14 @@ module _ {T D : Type 0} (gives : T → D → Type 0) where
   -- ---- the worker's steps
 
   -- where the word is 1, a job lies in the slot
-  pub record IsGiven (h : home.Option (Slot T D)) (shop : View T) (others : List (View T)) : Type 0 where
+  pub record IsGiven (h : home.Option (MessageSlot T D)) (shop : View T) (others : List (View T)) : Type 0 where
     pub job : T
     pub looks : ℕ
     pub shop_is : shop ≡ view.Out job looks
     pub slot_is : h ≡ home.some (Some (letter.Job job))
     pub others_is : others ≡ view.Waiting ∷ []
 
-  given : (w : ℕ) (h : home.Option (Slot T D)) (shop : View T) (others : List (View T)) → Row gives w h shop others → w ≡ 1 → IsGiven h shop others
+  given : (w : ℕ) (h : home.Option (MessageSlot T D)) (shop : View T) (others : List (View T)) → Row gives w h shop others → w ≡ 1 → IsGiven h shop others
   given w h view.Alone others r e = absurd (omega (arith, r.0, e))
   given w h view.Ready others r e = absurd (omega (arith, r.0, e))
   given w h (view.Idle n) others r e = absurd (omega (arith, r.0, e))
@@ -245,7 +245,7 @@ module _ {T D : Type 0} (gives : T → D → Type 0) where
       is_waiting view.Waiting = true
       is_waiting _ = false
 
-  working : (w : ℕ) (h : home.Option (Slot T D)) (shop : View T) (others : List (View T)) (j : T) → Row gives w h shop others → get_elem? others 0 ≡ home.some (view.Working j) → IsWorked j shop others
+  working : (w : ℕ) (h : home.Option (MessageSlot T D)) (shop : View T) (others : List (View T)) (j : T) → Row gives w h shop others → get_elem? others 0 ≡ home.some (view.Working j) → IsWorked j shop others
   working w h view.Alone others j r at = absurd (some-ne-none (view.Working j) (sym (ap (λ vs. get_elem? vs 0) (sym r.2) ∙ at)))
   working w h view.Ready others j r at = absurd (not_waiting j (only j view.Waiting others r.2 at))
   working w h (view.Idle n) others j r at = absurd (not_waiting j (only j view.Waiting others r.2 at))
@@ -265,7 +265,7 @@ module _ {T D : Type 0} (gives : T → D → Type 0) where
   working w h view.Waiting others j r at = absurd r
   working w h (view.Working i) others j r at = absurd r
 
-  worker_set : (s : State (Slot T D) (View T)) (k : Kept gives s) (id : ℕ) (w v : View T) → id ≡ 1 → k.others ≡ v ∷ [] → set s.views id w ≡ k.shop ∷ w ∷ []
+  worker_set : (s : State (MessageSlot T D) (View T)) (k : Kept gives s) (id : ℕ) (w v : View T) → id ≡ 1 → k.others ≡ v ∷ [] → set s.views id w ≡ k.shop ∷ w ∷ []
   worker_set s k id w v e others = ap (λ i. set s.views i w) e ∙ ap (λ vs. set vs 1 w) k.views ∙ ap (λ vs. k.shop ∷ set vs 0 w) others
 
   pub takes_job : (slots id : ℕ) → Allows (Kept gives) slots id (Free view.Waiting) 0 (λ n. either (n == 1) 2 n) (λ n after. TakesJob gives (Free view.Waiting) n after)
@@ -280,7 +280,7 @@ module _ {T D : Type 0} (gives : T → D → Type 0) where
       second : (id ≡ 1) × (get_elem? k.others 0 ≡ home.some view.Waiting)
       second = worker_second s k id view.Waiting at refl
 
-      by : (b : Bool) → (n == 1) ≡ b → (w : View T) × (a : Act (Slot T D)) × Valid s.homes [] a × Kept gives (stepped s 0 (either (n == 1) 2 n) id [] w a)
+      by : (b : Bool) → (n == 1) ≡ b → (w : View T) × (a : Act (MessageSlot T D)) × Valid s.homes [] a × Kept gives (stepped s 0 (either (n == 1) 2 n) id [] w a)
           × TakesJob gives (Free view.Waiting) n (w, carried_after [] a)
       by true e =
           let g = given k.word k.slot k.shop k.others k.row (sym found ∙ eqb-true n 1 e) in (
@@ -360,14 +360,14 @@ module _ {T D : Type 0} (gives : T → D → Type 0) where
 
   -- ---- the same for a seat that is known to stand so
 
-  job_in_letter : T → Me (Slot T D) (View T) → T
+  job_in_letter : T → Me (MessageSlot T D) (View T) → T
   job_in_letter d m = of m.1
     where
-      of : List (ℕ × Slot T D) → T
+      of : List (ℕ × MessageSlot T D) → T
       of [] = d
       of (x ∷ xs) = from x.1
         where
-          from : Slot T D → T
+          from : MessageSlot T D → T
           from None = d
           from (Some (letter.Job j)) = j
           from (Some (letter.Done r)) = d
@@ -379,25 +379,25 @@ module _ {T D : Type 0} (gives : T → D → Type 0) where
       let all = hands_over slots id looks j s k homes at fits in
       (all.0, all.1, all.2, all.3, λ i n e. all.4 ∙ ap (λ x. Free (view.Out x looks)) (ap (job_in_letter j) e))
 
-  pub gives_job : (slots id : ℕ) (m : Me (Slot T D) (View T)) (looks : ℕ) (j : T) → m ≡ Carries (view.Idle looks) (Some (letter.Job j))
+  pub gives_job : (slots id : ℕ) (m : Me (MessageSlot T D) (View T)) (looks : ℕ) (j : T) → m ≡ Carries (view.Idle looks) (Some (letter.Job j))
       → Allows (Kept gives) slots id m 0 (λ _. 1) (λ _ after. Hands gives m after)
   gives_job slots id m looks j e = subst (λ m. Allows (Kept gives) slots id m 0 (λ _. 1) (λ _ after. Hands gives m after)) (sym e) (handed_over slots id looks j)
 
-  pub opens_table : (slots id : ℕ) (m : Me (Slot T D) (View T)) → m ≡ Free view.Ready → Allows (Kept gives) slots id m 0 (λ _. 0) (λ _ after. Opens gives after)
+  pub opens_table : (slots id : ℕ) (m : Me (MessageSlot T D) (View T)) → m ≡ Free view.Ready → Allows (Kept gives) slots id m 0 (λ _. 0) (λ _ after. Opens gives after)
   opens_table slots id m e = subst (λ m. Allows (Kept gives) slots id m 0 (λ _. 0) (λ _ after. Opens gives after)) (sym e) (opens slots id)
 
-  pub closes_table : (slots id : ℕ) (m : Me (Slot T D) (View T)) (looks : ℕ) (x : Slot T D) → m ≡ Carries (view.Idle looks) x
+  pub closes_table : (slots id : ℕ) (m : Me (MessageSlot T D) (View T)) (looks : ℕ) (x : MessageSlot T D) → m ≡ Carries (view.Idle looks) x
       → Allows (Kept gives) slots id m 0 (λ _. 4) (λ _ after. Closes gives after)
   closes_table slots id m looks x e = subst (λ m. Allows (Kept gives) slots id m 0 (λ _. 4) (λ _ after. Closes gives after)) (sym e) (closes slots id looks x)
 
-  pub fetches : (slots id : ℕ) (m : Me (Slot T D) (View T)) (j : T) (looks : ℕ) → m ≡ Free (view.Out j looks)
+  pub fetches : (slots id : ℕ) (m : Me (MessageSlot T D) (View T)) (j : T) (looks : ℕ) → m ≡ Free (view.Out j looks)
       → Allows (Kept gives) slots id m 0 (λ n. either (n == 3) 0 n) (λ n after. TakesHome gives m n after)
   fetches slots id m j looks e = subst (λ m. Allows (Kept gives) slots id m 0 (λ n. either (n == 3) 0 n) (λ n after. TakesHome gives m n after)) (sym e) (takes_home slots id j looks)
 
-  pub takes_it : (slots id : ℕ) (m : Me (Slot T D) (View T)) → m ≡ Free view.Waiting
+  pub takes_it : (slots id : ℕ) (m : Me (MessageSlot T D) (View T)) → m ≡ Free view.Waiting
       → Allows (Kept gives) slots id m 0 (λ n. either (n == 1) 2 n) (λ n after. TakesJob gives m n after)
   takes_it slots id m e = subst (λ m. Allows (Kept gives) slots id m 0 (λ n. either (n == 1) 2 n) (λ n after. TakesJob gives m n after)) (sym e) (takes_job slots id)
 
-  pub gives_back : (slots id : ℕ) (m : Me (Slot T D) (View T)) (j : T) (d : D) → gives j d → m ≡ Carries (view.Working j) (Some (letter.Done d))
+  pub gives_back : (slots id : ℕ) (m : Me (MessageSlot T D) (View T)) (j : T) (d : D) → gives j d → m ≡ Carries (view.Working j) (Some (letter.Done d))
       → Allows (Kept gives) slots id m 0 (λ _. 3) (λ _ after. HandsBack gives after)
   gives_back slots id m j d r e = subst (λ m. Allows (Kept gives) slots id m 0 (λ _. 3) (λ _ after. HandsBack gives after)) (sym e) (hands_back slots id j d r)

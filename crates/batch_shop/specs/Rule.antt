@@ -4,27 +4,27 @@ use mathlib.Core.Option as home
 use Rattle.atomic_table.specs.Table.{State, Me}
 use Rattle.batch_shop.specs.declared.rule.View.{View}
 use Rattle.batch_shop.specs.declared.rule.View.TheVariants as view
-use Rattle.batch_shop.specs.declared.rule.Letter.{Letter}
-use Rattle.batch_shop.specs.declared.rule.Letter.TheVariants as letter
+use Rattle.batch_shop.specs.declared.rule.Message.{Message}
+use Rattle.batch_shop.specs.declared.rule.Message.TheVariants as letter
 
 -- what may lie in the slot
-abbrev pub Slot : Type 0 → Type 0 → Type 0
-Slot T D = Option (Letter T D)
+abbrev pub MessageSlot : Type 0 → Type 0 → Type 0
+MessageSlot T D = Option (Message T D)
 
 module _ {T D : Type 0} (gives : T → D → Type 0) where
   -- a result of the job lies in the slot, at home
-  abbrev pub HasResult : T → home.Option (Slot T D) → Type 0
+  abbrev pub HasResult : T → home.Option (MessageSlot T D) → Type 0
   HasResult j h = (d : D) × (h ≡ home.some (Some (letter.Done d))) × gives j d
 
   -- a job is out: given, and lying in the slot; taken by the worker; or done, with its result in the slot
-  abbrev pub Running : ℕ → home.Option (Slot T D) → T → List (View T) → Type 0
+  abbrev pub Running : ℕ → home.Option (MessageSlot T D) → T → List (View T) → Type 0
   Running word h j others =
       ((word ≡ 1) × (h ≡ home.some (Some (letter.Job j))) × (others ≡ view.Waiting ∷ []))
       ⊎ ((word ≡ 2) × (h ≡ home.none) × (others ≡ view.Working j ∷ []))
       ⊎ ((word ≡ 3) × HasResult j h × (others ≡ view.Waiting ∷ []))
 
   -- by the shop's view: the word, whether the slot is at home, and what the worker knows
-  abbrev pub Row : ℕ → home.Option (Slot T D) → View T → List (View T) → Type 0
+  abbrev pub Row : ℕ → home.Option (MessageSlot T D) → View T → List (View T) → Type 0
   Row word h view.Alone others = (word ≡ 0) × (h ≡ home.some None) × (others ≡ [])
   Row word h view.Ready others = (word ≡ 0) × (h ≡ home.some None) × (others ≡ view.Waiting ∷ [])
   Row word h (view.Idle looks) others = (word ≡ 0) × (h ≡ home.none) × (others ≡ view.Waiting ∷ [])
@@ -33,9 +33,9 @@ module _ {T D : Type 0} (gives : T → D → Type 0) where
   Row word h view.Waiting others = ⊥
   Row word h (view.Working j) others = ⊥
 
-  pub record Kept (s : State (Slot T D) (View T)) : Type 0 where
+  pub record Kept (s : State (MessageSlot T D) (View T)) : Type 0 where
     pub word : ℕ
-    pub slot : home.Option (Slot T D)
+    pub slot : home.Option (MessageSlot T D)
     pub shop : View T
     pub others : List (View T)
     pub words : s.words ≡ word ∷ []
@@ -66,31 +66,31 @@ module _ {T : Type 0} where
 
 module _ {T D : Type 0} where
   -- the slot lies with the seat, and holds this
-  abbrev pub Carries : View T → Slot T D → Me (Slot T D) (View T)
+  abbrev pub Carries : View T → MessageSlot T D → Me (MessageSlot T D) (View T)
   Carries v x = (v, (0, x) ∷ [])
 
   -- the slot lies elsewhere
-  abbrev pub Free : View T → Me (Slot T D) (View T)
+  abbrev pub Free : View T → Me (MessageSlot T D) (View T)
   Free v = (v, [])
 
   -- no job is out, and the slot lies with the shop's seat
-  abbrev pub IsIdle : Me (Slot T D) (View T) → Type 0
-  IsIdle m = (looks : ℕ) × (x : Slot T D) × (m ≡ Carries (view.Idle looks) x)
+  abbrev pub IsIdle : Me (MessageSlot T D) (View T) → Type 0
+  IsIdle m = (looks : ℕ) × (x : MessageSlot T D) × (m ≡ Carries (view.Idle looks) x)
 
   -- a job is out
-  abbrev pub IsOut : Me (Slot T D) (View T) → Type 0
+  abbrev pub IsOut : Me (MessageSlot T D) (View T) → Type 0
   IsOut m = (j : T) × (looks : ℕ) × (m ≡ Free (view.Out j looks))
 
   -- the worker waits
-  abbrev pub IsWaiting : Me (Slot T D) (View T) → Type 0
+  abbrev pub IsWaiting : Me (MessageSlot T D) (View T) → Type 0
   IsWaiting m = m ≡ Free view.Waiting
 
   -- the worker works on the job
-  abbrev pub IsWorking : T → Me (Slot T D) (View T) → Type 0
-  IsWorking j m = (x : Slot T D) × (m ≡ Carries (view.Working j) x)
+  abbrev pub IsWorking : T → Me (MessageSlot T D) (View T) → Type 0
+  IsWorking j m = (x : MessageSlot T D) × (m ≡ Carries (view.Working j) x)
 
   -- the shop's seat once it gave the job away
-  abbrev pub given_away : T → Me (Slot T D) (View T) → Me (Slot T D) (View T)
+  abbrev pub given_away : T → Me (MessageSlot T D) (View T) → Me (MessageSlot T D) (View T)
   given_away j m = Free (view.Out j (looks_in m.0))
 
 -- how a seat stands between two calls
@@ -121,38 +121,38 @@ module _ {S : Type 0} where
 -- what each step tells, from the seat before it to the seat behind it
 module _ {T D : Type 0} (gives : T → D → Type 0) where
   -- the shop's first store takes the empty slot
-  abbrev pub Opens : Me (Slot T D) (View T) → Type 0
+  abbrev pub Opens : Me (MessageSlot T D) (View T) → Type 0
   Opens after = after ≡ Carries (view.Idle 0) None
 
   -- the shop gives the slot with a job
-  abbrev pub Hands : Me (Slot T D) (View T) → Me (Slot T D) (View T) → Type 0
+  abbrev pub Hands : Me (MessageSlot T D) (View T) → Me (MessageSlot T D) (View T) → Type 0
   Hands me after = (j : T) (looks : ℕ) → me ≡ Carries (view.Idle looks) (Some (letter.Job j)) → after ≡ given_away j me
 
   -- the worker takes the job where it finds 1, and else nothing changes
-  abbrev pub TakesJob : Me (Slot T D) (View T) → ℕ → Me (Slot T D) (View T) → Type 0
+  abbrev pub TakesJob : Me (MessageSlot T D) (View T) → ℕ → Me (MessageSlot T D) (View T) → Type 0
   TakesJob me found after = (found ≡ 1 → (j : T) × (after ≡ Carries (view.Working j) (Some (letter.Job j)))) × (found ≢ 1 → after ≡ me)
 
   -- the worker gives the slot back with a result
-  abbrev pub HandsBack : Me (Slot T D) (View T) → Type 0
+  abbrev pub HandsBack : Me (MessageSlot T D) (View T) → Type 0
   HandsBack after = after ≡ Free view.Waiting
 
   -- the result of the job that is out came home
-  pub record ComesBack (me : Me (Slot T D) (View T)) (d : D) (after : Me (Slot T D) (View T)) (x : Slot T D) : Type 0 where
+  pub record ComesBack (me : Me (MessageSlot T D) (View T)) (d : D) (after : Me (MessageSlot T D) (View T)) (x : MessageSlot T D) : Type 0 where
     pub job : T
     pub job_is : job_in me.0 ≡ job ∷ []
     pub result : gives job d
     pub after_is : after ≡ Carries (view.Idle (looks_in me.0)) x
 
   -- the job is still out, and one more look was in vain
-  pub record StaysOut (me after : Me (Slot T D) (View T)) : Type 0 where
+  pub record StaysOut (me after : Me (MessageSlot T D) (View T)) : Type 0 where
     pub job : T
     pub job_is : job_in me.0 ≡ job ∷ []
     pub after_is : after ≡ Free (view.Out job (looks_in me.0 + 1))
 
   -- the shop takes the result where it finds 3, and else counts a look
-  abbrev pub TakesHome : Me (Slot T D) (View T) → ℕ → Me (Slot T D) (View T) → Type 0
+  abbrev pub TakesHome : Me (MessageSlot T D) (View T) → ℕ → Me (MessageSlot T D) (View T) → Type 0
   TakesHome me found after = (found ≡ 3 → (d : D) × ComesBack me d after (Some (letter.Done d))) × (found ≢ 3 → StaysOut me after)
 
   -- the shop keeps the slot for good
-  abbrev pub Closes : Me (Slot T D) (View T) → Type 0
+  abbrev pub Closes : Me (MessageSlot T D) (View T) → Type 0
   Closes after = Unit {0}

@@ -3,7 +3,7 @@ use Rattle.std.specs.Prelude.{ℕ, ◌+◌, List, [], ◌∷◌, ◌<◌, ◌≡
 use Rattle.std.specs.List.{AllZip}
 use Rattle.std.specs.Prelude.{slice_index_or}
 use Rattle.batch_shop.specs.Desks.{is_out, job_out, looks}
-use Rattle.batch_shop.specs.declared.desk.Desk.{Desk}
+use Rattle.batch_shop.specs.declared.worker_slot.WorkerSlot.{WorkerSlot}
 use Rattle.batch_shop.specs.declared.thread_shop.ThreadShop.{ThreadShop}
 
 module _ {T D : Type 0} where
@@ -19,7 +19,7 @@ module _ {T D : Type 0} where
   abbrev pub last_is_idle : ThreadShop T D → Bool
   last_is_idle s = fold (λ _ d. length (job_out d) == 0) false s.desks.items
 
-  unfoldable pub all_looks : List (Desk T D) → ℕ
+  unfoldable pub all_looks : List (WorkerSlot T D) → ℕ
   all_looks [] = 0
   all_looks (d ∷ ds) = looks d + all_looks ds
 
@@ -32,5 +32,5 @@ module _ {T D : Type 0} where
   AreResults gives jobs dones = AllZip gives (reverse jobs) dones
 
   -- the desk at this place has no job out
-  abbrev pub IsFree : List (Desk T D) → ℕ → Type 0
-  IsFree ds at = (at < length ds) × ((d : Desk T D) → (is_out (slice_index_or ds at d) ≡ false) × (job_out (slice_index_or ds at d) ≡ []))
+  abbrev pub IsFree : List (WorkerSlot T D) → ℕ → Type 0
+  IsFree ds at = (at < length ds) × ((d : WorkerSlot T D) → (is_out (slice_index_or ds at d) ≡ false) × (job_out (slice_index_or ds at d) ≡ []))

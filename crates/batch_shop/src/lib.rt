@@ -8,13 +8,13 @@
 //!   the slot, and the word says whose turn it is.
 #![tactic(auto)]
 
-mod desk;
+mod endpoint;
 mod inline;
 mod rule;
-mod side;
 mod task;
 mod thread_shop;
 mod worker;
+mod worker_slot;
 
 pub use inline::InlineShop;
 pub use task::{Shop, Task};

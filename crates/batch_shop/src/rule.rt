@@ -5,7 +5,7 @@ use std::marker::PhantomData;
 
 /// What lies in the slot: a job, or the result of one.
 #[derive(Drop)]
-pub enum Letter<T, D> {
+pub enum Message<T, D> {
     Job(T),
     Done(D),
 }
@@ -24,14 +24,14 @@ pub enum View<T> {
     Working(T),
 }
 
-pub type Slot<T, D> = Option<Letter<T, D>>;
+pub type MessageSlot<T, D> = Option<Message<T, D>>;
 
 /// The rule: whose turn it is, by the word.
 pub struct Sharing<T> {
     marker: PhantomData<T>,
 }
 
-impl<T: Task> TableRule<Option<Letter<T, T::Done>>, View<T>, ()> for Sharing<T> {
+impl<T: Task> TableRule<Option<Message<T, T::Done>>, View<T>, ()> for Sharing<T> {
     ghost use Rattle.batch_shop.specs.Rule.{Kept};
     ghost use Rattle.batch_shop.specs.declared.rule.View.TheVariants.{Alone};
 
@@ -41,63 +41,63 @@ impl<T: Task> TableRule<Option<Letter<T, T::Done>>, View<T>, ()> for Sharing<T> 
 }
 
 /// The shop's first store of 0.
-pub(crate) struct Opening;
+pub(crate) struct OpenStep;
 
-impl<T: Task> Play<Option<Letter<T, T::Done>>, View<T>> for Opening {
+impl<T: Task> Play<Option<Message<T, T::Done>>, View<T>> for OpenStep {
     ghost use Rattle.batch_shop.specs.Rule.{Opens};
 
     ghost then = { λ _ _ _ after. Opens T.gives after };
 }
 
 /// The shop's store of 1.
-pub(crate) struct Handing;
+pub(crate) struct GiveStep;
 
-impl<T: Task> Play<Option<Letter<T, T::Done>>, View<T>> for Handing {
+impl<T: Task> Play<Option<Message<T, T::Done>>, View<T>> for GiveStep {
     ghost use Rattle.batch_shop.specs.Rule.{Hands};
 
     ghost then = { λ _ me _ after. Hands T.gives me after };
 }
 
 /// The worker's compare and exchange of 1 to 2.
-pub(crate) struct TakingJob;
+pub(crate) struct TakeJobStep;
 
-impl<T: Task> Play<Option<Letter<T, T::Done>>, View<T>> for TakingJob {
+impl<T: Task> Play<Option<Message<T, T::Done>>, View<T>> for TakeJobStep {
     ghost use Rattle.batch_shop.specs.Rule.{TakesJob};
 
     ghost then = { λ _ me found after. TakesJob T.gives me found after };
 }
 
 /// The worker's store of 3.
-pub(crate) struct HandingBack;
+pub(crate) struct ReturnStep;
 
-impl<T: Task> Play<Option<Letter<T, T::Done>>, View<T>> for HandingBack {
+impl<T: Task> Play<Option<Message<T, T::Done>>, View<T>> for ReturnStep {
     ghost use Rattle.batch_shop.specs.Rule.{HandsBack};
 
     ghost then = { λ _ _ _ after. HandsBack T.gives after };
 }
 
 /// The shop's compare and exchange of 3 to 0.
-pub(crate) struct TakingHome;
+pub(crate) struct TakeResultStep;
 
-impl<T: Task> Play<Option<Letter<T, T::Done>>, View<T>> for TakingHome {
+impl<T: Task> Play<Option<Message<T, T::Done>>, View<T>> for TakeResultStep {
     ghost use Rattle.batch_shop.specs.Rule.{TakesHome};
 
     ghost then = { λ _ me found after. TakesHome T.gives me found after };
 }
 
 /// The shop's store of 4.
-pub(crate) struct Closing;
+pub(crate) struct CloseStep;
 
-impl<T: Task> Play<Option<Letter<T, T::Done>>, View<T>> for Closing {
+impl<T: Task> Play<Option<Message<T, T::Done>>, View<T>> for CloseStep {
     ghost use Rattle.batch_shop.specs.Rule.{Closes};
 
     ghost then = { λ _ _ _ after. Closes T.gives after };
 }
 
 /// The worker's seat is cut off the shop's.
-pub(crate) struct Parting;
+pub(crate) struct PartStep;
 
-impl<T> Split<View<T>> for Parting {
+impl<T> Split<View<T>> for PartStep {
     ghost use Rattle.batch_shop.specs.declared.rule.View.TheVariants.{Ready, Waiting};
 
     ghost left = { λ _. Ready };

@@ -1,3 +1,4 @@
+// The traits of jobs and of shops that have them done.
 ghost use Rattle.std.specs.Prelude.{◌≡◌, ◌≤◌, ℕ, List, length, IsSome, IfSome, IfNone, ◌↔◌};
 ghost use Rattle.batch_shop.specs.Jobs.{IsAdded, ComesHome, HasReason};
 

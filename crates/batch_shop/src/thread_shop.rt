@@ -1,11 +1,12 @@
+// A shop that hands jobs to workers in threads.
 ghost use Rattle.std.specs.Prelude.{◌≡◌, ◌≤◌, ◌<◌, ◌+◌, ◌⊎◌, [], length, IsTrue, IsFalse, vec_len, vec_capacity, IfOk, IfSome, IfNone, OnOk, OnErr};
 ghost use Rattle.batch_shop.specs.Desks.{job_out};
 ghost use Rattle.batch_shop.specs.Adding.{AddsResult};
 ghost use Rattle.batch_shop.specs.Jobs.{ComesHome};
 
-use crate::desk::Desk;
 use crate::task::{Shop, Task};
 use crate::worker::Worker;
+use crate::worker_slot::WorkerSlot;
 use plain_data::Items;
 use std::alloc::{AllocError, Global};
 use std::sync::Wait;
@@ -23,7 +24,7 @@ pub type Dones<T> = Items<<T as Task>::Done>;
 #[derive(Drop)]
 pub struct ThreadShop<T: Task> {
     /// One for each worker that was hired.
-    desks: Vec<Desk<T>>,
+    desks: Vec<WorkerSlot<T>>,
     /// Room for the results that `close` gives.
     dones: Vec<T::Done>,
     ghost empty: { dones.items ≡ [] },
@@ -56,7 +57,7 @@ impl<T: Task> ThreadShop<T> {
         if self.desks.len() >= self.dones.capacity() {
             return Err(AllocError);
         }
-        let (desk, worker) = Desk::open(*self.dones.allocator())?;
+        let (desk, worker) = WorkerSlot::open(*self.dones.allocator())?;
         match self.desks.push(desk) {
             Ok(()) => Ok(worker),
             Err(_) => Err(AllocError),
@@ -136,7 +137,7 @@ impl<T: Task> ThreadShop<T> {
         None
     }
 
-    /// The first desk that has a job out; none where none has.
+    /// The first worker's slot that has a job out; none where none has.
     fn busy_desk(&self) -> Option<usize>
         ensures some { IfSome result (λ at. at < length self.now.desks.items) }
         ensures none { IfNone result (jobs_of self.now ≡ []) }
@@ -149,7 +150,7 @@ impl<T: Task> ThreadShop<T> {
         None
     }
 
-    /// The first desk from this one on that has no job out; none where each has.
+    /// The first worker's slot from this one on that has no job out; none where each has.
     fn free_desk(&self) -> Option<usize>
         ensures some { IfSome result (IsFree self.now.desks.items) }
         ensures none { IfNone result (length self.now.desks.items ≤ length (jobs_of self.now)) }
@@ -163,8 +164,8 @@ impl<T: Task> ThreadShop<T> {
     }
 }
 
-/// Waits for the job of a desk, if one is out, adds its result, and ends the worker.
-fn settle<T: Task, R: Wait>(rt: &R, mut desk: Desk<T>, dones: &mut Vec<T::Done>)
+/// Waits for the job of a worker, if one is out, adds its result, and ends the worker.
+fn settle<T: Task, R: Wait>(rt: &R, mut desk: WorkerSlot<T>, dones: &mut Vec<T::Done>)
     requires { vec_len dones.old < vec_capacity dones.old }
     ensures capacity { vec_capacity dones.new ≡ vec_capacity dones.old }
     ensures adds { AddsResult T.gives (job_out desk) dones.old.items dones.new.items }

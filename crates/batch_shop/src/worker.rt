@@ -1,19 +1,20 @@
+// A worker, which does jobs until its shop closes.
 ghost use Rattle.batch_shop.specs.Rule.{IsWaiting};
 ghost use Rattle.batch_shop.specs.Sides.{me_of};
 
-use crate::side::Side;
+use crate::endpoint::Endpoint;
 use crate::task::Task;
 use std::sync::Wait;
 
 /// Whoever does the jobs of one place of a shop.
 #[derive(Drop)]
 pub struct Worker<T: Task> {
-    side: Side<T>,
+    side: Endpoint<T>,
     ghost waits: { IsWaiting (me_of side) },
 }
 
 impl<T: Task> Worker<T> {
-    pub(crate) fn new(side: Side<T>) -> Worker<T>
+    pub(crate) fn new(side: Endpoint<T>) -> Worker<T>
         requires { IsWaiting (me_of side) }
     {
         Worker { side }

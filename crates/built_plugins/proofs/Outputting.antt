@@ -5,7 +5,7 @@ use Rattle.foreign_parts.specs.declared.place.Place.{Place}
 use Rattle.event_text.proofs.Going.{front, behind_end}
 use Rattle.event_flow.specs.Places.{Draws}
 use Rattle.built_plugins.specs.Numbering.{numbers, outputs_behind, outputs_from, outputs_of, output_id, output_places, targets_from, targets_of, with_output}
-use Rattle.built_plugins.specs.declared.output.Output.{Output}
+use Rattle.built_plugins.specs.declared.output.OutputTargets.{OutputTargets}
 use Rattle.built_plugins.specs.declared.output.Outputs.{Outputs}
 
 pub as_long : (id : List ℕ) (places : List Place) → length (targets_of id places) ≡ length places
@@ -16,7 +16,7 @@ one_behind : (draws : Draws) (os : Outputs) (k : ℕ) (p : Plugin) (ps : List Pl
 one_behind draws os k p ps =
     let id = output_id k p in
     let places = output_places draws k p in
-    let one : Output = record { id = id; targets = numbers (length os.targets) (length places) } in
+    let one : OutputTargets = record { id = id; targets = numbers (length os.targets) (length places) } in
     let count : length (os.targets ++ targets_of id places) ≡ length os.targets + length places = length-append os.targets (targets_of id places) ∙ ap (λ n. length os.targets + n) (as_long id places) in
     let outputs = append_assoc os.outputs (one ∷ []) (outputs_from draws (k + 1) (length (os.targets ++ targets_of id places)) ps)
     ∙ ap (λ n. os.outputs ++ one ∷ outputs_from draws (k + 1) n ps) count in

@@ -4,7 +4,7 @@ use Rattle.config_tree.specs.declared.tree.Plugin.{Plugin}
 use Rattle.foreign_parts.specs.declared.place.Place.{Place}
 use Rattle.event_flow.specs.Ids.{plugin_id}
 use Rattle.event_flow.specs.Places.{Draws, places_of}
-use Rattle.built_plugins.specs.declared.output.Output.{Output}
+use Rattle.built_plugins.specs.declared.output.OutputTargets.{OutputTargets}
 use Rattle.built_plugins.specs.declared.output.Outputs.{Outputs}
 use Rattle.built_plugins.specs.declared.output.Target.{Target}
 
@@ -24,7 +24,7 @@ abbrev pub output_places : Draws → ℕ → Plugin → List Place
 output_places draws k p = places_of draws (output_id k p) p
 
 -- outputs from the k-th on, with the numbers of their targets from t on, and these targets
-abbrev pub outputs_from : Draws → ℕ → ℕ → List Plugin → List Output
+abbrev pub outputs_from : Draws → ℕ → ℕ → List Plugin → List OutputTargets
 outputs_from draws k t [] = []
 outputs_from draws k t (p ∷ ps) =
     record { id = output_id k p; targets = numbers t (length (output_places draws k p)) } ∷ outputs_from draws (k + 1) (t + length (output_places draws k p)) ps

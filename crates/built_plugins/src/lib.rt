@@ -26,5 +26,5 @@ pub use filter::Filter;
 pub use flat::Flat;
 pub use ids::{condition_id, plugin_id};
 pub use lists::{add_named, compile_conditions, read_filters};
-pub use output::{Output, Outputs, Target};
+pub use output::{OutputTargets, Outputs, Target};
 pub use shared::Shared;

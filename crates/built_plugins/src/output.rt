@@ -31,12 +31,12 @@ impl Drop for Target {
 
 /// An output, with the numbers of its targets.
 #[derive(Drop)]
-pub struct Output {
+pub struct OutputTargets {
     pub id: Text,
     pub targets: Items<u64>,
 }
 
-impl Output {
+impl OutputTargets {
     /// An event that was sent to these targets so far is sent to those of the output, too.
     pub fn send(&self, targets: &mut Targets) -> Result<(), AllocError>
         ensures { OnOk result (targets.new ≡ targets.old ++ self.now.targets) }
@@ -57,7 +57,7 @@ fn add_numbers(to: &mut Targets, numbers: &[u64]) -> Result<(), AllocError>
 /// The outputs of a configuration, and their targets.
 #[derive(Drop)]
 pub struct Outputs {
-    pub outputs: Items<Output>,
+    pub outputs: Items<OutputTargets>,
     pub targets: Items<Shared<Target>>,
 }
 
@@ -89,7 +89,7 @@ impl Outputs {
     {
         let targets = numbers(self.outputs.allocator(), self.targets.len(), places.len())?;
         self.add_targets(&id, places)?;
-        self.outputs.push(Output { id, targets })
+        self.outputs.push(OutputTargets { id, targets })
     }
 
     // Adds the targets of an output of this id.

@@ -18,8 +18,8 @@ use Rattle.bulk_replies.specs.declared.item.Only.{Only}
 use Rattle.bulk_replies.specs.declared.item.Only.TheVariants.{Nothing, Several}
 use Rattle.bulk_replies.specs.declared.item.Saying.{Saying}
 use Rattle.bulk_replies.specs.declared.item.Texts.{Texts}
-use Rattle.bulk_replies.specs.declared.said.Said.{Said}
-use Rattle.bulk_replies.specs.declared.passing.Wanted.TheVariants as wanted
+use Rattle.bulk_replies.specs.declared.item_result.ItemResult.{ItemResult}
+use Rattle.bulk_replies.specs.declared.passing.Expect.TheVariants as wanted
 
 -- ---- another value than an object or a list
 
@@ -156,11 +156,11 @@ module _ (key : List ℕ) (d : Data) (ms : Members) where
       (says.0 ∙ sym (ap (option_and_then as_str) (there (codes "reason") no_reason)), says.1 ∙ sym (ap (option_and_then as_str) (there (codes "type") no_type)))
 
   -- the items of a body
-  abbrev said_at : Option Data → Option (List Said)
+  abbrev said_at : Option Data → Option (List ItemResult)
   said_at o = option_map (map said_of) (option_and_then items_answers (option_and_then as_array o))
 
-  pub with_items : (said : Option (List Said)) → true ≡ bytes_eq key (codes "items") → said ≡ option_map (map said_of) (option_and_then items_answers (as_array d)) → said ≡ said_in (object (put key d ms))
+  pub with_items : (said : Option (List ItemResult)) → true ≡ bytes_eq key (codes "items") → said ≡ option_map (map said_of) (option_and_then items_answers (as_array d)) → said ≡ said_in (object (put key d ms))
   with_items said is read = read ∙ sym (ap said_at (here (codes "items") is))
 
-  pub with_no_items : (said : Option (List Said)) → false ≡ bytes_eq key (codes "items") → said ≡ said_in (object ms) → said ≡ said_in (object (put key d ms))
+  pub with_no_items : (said : Option (List ItemResult)) → false ≡ bytes_eq key (codes "items") → said ≡ said_in (object ms) → said ≡ said_in (object (put key d ms))
   with_no_items said other says = says ∙ sym (ap said_at (there (codes "items") other))

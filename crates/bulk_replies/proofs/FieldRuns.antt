@@ -16,8 +16,8 @@ use Rattle.httparse.specs.Spans.{header_bytes, span_bytes}
 use Rattle.httparse.specs.declared.spans.HeaderSpan.{HeaderSpan}
 use Rattle.bulk_replies.specs.Fields.{Named, is_same, values_of}
 use Rattle.bulk_replies.specs.Found.{Finds}
-use Rattle.bulk_replies.specs.declared.fields.Found.{Found}
-use Rattle.bulk_replies.specs.declared.fields.Found.TheVariants as f
+use Rattle.bulk_replies.specs.declared.fields.FieldMatch.{FieldMatch}
+use Rattle.bulk_replies.specs.declared.fields.FieldMatch.TheVariants as f
 use Rattle.httparse.specs.declared.spans.Span.{Span}
 
 one_case : (b : Bool) (v : List ℕ) (vs ws rest : List (List ℕ)) → rest ≡ vs ++ ws → (if b then v ∷ rest else rest) ≡ (if b then v ∷ vs else vs) ++ ws
@@ -39,14 +39,14 @@ module _ (reply name : List ℕ) (hs : List HeaderSpan) (i : ℕ) (d : HeaderSpa
   more : values_of name (map (header_bytes reply) (take (i + 1) hs)) ≡ so_far ++ values_of name (header_bytes reply here ∷ [])
   more = ap (λ xs. values_of name (map (header_bytes reply) xs)) (take_more hs i d below) ∙ ap (values_of name) (map-append (header_bytes reply) (take i hs) (here ∷ [])) ∙ values-append name (map (header_bytes reply) (take i hs)) (header_bytes reply here ∷ [])
 
-  pub one_named : (found : Found) → true ≡ is_same (span_bytes reply here.name) name → Finds reply (so_far ++ span_bytes reply here.value ∷ []) found → Finds reply (values_of name (map (header_bytes reply) (take (i + 1) hs))) found
+  pub one_named : (found : FieldMatch) → true ≡ is_same (span_bytes reply here.name) name → Finds reply (so_far ++ span_bytes reply here.value ∷ []) found → Finds reply (values_of name (map (header_bytes reply) (take (i + 1) hs))) found
   one_named found named finds = subst (λ vs. Finds reply vs found) (sym (more ∙ ap (λ b. so_far ++ (if b then span_bytes reply here.value ∷ [] else [])) (sym named))) finds
 
-  pub none_named : (found : Found) → false ≡ is_same (span_bytes reply here.name) name → Finds reply so_far found → Finds reply (values_of name (map (header_bytes reply) (take (i + 1) hs))) found
+  pub none_named : (found : FieldMatch) → false ≡ is_same (span_bytes reply here.name) name → Finds reply so_far found → Finds reply (values_of name (map (header_bytes reply) (take (i + 1) hs))) found
   none_named found named finds = subst (λ vs. Finds reply vs found) (sym (more ∙ ap (λ b. so_far ++ (if b then span_bytes reply here.value ∷ [] else [])) (sym named) ∙ append-nil so_far)) finds
 
 -- a value more than one, or than several
-pub several : (reply : List ℕ) (values : List (List ℕ)) (v : List ℕ) (found : Found) → (((s : Span) × (found ≡ f.One s)) ⊎ (found ≡ f.Several)) → Finds reply values found → Finds reply (values ++ v ∷ []) f.Several
+pub several : (reply : List ℕ) (values : List (List ℕ)) (v : List ℕ) (found : FieldMatch) → (((s : Span) × (found ≡ f.One s)) ⊎ (found ≡ f.Several)) → Finds reply values found → Finds reply (values ++ v ∷ []) f.Several
 several reply values v found (inl (s, is)) finds = let one = subst (Finds reply values) is finds in (_, v, [], ap (λ vs. vs ++ v ∷ []) one.0)
 several reply values v found (inr is) finds = let more = subst (Finds reply values) is finds in (more.0, more.1, more.2 ++ v ∷ [], ap (λ vs. vs ++ v ∷ []) more.3)
 

@@ -12,15 +12,15 @@ use Rattle.bulk_replies.specs.Replies.{IsBad, IsWhole}
 use Rattle.bulk_replies.specs.declared.framing.Framing.{Framing}
 use Rattle.bulk_replies.specs.declared.framing.Framing.TheVariants as framing
 use Rattle.bulk_replies.specs.declared.head.Head.{Head}
-use Rattle.bulk_replies.specs.declared.said.Said.{Said}
+use Rattle.bulk_replies.specs.declared.item_result.ItemResult.{ItemResult}
 use Rattle.bulk_replies.proofs.ChunkRuns.{one_body}
 
 -- what the chunks join to says it for the whole
-chunked : (count : ℕ) (bytes body : List ℕ) (found : Option (List Said)) → HasChunks bytes body → SaysOf count body found → SaysBehind count framing.Chunked bytes found
+chunked : (count : ℕ) (bytes body : List ℕ) (found : Option (List ItemResult)) → HasChunks bytes body → SaysOf count body found → SaysBehind count framing.Chunked bytes found
 chunked count bytes body (Some said) has says = (says.0, record { body = body; is_body = has; says = says.1 }, says.2)
 chunked count bytes body None has says = λ answers a. says answers (subst (λ b. Answers count b answers) (one_body bytes a.body body a.is_body has) a.says)
 
-pub chunked_says : {E : Type 0} (count : ℕ) (f : Framing) (bytes body : List ℕ) (r : Result (Option (List Said)) E) → f ≡ framing.Chunked → HasChunks bytes body → IfOk r (SaysOf count body) → IfOk r (SaysBehind count f bytes)
+pub chunked_says : {E : Type 0} (count : ℕ) (f : Framing) (bytes body : List ℕ) (r : Result (Option (List ItemResult)) E) → f ≡ framing.Chunked → HasChunks bytes body → IfOk r (SaysOf count body) → IfOk r (SaysBehind count f bytes)
 chunked_says count f bytes body (Ok found) is has says = subst (λ x. SaysBehind count x bytes found) (sym is) (chunked count bytes body found has says)
 chunked_says count f bytes body (Err e) is has says = tt
 

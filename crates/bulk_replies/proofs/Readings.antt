@@ -13,8 +13,8 @@ use Rattle.serde_json.specs.Find.{as_u64}
 use Rattle.serde_json.specs.Read.{converted, number_of, of_items, of_json, of_members}
 use Rattle.bulk_replies.specs.Passed.{IsPassed}
 use Rattle.bulk_replies.specs.Taken.{Reads, Refuses, TakesOr}
-use Rattle.bulk_replies.specs.declared.tokens.Passed.{Passed}
-use Rattle.bulk_replies.specs.declared.tokens.Passed.TheVariants as passed
+use Rattle.bulk_replies.specs.declared.tokens.PassedToken.{PassedToken}
+use Rattle.bulk_replies.specs.declared.tokens.PassedToken.TheVariants as passed
 
 -- what was read, and what of it was converted
 through : {A B C : Type 0} (f : B → Option C) (g : A → B) (o : Option (A × List Token)) → converted f (parse_map g o) ≡ converted (λ a. f (g a)) o
@@ -83,10 +83,10 @@ pub yields_none : (old new : List Token) (o : Option Handed) → o ≡ None → 
 yields_none old new o is none = (subst (λ x. Yields old x new) is none).0
 
 -- a bracket that was passed
-pub passed_list : (old new : List Token) (p : Passed) → p ≡ passed.List → IsPassed p old new → old ≡ Token.begin_array ∷ new
+pub passed_list : (old new : List Token) (p : PassedToken) → p ≡ passed.List → IsPassed p old new → old ≡ Token.begin_array ∷ new
 passed_list old new p is by = subst (λ x. IsPassed x old new) is by
 
-pub passed_object : (old new : List Token) (p : Passed) → p ≡ passed.Object → IsPassed p old new → old ≡ Token.begin_object ∷ new
+pub passed_object : (old new : List Token) (p : PassedToken) → p ≡ passed.Object → IsPassed p old new → old ≡ Token.begin_object ∷ new
 passed_object old new p is by = subst (λ x. IsPassed x old new) is by
 
 -- a key that was passed
@@ -230,7 +230,7 @@ pub whole_refused : (depth : ℕ) (ts : List Token) → Refuses depth ts → who
 whole_refused depth ts none = whole_lost (value depth ts) none
 
 -- what an error says, where it is sure
-pub if_sure : {E : Type 0} (sure : Type 0) (old new : List Token) (r : Result Passed E) → MatchResult r (λ p. IsPassed p old new) (λ _. (depth : ℕ) → Refuses depth old)
+pub if_sure : {E : Type 0} (sure : Type 0) (old new : List Token) (r : Result PassedToken E) → MatchResult r (λ p. IsPassed p old new) (λ _. (depth : ℕ) → Refuses depth old)
     → MatchResult r (λ p. IsPassed p old new) (λ _. sure → (depth : ℕ) → Refuses depth old)
 if_sure sure old new (Ok p) is = is
 if_sure sure old new (Err e) is = λ _. is

@@ -10,12 +10,12 @@ use Rattle.json.specs.Json.{after_end_array}
 use Rattle.json.specs.Lex.{Lexeme, token, comma, colon, Class, quote, backslash, operator, space, other, string_token, Mode, between, in_word, in_string, lex_byte, lex, fresh, after_value, after_comma, after_key, begins_colon, if_allowed, may_begin, may_close, place_token, punctuate}
 use Rattle.json.specs.Lex as text
 use Rattle.bulk_replies.specs.Compact.{place_of, begins_at, closes_at, left_at, Follows, Delimits, Lexes, Words, Begins}
-use Rattle.bulk_replies.specs.declared.compact.Place.{Place}
-use Rattle.bulk_replies.specs.declared.compact.Place.TheVariants.{Fresh, AfterValue, AfterComma}
-use Rattle.bulk_replies.specs.declared.compact.Spot.{Spot}
+use Rattle.bulk_replies.specs.declared.compact.SeparatorState.{SeparatorState}
+use Rattle.bulk_replies.specs.declared.compact.SeparatorState.TheVariants.{Fresh, AfterValue, AfterComma}
+use Rattle.bulk_replies.specs.declared.compact.ReaderState.{ReaderState}
 use Rattle.bulk_replies.proofs.Lexemes.{allowed, front, at_delimiter}
 
-abbrev spot : ℕ → Place → Spot
+abbrev spot : ℕ → SeparatorState → ReaderState
 spot at place = record { at = at; place = place }
 
 pub past_comma : (d : List ℕ) (at : ℕ) → at < length d → get_or d at 0 ≡ 44 → Follows d at (spot (at + 1) AfterComma)
@@ -39,7 +39,7 @@ begins_key d s at end l within is = record {
       ∙ allowed (may_begin p) (key s) (λ n. punctuate n (colon ∷ lex between (drop (end + 1) d))) after_key may;
 }
 
-pub begins_string : (d s : List ℕ) (at end : ℕ) (next : Spot) → Lexes d at (string s) end → Delimits d end → Follows d end next → Begins d at (string s) next
+pub begins_string : (d s : List ℕ) (at end : ℕ) (next : ReaderState) → Lexes d at (string s) end → Delimits d end → Follows d end next → Begins d at (string s) next
 unfolding punctuate
 begins_string d s at end next l dl f = record {
   within = f.within;
@@ -49,7 +49,7 @@ begins_string d s at end next l dl f = record {
       ∙ allowed (may_begin p) (string s) (λ n. punctuate n ls) after_value may ∙ ap (λ ts. string s ∷ ts) f.same;
 }
 
-pub begins_word : (d : List ℕ) (t : Token) (at end : ℕ) (next : Spot) → Words d at t end → Delimits d end → Follows d end next → Begins d at t next
+pub begins_word : (d : List ℕ) (t : Token) (at end : ℕ) (next : ReaderState) → Words d at t end → Delimits d end → Follows d end next → Begins d at t next
 begins_word d t at end next w dl f = record {
   within = f.within;
   gives = λ p may. ap (punctuate p) (w.gives dl) ∙ w.placed p (lex between (drop end d)) may ∙ ap (λ ts. t ∷ ts) f.same;
@@ -71,29 +71,29 @@ opens_array d at within is = record {
       ap (λ t. punctuate p (lex between t)) (front d at 91 within is) ∙ allowed (may_begin p) begin_array (λ n. punctuate n (lex between (drop (at + 1) d))) fresh may;
 }
 
-may_begin_at : (p : Place) → begins_at p ≡ true → may_begin (place_of p) ≡ true
+may_begin_at : (p : SeparatorState) → begins_at p ≡ true → may_begin (place_of p) ≡ true
 may_begin_at Fresh is = refl
 may_begin_at AfterValue is = is
 may_begin_at AfterComma is = refl
 
 -- where a value may begin
-pub begun : (d : List ℕ) (s next : Spot) (t : Token) → begins_at s.place ≡ true → Begins d s.at t next → left_at d s ≡ t ∷ left_at d next
+pub begun : (d : List ℕ) (s next : ReaderState) (t : Token) → begins_at s.place ≡ true → Begins d s.at t next → left_at d s ≡ t ∷ left_at d next
 begun d s next t may b = b.gives (place_of s.place) (may_begin_at s.place may)
 
 -- ---- what closes
 
-may_close_at : (p : Place) → closes_at p ≡ true → may_close (place_of p) ≡ true
+may_close_at : (p : SeparatorState) → closes_at p ≡ true → may_close (place_of p) ≡ true
 may_close_at Fresh is = refl
 may_close_at AfterValue is = refl
 may_close_at AfterComma is = is
 
-pub closes_object : (d : List ℕ) (s next : Spot) → s.at < length d → get_or d s.at 0 ≡ 125 → closes_at s.place ≡ true → Follows d (s.at + 1) next → left_at d s ≡ end_object ∷ left_at d next
+pub closes_object : (d : List ℕ) (s next : ReaderState) → s.at < length d → get_or d s.at 0 ≡ 125 → closes_at s.place ≡ true → Follows d (s.at + 1) next → left_at d s ≡ end_object ∷ left_at d next
 unfolding lex punctuate
 closes_object d s next within is may f =
     ap (λ t. punctuate (place_of s.place) (lex between t)) (front d s.at 125 within is)
     ∙ allowed (may_close (place_of s.place)) end_object (λ n. punctuate n (lex between (drop (s.at + 1) d))) after_value (may_close_at s.place may) ∙ ap (λ ts. end_object ∷ ts) f.same
 
-pub closes_array : (d : List ℕ) (s next : Spot) → s.at < length d → get_or d s.at 0 ≡ 93 → closes_at s.place ≡ true → Follows d (s.at + 1) next → left_at d s ≡ end_array ∷ left_at d next
+pub closes_array : (d : List ℕ) (s next : ReaderState) → s.at < length d → get_or d s.at 0 ≡ 93 → closes_at s.place ≡ true → Follows d (s.at + 1) next → left_at d s ≡ end_array ∷ left_at d next
 unfolding lex punctuate
 closes_array d s next within is may f =
     ap (λ t. punctuate (place_of s.place) (lex between t)) (front d s.at 93 within is)
@@ -101,13 +101,13 @@ closes_array d s next within is may f =
 
 -- ---- the end of the text
 
-none_left : (p : Place) → closes_at p ≡ true → punctuate (place_of p) [] ≡ []
+none_left : (p : SeparatorState) → closes_at p ≡ true → punctuate (place_of p) [] ≡ []
 unfolding punctuate
 none_left Fresh is = refl
 none_left AfterValue is = refl
 none_left AfterComma is = absurd (false≢true is)
 
-pub ended : (d : List ℕ) (s : Spot) → s.at ≡ length d → closes_at s.place ≡ true → left_at d s ≡ []
+pub ended : (d : List ℕ) (s : ReaderState) → s.at ≡ length d → closes_at s.place ≡ true → left_at d s ≡ []
 unfolding lex
 ended d s is may = ap (λ t. punctuate (place_of s.place) (lex between t)) (drop_all s.at d (omega arith)) ∙ none_left s.place may
 
@@ -164,7 +164,7 @@ token_no_end p (boolean b) ls h = allowed_no_end (may_begin p) (boolean b) (λ n
 token_no_end p null ls h = allowed_no_end (may_begin p) null (λ n. punctuate n ls) after_value refl
 token_no_end p bad ls h = refl
 
-mark_no_end : (p : Place) (b : Bool) (ls : List Lexeme) → begins_at p ≡ true → after_end_array (punctuate (place_of p) (cond b comma colon ∷ ls)) ≡ None
+mark_no_end : (p : SeparatorState) (b : Bool) (ls : List Lexeme) → begins_at p ≡ true → after_end_array (punctuate (place_of p) (cond b comma colon ∷ ls)) ≡ None
 unfolding punctuate
 mark_no_end Fresh true ls is = refl
 mark_no_end Fresh false ls is = refl
@@ -173,7 +173,7 @@ mark_no_end AfterComma true ls is = refl
 mark_no_end AfterComma false ls is = refl
 
 -- a lexeme of one byte, by the tests for the brackets
-operator_no_end : (p : Place) (a b c d e : Bool) (ls : List Lexeme) → d ≡ false → begins_at p ≡ true
+operator_no_end : (p : SeparatorState) (a b c d e : Bool) (ls : List Lexeme) → d ≡ false → begins_at p ≡ true
     → after_end_array (punctuate (place_of p) (cond a (token begin_object) (cond b (token end_object) (cond c (token begin_array) (cond d (token end_array) (cond e comma colon)))) ∷ ls)) ≡ None
 operator_no_end p true b c d e ls h is = token_no_end (place_of p) begin_object ls tt
 operator_no_end p false true c d e ls h is = token_no_end (place_of p) end_object ls tt
@@ -181,7 +181,7 @@ operator_no_end p false false true d e ls h is = token_no_end (place_of p) begin
 operator_no_end p false false false true e ls h is = absurd (true≢false h)
 operator_no_end p false false false false e ls h is = mark_no_end p e ls is
 
-first_no_end : (q b o s : Bool) (p : Place) (x : ℕ) (xs : List ℕ) (k : Mode → List Lexeme) → s ≡ false → (x == 93) ≡ false → begins_at p ≡ true
+first_no_end : (q b o s : Bool) (p : SeparatorState) (x : ℕ) (xs : List ℕ) (k : Mode → List Lexeme) → s ≡ false → (x == 93) ≡ false → begins_at p ≡ true
     → after_end_array (punctuate (place_of p) (lex_byte between (cond q quote (cond b backslash (cond o operator (cond s space other)))) x xs k)) ≡ None
 first_no_end true b o s p x xs k h other_byte is = token_no_end (place_of p) _ (k in_string) (string_no_end (content plain xs))
 first_no_end false true o s p x xs k h other_byte is = token_no_end (place_of p) bad (k in_word) tt
@@ -189,7 +189,7 @@ first_no_end false false true s p x xs k h other_byte is = operator_no_end p (x 
 first_no_end false false false true p x xs k h other_byte is = absurd (true≢false h)
 first_no_end false false false false p x xs k h other_byte is = token_no_end (place_of p) _ (k in_word) (word_no_end (x ∷ xs))
 
-pub no_array_ends : (d : List ℕ) (s : Spot) → s.at < length d → 32 < get_or d s.at 0 → (get_or d s.at 0 ≡ 93 → ⊥) → begins_at s.place ≡ true → after_end_array (left_at d s) ≡ None
+pub no_array_ends : (d : List ℕ) (s : ReaderState) → s.at < length d → 32 < get_or d s.at 0 → (get_or d s.at 0 ≡ 93 → ⊥) → begins_at s.place ≡ true → after_end_array (left_at d s) ≡ None
 unfolding lex
 no_array_ends d s within high other_byte is =
     let x = get_or d s.at 0 in

@@ -3,8 +3,8 @@ use Rattle.std.specs.Prelude.{ℕ, zero, suc, ◌==◌, ◌&&◌, ◌||◌, nat_
 use Rattle.serde_json.specs.Data.{Data, Items, no_items, item, Members, no_members, member}
 use Rattle.serde_json.specs.Find.{get, as_array, as_number, as_object, as_str, as_u64}
 use Rattle.serde_json.specs.Read.{read}
-use Rattle.bulk_replies.specs.declared.said.Said.{Said}
-use Rattle.bulk_replies.specs.declared.said.Said.TheVariants.{Took, Rejected, Again}
+use Rattle.bulk_replies.specs.declared.item_result.ItemResult.{ItemResult}
+use Rattle.bulk_replies.specs.declared.item_result.ItemResult.TheVariants.{Took, Rejected, Retry}
 
 -- the status of an item, and why the event was refused
 pub record Answer : Type 0 where
@@ -74,7 +74,7 @@ abbrev pub cut : List ℕ → List ℕ
 cut s = take (last_end s 65536) s
 
 -- 2xx: it was taken; 400 and 404: it is refused for good; any other: it may be sent again
-abbrev pub said_of : Answer → Said
+abbrev pub said_of : Answer → ItemResult
 said_of a =
     if nat_le 200 a.status && nat_le a.status 299 then Took
-    else (if (a.status == 400) || (a.status == 404) then Rejected a.status (cut a.reason) else Again)
+    else (if (a.status == 400) || (a.status == 404) then Rejected a.status (cut a.reason) else Retry)

@@ -4,10 +4,10 @@ use Rattle.json.specs.Token as token
 use Rattle.json.specs.Token.{Token}
 use Rattle.serde_json.specs.Data.{Data}
 use Rattle.bulk_replies.specs.Taken.{Reads}
-use Rattle.bulk_replies.specs.declared.tokens.Passed.{Passed}
-use Rattle.bulk_replies.specs.declared.tokens.Passed.TheVariants.{Value, List as Brackets, Object}
+use Rattle.bulk_replies.specs.declared.tokens.PassedToken.{PassedToken}
+use Rattle.bulk_replies.specs.declared.tokens.PassedToken.TheVariants.{Value, List as Brackets, Object}
 
-abbrev pub IsPassed : Passed → List Token → List Token → Type 0
+abbrev pub IsPassed : PassedToken → List Token → List Token → Type 0
 IsPassed Value old new = (d : Data) × ((depth : ℕ) → Reads depth old d new)
 IsPassed Brackets old new = old ≡ token.begin_array ∷ new
 IsPassed Object old new = old ≡ token.begin_object ∷ new

@@ -10,18 +10,18 @@ use Rattle.bulk_replies.specs.declared.item.Only.{Only}
 use Rattle.bulk_replies.specs.declared.item.Only.TheVariants.{Nothing, One, Several}
 use Rattle.bulk_replies.specs.declared.item.Saying.{Saying}
 use Rattle.bulk_replies.specs.declared.item.Texts.{Texts}
-use Rattle.bulk_replies.specs.declared.said.Said.{Said}
+use Rattle.bulk_replies.specs.declared.item_result.ItemResult.{ItemResult}
 
 -- what the items of a body say
-abbrev pub said_in : Data → Option (List Said)
+abbrev pub said_in : Data → Option (List ItemResult)
 said_in d = option_map (map said_of) (option_and_then items_answers (option_and_then as_array (get (codes "items") d)))
 
 -- what all the tokens of a body say of so many events
-abbrev pub tokens_said : ℕ → List Token → Option (List Said)
+abbrev pub tokens_said : ℕ → List Token → Option (List ItemResult)
 tokens_said count ts = option_map (map said_of) (option_and_then (answers_in count) (option_and_then of_json (option_and_then (λ p. if_last p.0 p.1) (value max_depth ts))))
 
 -- they say this, or nothing, if an error is sure; another fault says nothing
-abbrev pub Answered : {E : Type 0} → E → Type 0 → ℕ → List Token → Result (Option (List Said)) E → Type 0
+abbrev pub Answered : {E : Type 0} → E → Type 0 → ℕ → List Token → Result (Option (List ItemResult)) E → Type 0
 Answered fault sure count ts r = MatchResult r (λ said. said ≡ tokens_said count ts) (λ e. (e ≡ fault → ⊥) → sure → None ≡ tokens_said count ts)
 
 abbrev pub answer_of : Option Saying → Option Answer

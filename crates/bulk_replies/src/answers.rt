@@ -1,3 +1,4 @@
+// Reading the items of a bulk reply's body, one result for each event.
 ghost use Rattle.std.specs.Prelude.{◌≡◌, ◌++◌, ◌∷◌, [], IfOk, option_map, map, option_and_then};
 ghost use Rattle.std.specs.Bool.{then_some};
 ghost use Rattle.serde_json.specs.Data.{Members, object, put};
@@ -10,8 +11,8 @@ ghost use Rattle.bulk_replies.specs.Taken.{TakesOr};
 
 use crate::compact::Compact;
 use crate::item::{Saying, take_item};
-use crate::passing::{Wanted, pass, take};
-use crate::said::Said;
+use crate::item_result::ItemResult;
+use crate::passing::{Expect, pass, take};
 use crate::tokens::Tokens;
 use json::{Invalid, Reader, Scratch};
 use plain_data::{Items, Text};
@@ -55,7 +56,7 @@ pub(crate) fn read_answers(
     alloc: Global,
     body: &[u8],
     count: usize,
-) -> Result<Option<Items<Said>>, AllocError>
+) -> Result<Option<Items<ItemResult>>, AllocError>
     ensures { IfOk result (SaysOf count body.now) }
 {
     match str::from_utf8(body) {
@@ -64,7 +65,11 @@ pub(crate) fn read_answers(
     }
 }
 
-fn answers_in(alloc: Global, text: &str, count: usize) -> Result<Option<Items<Said>>, AllocError>
+fn answers_in(
+    alloc: Global,
+    text: &str,
+    count: usize,
+) -> Result<Option<Items<ItemResult>>, AllocError>
     ensures { IfOk result (λ said. said ≡ option_map (map said_of) (answers_of count text.now)) }
 {
     match take_answers(alloc, &mut Compact::new(text), count) {
@@ -81,7 +86,7 @@ fn scanned_answers(
     alloc: Global,
     text: &str,
     count: usize,
-) -> Result<Option<Items<Said>>, AllocError>
+) -> Result<Option<Items<ItemResult>>, AllocError>
     ensures { IfOk result (λ said. said ≡ option_map (map said_of) (answers_of count text.now)) }
 {
     let mut scratch = Scratch::new(alloc);
@@ -98,7 +103,7 @@ fn take_answers<'a, T: Tokens<'a>>(
     alloc: Global,
     reader: &mut T,
     count: usize,
-) -> Result<Option<Items<Said>>, Fault>
+) -> Result<Option<Items<ItemResult>>, Fault>
     ensures { Answered Fault.Memory T.sure count (T.left reader.old) result }
 {
     let said = take_body(alloc, reader, count)?;
@@ -116,11 +121,11 @@ fn take_body<'a, T: Tokens<'a>>(
     alloc: Global,
     reader: &mut T,
     count: usize,
-) -> Result<Option<Items<Said>>, Fault>
+) -> Result<Option<Items<ItemResult>>, Fault>
     ensures { TakesOr Fault.Memory T.sure 127 (T.left reader.old) (T.left reader.new)
         (λ d said. said ≡ said_in d) result }
 {
-    let None = take(reader, Wanted::Object, 127)? else {
+    let None = take(reader, Expect::Object, 127)? else {
         return Ok(None);
     };
     let mut said = None;
@@ -135,9 +140,9 @@ fn with_member<'a, T: Tokens<'a>>(
     alloc: Global,
     reader: &mut T,
     count: usize,
-    said: Option<Items<Said>>,
+    said: Option<Items<ItemResult>>,
     key: &str,
-) -> Result<Option<Items<Said>>, Fault>
+) -> Result<Option<Items<ItemResult>>, Fault>
     ensures { TakesOr Fault.Memory T.sure 126 (T.left reader.old) (T.left reader.new)
         (λ d more. (ms : Members)
         → said ≡ said_in (object ms) → more ≡ said_in (object (put key.now d ms))) result }
@@ -154,12 +159,12 @@ fn take_items<'a, T: Tokens<'a>>(
     alloc: Global,
     reader: &mut T,
     count: usize,
-) -> Result<Option<Items<Said>>, Fault>
+) -> Result<Option<Items<ItemResult>>, Fault>
     ensures { TakesOr Fault.Memory T.sure 126 (T.left reader.old) (T.left reader.new)
         (λ d said. said
         ≡ option_map (map said_of) (option_and_then items_answers (as_array d))) result }
 {
-    let None = take(reader, Wanted::List, 126)? else {
+    let None = take(reader, Expect::List, 126)? else {
         return Ok(None);
     };
     let mut said = Items::with_capacity(alloc, count)?;
@@ -176,7 +181,7 @@ fn take_items<'a, T: Tokens<'a>>(
 fn add_said(
     alloc: Global,
     all: bool,
-    said: &mut Items<Said>,
+    said: &mut Items<ItemResult>,
     saying: Option<Saying<'_>>,
 ) -> Result<bool, AllocError>
     ensures { IfOk result (λ more. then_some more said.new ≡ option_and_then
@@ -196,9 +201,9 @@ fn add_said(
         return Ok(false);
     };
     let one = match status {
-        200..=299 => Said::Took,
-        400 | 404 => Said::Rejected(status, Text::of(alloc, cut(reason))?),
-        _ => Said::Again,
+        200..=299 => ItemResult::Took,
+        400 | 404 => ItemResult::Rejected(status, Text::of(alloc, cut(reason))?),
+        _ => ItemResult::Retry,
     };
     said.push(one)?;
     Ok(true)

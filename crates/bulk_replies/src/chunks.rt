@@ -1,3 +1,4 @@
+// Bodies in chunks: whether one is whole, and its bytes.
 ghost use Rattle.std.specs.Prelude.{◌≤◌, ◌↔◌, ℕ, List, length, drop, IfOk, IsTrue, MatchOption, option_map};
 ghost use Rattle.httparse.specs.Grammar.{HasNoChunkLine};
 ghost use Rattle.bulk_replies.specs.Bodies.{HasChunks};

@@ -12,20 +12,20 @@ ghost use Rattle.bulk_replies.specs.Compact.{Begins, Follows, GoesOn, Lexes, IsL
 
 use crate::passing::passed;
 use crate::plain::plain_end;
-use crate::tokens::{Passed, Passes, Tokens};
+use crate::tokens::{PassedToken, Passes, Tokens};
 use json::{Invalid, Token};
 use std::marker::Model;
 
 /// What stands in front: nothing yet or what opens or a colon, a whole value, or a comma.
 #[derive(Clone, Copy)]
-pub(crate) enum Place {
+pub(crate) enum SeparatorState {
     Fresh,
     AfterValue,
     AfterComma,
 }
 
 #[derive(Clone, Copy)]
-pub(crate) enum Literal {
+pub(crate) enum LiteralName {
     True,
     False,
     Null,
@@ -34,16 +34,16 @@ pub(crate) enum Literal {
 
 /// Where a reader stands.
 #[derive(Clone, Copy)]
-pub(crate) struct Spot {
+pub(crate) struct ReaderState {
     at: usize,
-    place: Place,
+    place: SeparatorState,
 }
 
 /// Reads tokens. A clause sees those that are still to come.
 #[derive(Drop)]
 pub(crate) struct Compact<'a> {
     text: &'a str,
-    spot: Spot,
+    spot: ReaderState,
 }
 
 impl<'a> Model for Compact<'a> {
@@ -62,7 +62,7 @@ impl<'a> Model for Compact<'a> {
 
 // Where the text goes on behind a value.
 #[inline(always)]
-fn behind(text: &str, at: usize) -> Result<Spot, Invalid>
+fn behind(text: &str, at: usize) -> Result<ReaderState, Invalid>
     requires { at ≤ length text.now }
     ensures { IfOk result (GoesOn text.now at) }
 {
@@ -71,13 +71,13 @@ fn behind(text: &str, at: usize) -> Result<Spot, Invalid>
         return Err(Invalid);
     }
     match bytes[at] {
-        b',' => Ok(Spot {
+        b',' => Ok(ReaderState {
             at: at + 1,
-            place: Place::AfterComma,
+            place: SeparatorState::AfterComma,
         }),
-        b'}' | b']' => Ok(Spot {
+        b'}' | b']' => Ok(ReaderState {
             at,
-            place: Place::AfterValue,
+            place: SeparatorState::AfterValue,
         }),
         _ => Err(Invalid),
     }
@@ -85,20 +85,20 @@ fn behind(text: &str, at: usize) -> Result<Spot, Invalid>
 
 // Where the text goes on behind a bracket that closes.
 #[inline(always)]
-fn behind_close(text: &str, at: usize) -> Spot
+fn behind_close(text: &str, at: usize) -> ReaderState
     requires { at ≤ length text.now }
     ensures { Follows text.now at result }
 {
     let bytes = text.as_bytes();
     if at < bytes.len() && bytes[at] == b',' {
-        Spot {
+        ReaderState {
             at: at + 1,
-            place: Place::AfterComma,
+            place: SeparatorState::AfterComma,
         }
     } else {
-        Spot {
+        ReaderState {
             at,
-            place: Place::AfterValue,
+            place: SeparatorState::AfterValue,
         }
     }
 }
@@ -135,7 +135,7 @@ fn string<'a>(text: &'a str, at: usize) -> Result<(&'a str, usize), Invalid>
 
 // The number whose first digit stands there.
 #[inline(always)]
-fn number<'a>(text: &'a str, at: usize) -> Result<(Token<'a>, Spot), Invalid>
+fn number<'a>(text: &'a str, at: usize) -> Result<(Token<'a>, ReaderState), Invalid>
     requires within { at < length text.now }
     requires digit { (48 ≤ slice_index text.now at) × (slice_index text.now at ≤ 57) }
     ensures { IfOk result (λ r. Begins text.now at (token_of r.0) r.1) }
@@ -152,40 +152,40 @@ fn number<'a>(text: &'a str, at: usize) -> Result<(Token<'a>, Spot), Invalid>
 
 // Which literal begins there.
 #[inline(never)]
-fn which_literal(bytes: &[u8], at: usize) -> Literal
+fn which_literal(bytes: &[u8], at: usize) -> LiteralName
     requires { at < length bytes.now }
     ensures { IsLiteral bytes.now at result }
 {
     let rest = &bytes[at..];
     if rest.starts_with(b"true") {
-        return Literal::True;
+        return LiteralName::True;
     }
     if rest.starts_with(b"false") {
-        return Literal::False;
+        return LiteralName::False;
     }
     if rest.starts_with(b"null") {
-        return Literal::Null;
+        return LiteralName::Null;
     }
-    Literal::Other
+    LiteralName::Other
 }
 
 // The literal that begins there.
 #[inline(always)]
-fn literal_token<'a>(text: &'a str, at: usize) -> Result<(Token<'a>, Spot), Invalid>
+fn literal_token<'a>(text: &'a str, at: usize) -> Result<(Token<'a>, ReaderState), Invalid>
     requires { at < length text.now }
     ensures { IfOk result (λ r. Begins text.now at (token_of r.0) r.1) }
 {
     match which_literal(text.as_bytes(), at) {
-        Literal::True => Ok((Token::Bool(true), behind(text, at + 4)?)),
-        Literal::False => Ok((Token::Bool(false), behind(text, at + 5)?)),
-        Literal::Null => Ok((Token::Null, behind(text, at + 4)?)),
-        Literal::Other => Err(Invalid),
+        LiteralName::True => Ok((Token::Bool(true), behind(text, at + 4)?)),
+        LiteralName::False => Ok((Token::Bool(false), behind(text, at + 5)?)),
+        LiteralName::Null => Ok((Token::Null, behind(text, at + 4)?)),
+        LiteralName::Other => Err(Invalid),
     }
 }
 
 // The string or the key whose quote stands there.
 #[inline(always)]
-fn key_or_string<'a>(text: &'a str, at: usize) -> Result<(Token<'a>, Spot), Invalid>
+fn key_or_string<'a>(text: &'a str, at: usize) -> Result<(Token<'a>, ReaderState), Invalid>
     requires within { at < length text.now }
     requires quote { slice_index text.now at ≡ 34 }
     ensures { IfOk result (λ r. Begins text.now at (token_of r.0) r.1) }
@@ -193,9 +193,9 @@ fn key_or_string<'a>(text: &'a str, at: usize) -> Result<(Token<'a>, Spot), Inva
     let (content, end) = string(text, at)?;
     let bytes = text.as_bytes();
     if end < bytes.len() && bytes[end] == b':' {
-        let spot = Spot {
+        let spot = ReaderState {
             at: end + 1,
-            place: Place::Fresh,
+            place: SeparatorState::Fresh,
         };
         return Ok((Token::Key(content), spot));
     }
@@ -204,7 +204,7 @@ fn key_or_string<'a>(text: &'a str, at: usize) -> Result<(Token<'a>, Spot), Inva
 
 // The token that begins there, where a value or a key may begin.
 #[inline(always)]
-fn begin<'a>(text: &'a str, at: usize) -> Result<(Token<'a>, Spot), Invalid>
+fn begin<'a>(text: &'a str, at: usize) -> Result<(Token<'a>, ReaderState), Invalid>
     requires { at < length text.now }
     ensures { IfOk result (λ r. Begins text.now at (token_of r.0) r.1) }
 {
@@ -212,16 +212,16 @@ fn begin<'a>(text: &'a str, at: usize) -> Result<(Token<'a>, Spot), Invalid>
         b'"' => key_or_string(text, at),
         b'0'..=b'9' => number(text, at),
         b'{' => {
-            let spot = Spot {
+            let spot = ReaderState {
                 at: at + 1,
-                place: Place::Fresh,
+                place: SeparatorState::Fresh,
             };
             Ok((Token::BeginObject, spot))
         }
         b'[' => {
-            let spot = Spot {
+            let spot = ReaderState {
                 at: at + 1,
-                place: Place::Fresh,
+                place: SeparatorState::Fresh,
             };
             Ok((Token::BeginArray, spot))
         }
@@ -231,7 +231,7 @@ fn begin<'a>(text: &'a str, at: usize) -> Result<(Token<'a>, Spot), Invalid>
 
 // The next token, and where it ends.
 #[inline(always)]
-fn read<'a>(text: &'a str, spot: Spot) -> Result<(Option<Token<'a>>, Spot), Invalid>
+fn read<'a>(text: &'a str, spot: ReaderState) -> Result<(Option<Token<'a>>, ReaderState), Invalid>
     requires { spot.at ≤ length text.now }
     ensures within { IfOk result (λ r. r.1.at ≤ length text.now) }
     ensures gives { IfOk result (λ r. Yields (left_at text.now spot) r.0 (left_at text.now r.1)) }
@@ -265,7 +265,7 @@ fn read<'a>(text: &'a str, spot: Spot) -> Result<(Option<Token<'a>>, Spot), Inva
 
 // The next key, or None at the brace that closes an object, and where it ends.
 #[inline(always)]
-fn read_key<'a>(text: &'a str, spot: Spot) -> Result<(Option<&'a str>, Spot), Invalid>
+fn read_key<'a>(text: &'a str, spot: ReaderState) -> Result<(Option<&'a str>, ReaderState), Invalid>
     requires { spot.at ≤ length text.now }
     ensures within { IfOk result (λ r. r.1.at ≤ length text.now) }
     ensures gives { IfOk result (λ r. read_key (left_at text.now spot)
@@ -281,9 +281,9 @@ fn read_key<'a>(text: &'a str, spot: Spot) -> Result<(Option<&'a str>, Spot), In
         if end == bytes.len() || bytes[end] != b':' {
             return Err(Invalid);
         }
-        let next = Spot {
+        let next = ReaderState {
             at: end + 1,
-            place: Place::Fresh,
+            place: SeparatorState::Fresh,
         };
         return Ok((Some(key), next));
     }
@@ -295,7 +295,7 @@ fn read_key<'a>(text: &'a str, spot: Spot) -> Result<(Option<&'a str>, Spot), In
 
 // Where the text goes on behind the bracket that closes an array, if it is next. None where another token is.
 #[inline(always)]
-fn end_array(text: &str, spot: Spot) -> Result<Option<Spot>, Invalid>
+fn end_array(text: &str, spot: ReaderState) -> Result<Option<ReaderState>, Invalid>
     requires { spot.at ≤ length text.now }
     ensures { IfOk result (λ r. MatchOption r (after_end_array (left_at text.now spot) ≡ None)
         (λ next. (next.at ≤ length text.now)
@@ -315,13 +315,13 @@ fn end_array(text: &str, spot: Spot) -> Result<Option<Spot>, Invalid>
     Err(Invalid)
 }
 
-impl Place {
+impl SeparatorState {
     // A value or a key may begin there.
     #[inline(always)]
     fn begins(self) -> bool
         ensures { result ≡ begins_at self }
     {
-        matches!(self, Place::Fresh | Place::AfterComma)
+        matches!(self, SeparatorState::Fresh | SeparatorState::AfterComma)
     }
 
     // A bracket may close there.
@@ -329,7 +329,7 @@ impl Place {
     fn closes(self) -> bool
         ensures { result ≡ closes_at self }
     {
-        matches!(self, Place::Fresh | Place::AfterValue)
+        matches!(self, SeparatorState::Fresh | SeparatorState::AfterValue)
     }
 }
 
@@ -341,9 +341,9 @@ impl<'a> Compact<'a> {
     {
         Compact {
             text,
-            spot: Spot {
+            spot: ReaderState {
                 at: 0,
-                place: Place::Fresh,
+                place: SeparatorState::Fresh,
             },
         }
     }
@@ -355,7 +355,7 @@ impl<'a> Passes for Compact<'a> {
     ghost sure = { ⊥ };
 
     #[inline(always)]
-    fn pass_token(&mut self) -> Result<Passed, Invalid> {
+    fn pass_token(&mut self) -> Result<PassedToken, Invalid> {
         let (token, spot) = read(self.text, self.spot)?;
         self.spot = spot;
         passed(token)

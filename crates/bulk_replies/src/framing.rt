@@ -1,10 +1,11 @@
+// Where the body of a message ends, by its header fields.
 ghost use Rattle.std.specs.Prelude.{◌≡◌, ◌^◌, ◌-◌, length, map, codes, All};
 ghost use Rattle.settings_lines.specs.Numbers as numbers;
 ghost use Rattle.httparse.specs.Spans.{header_bytes, IsHeaderWithin};
 ghost use Rattle.bulk_replies.specs.Bodies as spec;
 ghost use Rattle.bulk_replies.specs.Fields.{is_same, values_of};
 
-use crate::fields::{Found, find};
+use crate::fields::{FieldMatch, find};
 use httparse::spans::HeaderSpan;
 use settings_lines::number_in;
 use std::str;
@@ -28,9 +29,9 @@ pub(crate) fn framing_in(reply: &[u8], headers: &[HeaderSpan]) -> Framing
     ensures { result ≡ spec.framing_of (map (header_bytes reply.now) headers.now) }
 {
     match find(reply, headers, "transfer-encoding") {
-        Found::Missing => framing_by_length(reply, headers),
-        Found::One(value) if is_chunked(value.of(reply)) => Framing::Chunked,
-        Found::One(_) | Found::Several => Framing::Unreadable,
+        FieldMatch::Missing => framing_by_length(reply, headers),
+        FieldMatch::One(value) if is_chunked(value.of(reply)) => Framing::Chunked,
+        FieldMatch::One(_) | FieldMatch::Several => Framing::Unreadable,
     }
 }
 
@@ -40,12 +41,12 @@ fn framing_by_length(reply: &[u8], headers: &[HeaderSpan]) -> Framing
         (map (header_bytes reply.now) headers.now)) }
 {
     match find(reply, headers, "content-length") {
-        Found::Missing => Framing::ToClose,
-        Found::One(value) => match length_in(value.of(reply)) {
+        FieldMatch::Missing => Framing::ToClose,
+        FieldMatch::One(value) => match length_in(value.of(reply)) {
             Some(length) => Framing::Sized(length),
             None => Framing::Unreadable,
         },
-        Found::Several => Framing::Unreadable,
+        FieldMatch::Several => Framing::Unreadable,
     }
 }
 

@@ -1,3 +1,4 @@
+// The head of a reply: its status, its fields and its length.
 ghost use Rattle.std.specs.Prelude.{MatchOption};
 ghost use Rattle.bulk_replies.specs.Heads.{HasNoHead, IsHead};
 

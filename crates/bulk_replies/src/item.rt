@@ -5,7 +5,7 @@ ghost use Rattle.bulk_replies.specs.Answers.{error_text, item_answer};
 ghost use Rattle.bulk_replies.specs.Sayings.{answer_of, AreTexts, IsOnly, IsSaying};
 ghost use Rattle.bulk_replies.specs.Taken.{Takes};
 
-use crate::passing::{Wanted, pass, take, take_number, take_text};
+use crate::passing::{Expect, pass, take, take_number, take_text};
 use crate::tokens::Tokens;
 use json::Invalid;
 
@@ -37,7 +37,7 @@ pub(crate) fn take_item<'a, T: Tokens<'a>>(reader: &mut T) -> Result<Option<Sayi
     ensures { Takes T.sure 125 (T.left reader.old) (T.left reader.new)
         (λ d saying. answer_of saying ≡ item_answer d) result }
 {
-    let None = take(reader, Wanted::Object, 125)? else {
+    let None = take(reader, Expect::Object, 125)? else {
         return Ok(None);
     };
     let mut only = Only::Nothing;
@@ -87,7 +87,7 @@ fn take_saying<'a, T: Tokens<'a>>(reader: &mut T) -> Result<Saying<'a>, Invalid>
         status: None,
         reason: "",
     };
-    let None = take(reader, Wanted::Object, 124)? else {
+    let None = take(reader, Expect::Object, 124)? else {
         return Ok(saying);
     };
     while let Some(key) = reader.next_key()? {
@@ -136,7 +136,7 @@ fn take_error<'a, T: Tokens<'a>>(reader: &mut T) -> Result<&'a str, Invalid>
     ensures { Takes T.sure 123 (T.left reader.old) (T.left reader.new)
         (λ d text. text.now ≡ error_text d) result }
 {
-    let None = take(reader, Wanted::Object, 123)? else {
+    let None = take(reader, Expect::Object, 123)? else {
         return Ok("");
     };
     let mut texts = Texts {

@@ -9,12 +9,12 @@ mod fields;
 mod framing;
 mod head;
 mod item;
+mod item_result;
 mod passing;
 mod plain;
 mod reply;
-mod said;
 mod tokens;
 
+pub use item_result::ItemResult;
 pub use plain_data::{Items, Text};
 pub use reply::{Reply, is_whole, read_reply};
-pub use said::Said;

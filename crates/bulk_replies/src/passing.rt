@@ -9,13 +9,13 @@ ghost use Rattle.bulk_replies.specs.Taken.{Reads, Refuses, Takes};
 ghost use Rattle.bulk_replies.specs.Passed.{IsPassed};
 ghost use Rattle.bulk_replies.specs.Plain.{IsPlain, Opened};
 
-use crate::tokens::{Passed, Passes, Tokens};
+use crate::tokens::{PassedToken, Passes, Tokens};
 use fast_float::Numeral;
 use json::{Invalid, Token};
 
 /// What is to be opened, where it stands next.
 #[derive(Clone, Copy)]
-pub(crate) enum Wanted {
+pub(crate) enum Expect {
     Object,
     List,
     Nothing,
@@ -23,7 +23,7 @@ pub(crate) enum Wanted {
 
 /// A value that was passed whole.
 #[derive(Clone, Copy)]
-pub(crate) enum Plain<'a> {
+pub(crate) enum Scalar<'a> {
     Text(&'a str),
     /// A number: the whole number of 64 bits that it is, if it is one.
     Number(Option<u64>),
@@ -34,9 +34,9 @@ pub(crate) enum Plain<'a> {
 #[inline(always)]
 pub(crate) fn take<'a, T: Tokens<'a>>(
     reader: &mut T,
-    wanted: Wanted,
+    wanted: Expect,
     depth: usize,
-) -> Result<Option<Plain<'a>>, Invalid>
+) -> Result<Option<Scalar<'a>>, Invalid>
     ensures { MatchResult result (λ plain. MatchOption plain
         (Opened wanted (T.left reader.old) (T.left reader.new))
         (λ p. (d : Data) × Reads depth (T.left reader.old) d (T.left reader.new)
@@ -45,33 +45,33 @@ pub(crate) fn take<'a, T: Tokens<'a>>(
 {
     let token = reader.next()?.ok_or(Invalid)?;
     match token {
-        Token::String(text) => Ok(Some(Plain::Text(text))),
+        Token::String(text) => Ok(Some(Scalar::Text(text))),
         Token::Number(text) => match whole_number(text) {
-            Some(number) => Ok(Some(Plain::Number(number))),
+            Some(number) => Ok(Some(Scalar::Number(number))),
             None => Err(Invalid),
         },
-        Token::Bool(_) => Ok(Some(Plain::Other)),
-        Token::Null => Ok(Some(Plain::Other)),
+        Token::Bool(_) => Ok(Some(Scalar::Other)),
+        Token::Null => Ok(Some(Scalar::Other)),
         Token::EndObject | Token::EndArray | Token::Key(_) | Token::Bad => Err(Invalid),
         Token::BeginArray => {
-            if let Wanted::List = wanted {
+            if let Expect::List = wanted {
                 return Ok(None);
             }
             if depth == 0 {
                 return Err(Invalid);
             }
             pass_items(reader, depth - 1)?;
-            Ok(Some(Plain::Other))
+            Ok(Some(Scalar::Other))
         }
         Token::BeginObject => {
-            if let Wanted::Object = wanted {
+            if let Expect::Object = wanted {
                 return Ok(None);
             }
             if depth == 0 {
                 return Err(Invalid);
             }
             pass_members(reader, depth - 1)?;
-            Ok(Some(Plain::Other))
+            Ok(Some(Scalar::Other))
         }
     }
 }
@@ -84,9 +84,9 @@ pub(crate) fn take_text<'a, T: Tokens<'a>>(
     ensures { Takes T.sure depth (T.left reader.old) (T.left reader.new)
         (λ d text. option_map (λ s. s.now) text ≡ as_str d) result }
 {
-    match take(reader, Wanted::Nothing, depth)?.ok_or(Invalid)? {
-        Plain::Text(text) => Ok(Some(text)),
-        Plain::Number(_) | Plain::Other => Ok(None),
+    match take(reader, Expect::Nothing, depth)?.ok_or(Invalid)? {
+        Scalar::Text(text) => Ok(Some(text)),
+        Scalar::Number(_) | Scalar::Other => Ok(None),
     }
 }
 
@@ -98,9 +98,9 @@ pub(crate) fn take_number<'a, T: Tokens<'a>>(
     ensures { Takes T.sure depth (T.left reader.old) (T.left reader.new)
         (λ d number. number ≡ option_and_then as_u64 (as_number d)) result }
 {
-    match take(reader, Wanted::Nothing, depth)?.ok_or(Invalid)? {
-        Plain::Number(number) => Ok(number),
-        Plain::Text(_) | Plain::Other => Ok(None),
+    match take(reader, Expect::Nothing, depth)?.ok_or(Invalid)? {
+        Scalar::Number(number) => Ok(number),
+        Scalar::Text(_) | Scalar::Other => Ok(None),
     }
 }
 
@@ -111,14 +111,14 @@ pub(crate) fn pass<T: Passes>(reader: &mut T, depth: usize) -> Result<(), Invali
     ensures { Takes T.sure depth (T.left reader.old) (T.left reader.new) (λ _ _. ⊤) result }
 {
     match reader.pass_token()? {
-        Passed::Value => Ok(()),
-        Passed::List => {
+        PassedToken::Value => Ok(()),
+        PassedToken::List => {
             if depth == 0 {
                 return Err(Invalid);
             }
             pass_items(reader, depth - 1)
         }
-        Passed::Object => {
+        PassedToken::Object => {
             if depth == 0 {
                 return Err(Invalid);
             }
@@ -155,7 +155,7 @@ fn pass_members<T: Passes>(reader: &mut T, depth: usize) -> Result<(), Invalid>
 
 /// What a token is that begins a value.
 #[inline(always)]
-pub(crate) fn passed(token: Option<Token<'_>>) -> Result<Passed, Invalid>
+pub(crate) fn passed(token: Option<Token<'_>>) -> Result<PassedToken, Invalid>
     ensures { (old new : List SpecToken) → Yields old token.entry new
         → MatchResult result (λ passed. IsPassed passed old new)
         (λ _. (depth : ℕ) → Refuses depth old) }
@@ -163,14 +163,14 @@ pub(crate) fn passed(token: Option<Token<'_>>) -> Result<Passed, Invalid>
     let token = token.ok_or(Invalid)?;
     match token {
         Token::Number(text) => match whole_number(text) {
-            Some(_) => Ok(Passed::Value),
+            Some(_) => Ok(PassedToken::Value),
             None => Err(Invalid),
         },
-        Token::String(_) => Ok(Passed::Value),
-        Token::Bool(_) => Ok(Passed::Value),
-        Token::Null => Ok(Passed::Value),
-        Token::BeginArray => Ok(Passed::List),
-        Token::BeginObject => Ok(Passed::Object),
+        Token::String(_) => Ok(PassedToken::Value),
+        Token::Bool(_) => Ok(PassedToken::Value),
+        Token::Null => Ok(PassedToken::Value),
+        Token::BeginArray => Ok(PassedToken::List),
+        Token::BeginObject => Ok(PassedToken::Object),
         Token::EndObject | Token::EndArray | Token::Key(_) | Token::Bad => Err(Invalid),
     }
 }

@@ -1,3 +1,4 @@
+// Reading a whole reply to a bulk request.
 ghost use Rattle.std.specs.Prelude.{◌≡◌, ◌≤◌, ◌↔◌, length, IfOk, IsTrue};
 ghost use Rattle.std.specs.Option.{option_copied};
 ghost use Rattle.bulk_replies.specs.Bodies.{EndsWithin};
@@ -8,7 +9,7 @@ use crate::answers::read_answers;
 use crate::chunks::{are_whole, join_chunks};
 use crate::framing::Framing;
 use crate::head::{Head, read_head};
-use crate::said::Said;
+use crate::item_result::ItemResult;
 use plain_data::Items;
 use std::alloc::{AllocError, Global};
 
@@ -16,7 +17,7 @@ use std::alloc::{AllocError, Global};
 #[derive(Drop)]
 pub enum Reply {
     /// It is good, and says this of each event, in their order.
-    Good(Items<Said>),
+    Good(Items<ItemResult>),
     /// Its head has this status, which isn't 200.
     Other(u16),
     /// It is none of these.
@@ -49,7 +50,7 @@ fn read_body(
     framing: Framing,
     bytes: &[u8],
     count: usize,
-) -> Result<Option<Items<Said>>, AllocError>
+) -> Result<Option<Items<ItemResult>>, AllocError>
     ensures { IfOk result (SaysBehind count framing bytes.now) }
 {
     match framing {

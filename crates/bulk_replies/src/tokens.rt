@@ -4,7 +4,7 @@ use json::{Invalid, Reader, Token};
 
 /// What a token is that was passed.
 #[derive(Clone, Copy)]
-pub(crate) enum Passed {
+pub(crate) enum PassedToken {
     /// A whole value.
     Value,
     /// The bracket that opens a list.
@@ -29,7 +29,7 @@ pub(crate) trait Passes {
     ghost sure: { Type 0 };
 
     /// Passes what a value begins with.
-    fn pass_token(&mut self) -> Result<Passed, Invalid>
+    fn pass_token(&mut self) -> Result<PassedToken, Invalid>
         ensures { MatchResult result (λ passed. IsPassed passed (left self.old) (left self.new))
             (λ _. sure → (depth : ℕ) → Refuses depth (left self.old)) };
 
@@ -76,7 +76,7 @@ impl<'a> Passes for Reader<'a> {
     ghost sure = { ⊤ };
 
     #[inline(never)]
-    fn pass_token(&mut self) -> Result<Passed, Invalid> {
+    fn pass_token(&mut self) -> Result<PassedToken, Invalid> {
         passed(self.next())
     }
 

@@ -1,7 +1,8 @@
+// The calls of the output that a row names, with their answers.
 use config_tree::Settings;
 use event_tree::{Event, Events};
 use foreign_parts::{DeliverFault, Delivery, Fate, FromFault};
-use out_bulk::{Asked, Bulk, MemoryPeer, Peer};
+use out_bulk::{Bulk, MemoryPeer, Peer, PeerRequest};
 use plain_data::Text;
 use std::alloc::AllocError;
 use std::str;
@@ -110,7 +111,7 @@ fn add_state(to: &mut String, bulk: &Bulk<MemoryPeer>, call: &str) -> Result<(),
 }
 
 // Adds how many requests were sent, and the host and the body of the last one.
-fn add_request(to: &mut String, count: usize, last: &Asked) -> Result<(), AllocError> {
+fn add_request(to: &mut String, count: usize, last: &PeerRequest) -> Result<(), AllocError> {
     let text = str::from_utf8(&last.request).unwrap_or("");
     let (_, body) = text.split_once("\r\n\r\n").unwrap_or((text, ""));
     write!(

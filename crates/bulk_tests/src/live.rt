@@ -1,3 +1,4 @@
+// Deliveries to a host over TCP.
 use crate::calls::{add_configured, add_delivered};
 use crate::parts::{events_of, settings_of};
 use out_bulk::{Bulk, TcpPeer};

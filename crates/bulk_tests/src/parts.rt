@@ -1,3 +1,4 @@
+// The settings and events of a row, written as JSON.
 use config_tree::{SettingValue, Settings};
 use event_text::{path_in, read_json, try_put};
 use event_tree::{Event, Instant, Path, Value};

@@ -1,3 +1,4 @@
+// Replies of peers, written with escapes.
 use std::alloc::{AllocError, Global};
 
 /// The bytes of replies as they are written.

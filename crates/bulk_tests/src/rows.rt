@@ -1,3 +1,4 @@
+// The calls of a row over a peer in memory.
 use crate::calls::{add_calls, add_configured};
 use crate::parts::{events_of, part, settings_of};
 use crate::replies::replies_of;

@@ -1,3 +1,4 @@
+// What becomes of an event for each status of its item.
 use crate::calls::{add_configured, add_delivered};
 use crate::parts::{event_of, settings_of};
 use crate::replies::reply_of;

@@ -1,3 +1,4 @@
+// The lines of bytes that are all there, read byte by byte: the plain way beside `LineReader`.
 ghost use Rattle.std.specs.Prelude.{◌≡◌, ◌<◌, ◌++◌, ◌∷◌, ℕ, Bool, List, map, IfOk, OnOk};
 ghost use Rattle.std.specs.String.{string_bytes};
 ghost use Rattle.byte_lines.specs.Split.{split_from};

@@ -1,3 +1,4 @@
+// A buffer of bytes that come in pieces, which gives their lines.
 ghost use Rattle.std.specs.Prelude.{◌≡◌, ◌≤◌, ◌<◌, ◌+◌, ◌++◌, [], true, false, IfOk, IfSome, IfNone, OnOk, OnErr, Option, Some, None, length, take, drop, vec_len};
 ghost use Rattle.std.specs.String.{string_bytes};
 ghost use Rattle.byte_lines.specs.Split.{HasNoLineFeed};

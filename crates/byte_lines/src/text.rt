@@ -1,3 +1,4 @@
+// Text from bytes that may be no UTF-8, with U+FFFD for each byte that begins no character.
 ghost use Rattle.std.specs.Prelude.{◌≡◌, ◌≤◌, ◌<◌, ◌++◌, IfOk, length, take, drop};
 ghost use Rattle.std.specs.String.{string_bytes};
 ghost use Rattle.byte_lines.specs.Text.{BeginsCharacter, text_of};

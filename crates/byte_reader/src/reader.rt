@@ -1,3 +1,4 @@
+// Numbers and runs of bytes, read from the front of a slice.
 ghost use Rattle.byte_reader.specs.Fronts.{front_at, number_at, run_at};
 ghost use Rattle.byte_reader.specs.Gives.{Gives};
 ghost use Rattle.std.specs.Prelude.{◌≢◌, Err};

@@ -1,3 +1,4 @@
+// Why reading from the front stopped.
 use std::alloc::{AllocError, AllocFailed};
 
 /// Why reading stopped.

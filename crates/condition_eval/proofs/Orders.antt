@@ -22,7 +22,7 @@ use Rattle.condition_eval.specs.Equality.{are_equal}
 use Rattle.condition_eval.specs.Laws.{AgreesWithEquality, AreLeast}
 use Rattle.condition_eval.specs.Truths.{compared, truth_of, ordered}
 use Rattle.condition_eval.specs.Values.{order_of, order_in, number_order, raised}
-use Rattle.condition_eval.specs.declared.compare.Order.TheVariants as o
+use Rattle.condition_eval.specs.declared.compare.ValueOrder.TheVariants as o
 use Rattle.condition_eval.specs.declared.truth.Truth.TheVariants as t
 use Rattle.condition_eval.proofs.EqualityLemmas.{equal_where, where_equal}
 use Rattle.condition_eval.proofs.Outs.{out-Num, out-Text}

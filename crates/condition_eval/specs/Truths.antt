@@ -27,8 +27,8 @@ use Rattle.condition_eval.specs.declared.truth.Kind.TheVariants as k
 use Rattle.condition_eval.specs.declared.truth.Reason.TheVariants as r
 use Rattle.condition_eval.specs.declared.truth.Truth.{Truth}
 use Rattle.condition_eval.specs.declared.truth.Truth.TheVariants as t
-use Rattle.condition_eval.specs.declared.compare.Order.{Order}
-use Rattle.condition_eval.specs.declared.compare.Order.TheVariants as o
+use Rattle.condition_eval.specs.declared.compare.ValueOrder.{ValueOrder}
+use Rattle.condition_eval.specs.declared.compare.ValueOrder.TheVariants as o
 
 abbrev pub truth_of : Bool → Truth
 truth_of holds = if holds then t.Yes else t.No
@@ -98,7 +98,7 @@ accepts is.AtMost = is_le
 accepts is.AtLeast = is_ge
 
 -- what a comparison by order says, where values have one
-abbrev pub ordered : (Ordering → Bool) → Order → Truth
+abbrev pub ordered : (Ordering → Bool) → ValueOrder → Truth
 ordered accepts o.Null = t.No
 ordered accepts (o.Is order) = truth_of (accepts order)
 ordered accepts (o.Wrong left right) = t.Wrong (r.Order left right)

@@ -16,8 +16,8 @@ use Rattle.config_tree.specs.declared.tree.Operand.TheVariants as operand
 use Rattle.condition_eval.specs.Equality.{are_equal}
 use Rattle.condition_eval.specs.declared.truth.Kind.{Kind}
 use Rattle.condition_eval.specs.declared.truth.Kind.TheVariants as k
-use Rattle.condition_eval.specs.declared.compare.Order.{Order}
-use Rattle.condition_eval.specs.declared.compare.Order.TheVariants as o
+use Rattle.condition_eval.specs.declared.compare.ValueOrder.{ValueOrder}
+use Rattle.condition_eval.specs.declared.compare.ValueOrder.TheVariants as o
 
 abbrev pub literal_value : Literal → Value
 literal_value (l.Text s) = v.Text s
@@ -55,7 +55,7 @@ unfoldable pub number_order : Num → Num → Ordering
 number_order m n = let places = max m.scale n.scale in int_cmp (raised places m) (raised places n)
 
 -- what has no order with a value of this kind, unless it is null
-abbrev pub unordered : Kind → Value-F Value → Order
+abbrev pub unordered : Kind → Value-F Value → ValueOrder
 unordered kind Value-F.Null = o.Null
 unordered kind (Value-F.Bool b) = o.Wrong kind k.Boolean
 unordered kind (Value-F.Num n) = o.Wrong kind k.Number
@@ -64,19 +64,19 @@ unordered kind (Value-F.Time t) = o.Wrong kind k.Time
 unordered kind (Value-F.List ys) = o.Wrong kind k.List
 unordered kind (Value-F.Object ms) = o.Wrong kind k.Object
 
-abbrev pub after_number : Num → Value-F Value → Order
+abbrev pub after_number : Num → Value-F Value → ValueOrder
 after_number m (Value-F.Num n) = o.Is (number_order m n)
 after_number m y = unordered k.Number y
 
-abbrev pub after_text : List ℕ → Value-F Value → Order
+abbrev pub after_text : List ℕ → Value-F Value → ValueOrder
 after_text s (Value-F.Text t) = o.Is (text_cmp s t)
 after_text s y = unordered k.Text y
 
-abbrev pub after_time : ℤ → Value-F Value → Order
+abbrev pub after_time : ℤ → Value-F Value → ValueOrder
 after_time s (Value-F.Time t) = o.Is (int_cmp s t)
 after_time s y = unordered k.Time y
 
-abbrev pub order_in : Value-F Value → Value-F Value → Order
+abbrev pub order_in : Value-F Value → Value-F Value → ValueOrder
 order_in Value-F.Null y = o.Null
 order_in (Value-F.Bool b) y = unordered k.Boolean y
 order_in (Value-F.Num n) y = after_number n y
@@ -86,7 +86,7 @@ order_in (Value-F.List xs) y = unordered k.List y
 order_in (Value-F.Object ms) y = unordered k.Object y
 
 -- how two values stand to one another: numbers, texts by their bytes and times have an order with their kind, null has none, and any other pair is wrong
-abbrev pub order_of : Value → Value → Order
+abbrev pub order_of : Value → Value → ValueOrder
 order_of x y = order_in (out-Value x) (out-Value y)
 
 -- whether an item equals the value

@@ -1,3 +1,4 @@
+// Order and equality of two values.
 ghost use Rattle.std.specs.Prelude.{◌≡◌, ◌↔◌, IsTrue};
 ghost use Rattle.event_tree.specs.declared.value.Value.{out-Value};
 ghost use Rattle.condition_eval.specs.Values as spec;
@@ -12,7 +13,7 @@ use std::cmp::Ordering;
 
 /// How two values stand to one another.
 #[derive(Clone, Copy)]
-pub(crate) enum Order {
+pub(crate) enum ValueOrder {
     /// One of them is null.
     Null,
     Is(Ordering),
@@ -22,11 +23,11 @@ pub(crate) enum Order {
 
 /// The order of two numbers, of two texts by their bytes, or of two times.
 #[tactic(auto, using(crate::proofs::Outs::outs))]
-pub(crate) fn order_of(left: Side<'_>, right: Side<'_>) -> Order
+pub(crate) fn order_of(left: Side<'_>, right: Side<'_>) -> ValueOrder
     ensures { result ≡ spec.order_of (sides.value_of left.entry) (sides.value_of right.entry) }
 {
     match left {
-        Side::Null => Order::Null,
+        Side::Null => ValueOrder::Null,
         Side::Bool(_) => unordered(Kind::Boolean, right),
         Side::Number(number) => after_number(number, right),
         Side::Text(text) => after_text(text, right),
@@ -37,43 +38,43 @@ pub(crate) fn order_of(left: Side<'_>, right: Side<'_>) -> Order
 }
 
 #[tactic(auto, using(crate::proofs::Outs::outs))]
-fn after_number(left: &Number, right: Side<'_>) -> Order
+fn after_number(left: &Number, right: Side<'_>) -> ValueOrder
     ensures { result ≡ spec.after_number left.now (out-Value (sides.value_of right.entry)) }
 {
     match right {
-        Side::Number(right) => Order::Is(number_order(*left, *right)),
+        Side::Number(right) => ValueOrder::Is(number_order(*left, *right)),
         other => unordered(Kind::Number, other),
     }
 }
 
 #[tactic(auto, using(crate::proofs::Outs::outs))]
-fn after_text(left: &Text, right: Side<'_>) -> Order
+fn after_text(left: &Text, right: Side<'_>) -> ValueOrder
     ensures { result ≡ spec.after_text left.now (out-Value (sides.value_of right.entry)) }
 {
     match right {
-        Side::Text(right) => Order::Is(left.cmp(right)),
+        Side::Text(right) => ValueOrder::Is(left.cmp(right)),
         other => unordered(Kind::Text, other),
     }
 }
 
 #[tactic(auto, using(crate::proofs::Outs::outs))]
-fn after_time(left: &Instant, right: Side<'_>) -> Order
+fn after_time(left: &Instant, right: Side<'_>) -> ValueOrder
     ensures { result ≡ spec.after_time left.now (out-Value (sides.value_of right.entry)) }
 {
     match right {
-        Side::Time(right) => Order::Is(left.nanos().cmp(&right.nanos())),
+        Side::Time(right) => ValueOrder::Is(left.nanos().cmp(&right.nanos())),
         other => unordered(Kind::Time, other),
     }
 }
 
 /// What has no order with a value of this kind, unless it is null.
 #[tactic(auto, using(crate::proofs::Outs::outs))]
-fn unordered(left: Kind, right: Side<'_>) -> Order
+fn unordered(left: Kind, right: Side<'_>) -> ValueOrder
     ensures { result ≡ spec.unordered left (out-Value (sides.value_of right.entry)) }
 {
     match right {
-        Side::Null => Order::Null,
-        other => Order::Wrong(left, kind(other)),
+        Side::Null => ValueOrder::Null,
+        other => ValueOrder::Wrong(left, kind(other)),
     }
 }
 

@@ -1,3 +1,4 @@
+// The order of two decimal numbers.
 ghost use Rattle.std.specs.Prelude.{◌≡◌, ◌≤◌, max};
 ghost use Rattle.condition_eval.specs.Values as spec;
 

@@ -4,7 +4,7 @@ ghost use Rattle.std.specs.Prelude.{◌≡◌};
 ghost use Rattle.condition_eval.specs.Truths as spec;
 ghost use Rattle.condition_eval.specs.Values.{between, operand_value};
 
-use crate::compare::{Order, are_equal, is_in, order_of};
+use crate::compare::{ValueOrder, are_equal, is_in, order_of};
 use crate::side::{Side, side_of};
 use crate::truth::{Reason, Truth};
 use config_tree::{Comparison, Operand};
@@ -47,9 +47,9 @@ fn ordered(comparison: Comparison, left: &Operand, right: &Operand, event: &Even
     ensures { result ≡ between (spec.by_order comparison) event.now left.now right.now }
 {
     match order_of(side_of(left, event), side_of(right, event)) {
-        Order::Null => Truth::No,
-        Order::Is(order) => Truth::of(accepts(comparison, order)),
-        Order::Wrong(left, right) => Truth::Wrong(Reason::Order(left, right)),
+        ValueOrder::Null => Truth::No,
+        ValueOrder::Is(order) => Truth::of(accepts(comparison, order)),
+        ValueOrder::Wrong(left, right) => Truth::Wrong(Reason::Order(left, right)),
     }
 }
 

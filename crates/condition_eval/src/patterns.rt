@@ -1,3 +1,4 @@
+// Compiling the patterns of a condition, in the order of the text.
 ghost use Rattle.std.specs.Prelude.{◌≡◌, [], ◌∷◌, IfOk, IfErr, OnOk};
 ghost use Rattle.pattern_box.specs.Patterns.{IsRefusal};
 ghost use Rattle.condition_eval.specs.Made.{AreMadeOf, Added, FirstIsRefused, texts, texts_behind, pattern_text};

@@ -1,3 +1,4 @@
+// The operands of a comparison, borrowed from the event or the condition.
 ghost use Rattle.std.specs.Prelude.{◌≡◌, ◌<◌, length, Some};
 ghost use Rattle.condition_eval.specs.Values as spec;
 ghost use Rattle.condition_eval.specs.Sides as sides;

@@ -1,3 +1,4 @@
+// The truth of a condition, and the reasons of dead letters with their texts.
 ghost use Rattle.std.specs.Prelude.{◌≡◌, Some};
 ghost use Rattle.condition_eval.specs.Truths as spec;
 ghost use Rattle.condition_eval.specs.Texts.{kind_text, reason_text};

@@ -1,3 +1,4 @@
+// Evaluating a condition over an event.
 ghost use Rattle.std.specs.Prelude.{◌≡◌, ◌+◌, ◌<◌, ◌^◌, ◌++◌, ◌∷◌, [], length, drop, IfOk, IsOk};
 ghost use Rattle.pattern_box.specs.Patterns.{IsReadFrom, IsSamePattern};
 ghost use Rattle.condition_eval.specs.Truths as spec;
@@ -35,17 +36,17 @@ pub fn eval(
 
 /// What a part of a condition says, and the place of the first pattern behind its own.
 #[derive(Drop)]
-pub(crate) struct Passed {
+pub(crate) struct Evaluated {
     truth: Truth,
     next: usize,
 }
 
-impl Passed {
-    fn negated(self) -> Passed
+impl Evaluated {
+    fn negated(self) -> Evaluated
         ensures truth { result.truth ≡ spec.negated self.truth }
         ensures next { result.next ≡ self.next }
     {
-        Passed {
+        Evaluated {
             truth: self.truth.negated(),
             next: self.next,
         }
@@ -60,7 +61,7 @@ fn walk(
     patterns: &mut [Pattern],
     at: usize,
     event: &Event,
-) -> Result<Passed, AllocError>
+) -> Result<Evaluated, AllocError>
     requires { BeginWith (texts condition.now) (drop at patterns.old) }
     ensures truth { IfOk result (λ passed. passed.truth ≡ spec.truth condition.now event.now) }
     ensures next { IfOk result (λ passed. passed.next ≡ at + length (texts condition.now)) }
@@ -88,11 +89,11 @@ fn walk(
 // What follows the first condition of a row of `and` and `nand`.
 #[cycle(walk)]
 fn conjoined(
-    first: Passed,
+    first: Evaluated,
     rest: &[(Conjunction, Condition)],
     patterns: &mut [Pattern],
     event: &Event,
-) -> Result<Passed, AllocError>
+) -> Result<Evaluated, AllocError>
     requires { BeginWith (texts_behind rest.now) (drop first.next patterns.old) }
     ensures truth { IfOk result (λ passed. passed.truth
         ≡ spec.conjoined_row first.truth event.now rest.now) }
@@ -111,11 +112,11 @@ fn conjoined(
 // What follows the first condition of a row of `or` and `xor`.
 #[cycle(walk)]
 fn disjoined(
-    first: Passed,
+    first: Evaluated,
     rest: &[(Disjunction, Condition)],
     patterns: &mut [Pattern],
     event: &Event,
-) -> Result<Passed, AllocError>
+) -> Result<Evaluated, AllocError>
     requires { BeginWith (texts_behind rest.now) (drop first.next patterns.old) }
     ensures truth { IfOk result (λ passed. passed.truth
         ≡ spec.disjoined_row first.truth event.now rest.now) }
@@ -135,11 +136,11 @@ fn disjoined(
 #[cycle(walk)]
 fn conjoin(
     joint: Conjunction,
-    left: Passed,
+    left: Evaluated,
     right: &Condition,
     patterns: &mut [Pattern],
     event: &Event,
-) -> Result<Passed, AllocError>
+) -> Result<Evaluated, AllocError>
     requires { BeginWith (texts right.now) (drop left.next patterns.old) }
     ensures truth { IfOk result (λ passed. passed.truth
         ≡ spec.by_conjunction joint left.truth (spec.truth right.now event.now)) }
@@ -161,11 +162,11 @@ fn conjoin(
 #[cycle(walk)]
 fn disjoin(
     joint: Disjunction,
-    left: Passed,
+    left: Evaluated,
     right: &Condition,
     patterns: &mut [Pattern],
     event: &Event,
-) -> Result<Passed, AllocError>
+) -> Result<Evaluated, AllocError>
     requires { BeginWith (texts right.now) (drop left.next patterns.old) }
     ensures truth { IfOk result (λ passed. passed.truth
         ≡ spec.by_disjunction joint left.truth (spec.truth right.now event.now)) }
@@ -188,7 +189,7 @@ fn search(
     patterns: &mut [Pattern],
     at: usize,
     event: &Event,
-) -> Result<Passed, AllocError>
+) -> Result<Evaluated, AllocError>
     requires { BeginWith (pattern_text written.now ∷ []) (drop at patterns.old) }
     ensures truth { IfOk result (λ passed. passed.truth
         ≡ spec.matched by (spec.found_in (pattern_text written.now)) (operand_value event.now operand.now)) }
@@ -280,9 +281,9 @@ fn past_disjoined(rest: &[(Disjunction, Condition)], at: usize) -> usize
     next
 }
 
-fn here(truth: Truth, next: usize) -> Passed
+fn here(truth: Truth, next: usize) -> Evaluated
     ensures truth { result.truth ≡ truth }
     ensures next { result.next ≡ next }
 {
-    Passed { truth, next }
+    Evaluated { truth, next }
 }

@@ -146,9 +146,9 @@ fn word_token(text: Text) -> Token
 }
 
 /// A token in front, with its length; none where the bytes begin none.
-type Found = Option<(Token, usize)>;
+type FoundToken = Option<(Token, usize)>;
 
-fn word_at(alloc: Global, inside: bool, text: &str, at: usize) -> Result<Found, AllocError>
+fn word_at(alloc: Global, inside: bool, text: &str, at: usize) -> Result<FoundToken, AllocError>
     requires within { at < length text.now }
     requires letter { parts.is_letter (slice_index text.now at) ≡ true }
     ensures gives { IfOk result (λ found. found ≡ spec.word_at inside (drop at text.now)) }
@@ -159,7 +159,7 @@ fn word_at(alloc: Global, inside: bool, text: &str, at: usize) -> Result<Found, 
     Ok(Some((word_token(word), len)))
 }
 
-fn number_at(alloc: Global, text: &str, at: usize) -> Result<Found, AllocError>
+fn number_at(alloc: Global, text: &str, at: usize) -> Result<FoundToken, AllocError>
     requires within { at < length text.now }
     requires number { parts.begins_number (drop at text.now) ≡ true }
     ensures gives { IfOk result (λ found. found ≡ spec.number_at (drop at text.now)) }
@@ -173,7 +173,7 @@ fn number_at(alloc: Global, text: &str, at: usize) -> Result<Found, AllocError>
     }
 }
 
-fn quoted_at(alloc: Global, text: &str, from: usize, quote: u8) -> Result<Found, AllocError>
+fn quoted_at(alloc: Global, text: &str, from: usize, quote: u8) -> Result<FoundToken, AllocError>
     requires some { 0 < from }
     requires within { from ≤ length text.now }
     requires quote { slice_index text.now (from - 1) ≡ quote }
@@ -215,7 +215,7 @@ fn unescaped(alloc: Global, text: &str) -> Result<Text, AllocError>
     Ok(Text::from_string(made))
 }
 
-fn regexp_at(alloc: Global, text: &str, from: usize) -> Result<Found, AllocError>
+fn regexp_at(alloc: Global, text: &str, from: usize) -> Result<FoundToken, AllocError>
     requires some { 0 < from }
     requires within { from ≤ length text.now }
     requires slash { slice_index text.now (from - 1) ≡ 47 }
@@ -233,7 +233,7 @@ fn regexp_at(alloc: Global, text: &str, from: usize) -> Result<Found, AllocError
 }
 
 /// The parts of a selector, and the place behind it.
-fn selector_at(alloc: Global, text: &str, from: usize) -> Result<Found, AllocError>
+fn selector_at(alloc: Global, text: &str, from: usize) -> Result<FoundToken, AllocError>
     requires { from ≤ length text.now }
     ensures gives { IfOk result (λ found. found ≡ spec.selector_at (drop from text.now)) }
     ensures within { IfOk result (spec.Fits from (length text.now)) }
@@ -265,7 +265,7 @@ fn begins_literals(bytes: &[u8], at: usize) -> bool
     byte == b'"' || byte == b'\'' || is_digit(byte) || byte == b'-' || byte == b']'
 }
 
-fn bracket_at(alloc: Global, operand: bool, text: &str, at: usize) -> Result<Found, AllocError>
+fn bracket_at(alloc: Global, operand: bool, text: &str, at: usize) -> Result<FoundToken, AllocError>
     requires { at < length text.now }
     ensures gives { IfOk result (λ found. found ≡ spec.bracket_at operand (drop at text.now)) }
     ensures within { IfOk result (spec.Fits at (length text.now)) }
@@ -326,7 +326,7 @@ fn single(byte: u8) -> Option<Token>
     }
 }
 
-fn short(byte: u8) -> Found
+fn short(byte: u8) -> FoundToken
     ensures gives { result ≡ spec.longer None (spec.single byte) }
     ensures within { IfSome result (λ p. p.1 ≤ 1) }
 {
@@ -337,7 +337,7 @@ fn short(byte: u8) -> Found
 }
 
 /// A sign in front of the bytes: the longer one, where one stands.
-fn sign_at(bytes: &[u8]) -> Found
+fn sign_at(bytes: &[u8]) -> FoundToken
     ensures gives { result ≡ spec.sign_at bytes.now }
     ensures within { IfSome result (λ p. p.1 ≤ length bytes.now) }
 {
@@ -353,7 +353,12 @@ fn sign_at(bytes: &[u8]) -> Found
 
 /// The token in front of the text from `at` on, with its length; none where the bytes begin none.
 #[tactic(auto, unfolding(crate::specs::Lexemes::token_at))]
-fn token_at(alloc: Global, context: Context, text: &str, at: usize) -> Result<Found, AllocError>
+fn token_at(
+    alloc: Global,
+    context: Context,
+    text: &str,
+    at: usize,
+) -> Result<FoundToken, AllocError>
     requires { at < length text.now }
     ensures gives { IfOk result (λ found. found ≡ spec.token_at context (drop at text.now)) }
     ensures within { IfOk result (spec.Fits at (length text.now)) }

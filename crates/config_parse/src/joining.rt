@@ -14,7 +14,7 @@ use std::alloc::{AllocError, Global};
 pub type Entries = Items<(Text, SettingValue)>;
 
 /// A hash while it is read: each key is found at once, and the keys stay in the order of the text.
-pub type Table = IndexMap<Text, SettingValue>;
+pub type ReadHash = IndexMap<Text, SettingValue>;
 
 /// The settings of a plugin while they are read.
 pub type ReadSettings = IndexMap<Text, ReadValue>;
@@ -26,11 +26,11 @@ pub enum ReadValue {
     Number(Number),
     Nested(Plugin),
     Array(Items<SettingValue>),
-    Hash(Table),
+    Hash(ReadHash),
 }
 
 /// The entries of a hash, once it is read.
-fn entries_of(alloc: Global, table: Table) -> Result<Entries, AllocError>
+fn entries_of(alloc: Global, table: ReadHash) -> Result<Entries, AllocError>
     ensures { IfOk result (λ entries. entries ≡ table.entries) }
 {
     let mut entries = Items::with_capacity(alloc, table.len())?;
@@ -65,7 +65,7 @@ pub fn finished_settings(alloc: Global, settings: ReadSettings) -> Result<Entrie
 }
 
 /// Puts an entry in the place of the one with this key, or at the end.
-pub fn put_entry(table: &mut Table, key: Text, value: SettingValue) -> Result<(), AllocError>
+pub fn put_entry(table: &mut ReadHash, key: Text, value: SettingValue) -> Result<(), AllocError>
     ensures { OnOk result (table.new.entries ≡ joining.with_entry key value table.old.entries) }
 {
     table.insert(key, value)?;
@@ -73,7 +73,7 @@ pub fn put_entry(table: &mut Table, key: Text, value: SettingValue) -> Result<()
 }
 
 /// Two hashes as one: of a key that both have, the later value in the place of the first.
-fn with_entries(table: Table, later: Table) -> Result<Table, AllocError>
+fn with_entries(table: ReadHash, later: ReadHash) -> Result<ReadHash, AllocError>
     ensures { IfOk result (λ made. made.entries ≡ joining.with_entries table.entries
         later.entries) }
 {

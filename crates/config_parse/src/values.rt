@@ -9,7 +9,7 @@ ghost use Rattle.config_parse.specs.Tables.{value_of, values_of};
 
 use crate::error::ReadError;
 use crate::joining::{
-    Entries, ReadSettings, ReadValue, Table, finished, finished_settings, put_entry, put_setting,
+    Entries, ReadHash, ReadSettings, ReadValue, finished, finished_settings, put_entry, put_setting,
 };
 use crate::names::{key, plugin_name, scalar, setting_name, spelling};
 use crate::tokens::{below, first, next, refuse};
@@ -138,7 +138,7 @@ fn more(
 }
 
 /// The token's key, where it is a key that the table hasn't.
-fn fresh(alloc: Global, table: &Table, token: &Token) -> Result<Option<Text>, AllocError>
+fn fresh(alloc: Global, table: &ReadHash, token: &Token) -> Result<Option<Text>, AllocError>
     ensures { IfOk result (λ found. found ≡ spec.fresh_key table.now.entries token.now) }
 {
     let Some(found) = key(token) else {
@@ -191,11 +191,11 @@ fn single_entry(
 
 /// Behind the `{` of a hash.
 #[cycle(values)]
-fn pairs(alloc: Global, depth: usize, tokens: &[Lexeme]) -> Result<(Table, &[Lexeme]), ReadError>
+fn pairs(alloc: Global, depth: usize, tokens: &[Lexeme]) -> Result<(ReadHash, &[Lexeme]), ReadError>
     ensures { GivesAs (λ table. table.entries) result
         (spec.behind [] (spec.read depth (symbol.Pairs []))) tokens.now }
 {
-    let mut found: Table = IndexMap::new(alloc);
+    let mut found: ReadHash = IndexMap::new(alloc);
     let rest = put_pairs(alloc, depth, &mut found, tokens)?;
     Ok((found, rest))
 }
@@ -206,7 +206,7 @@ fn pairs(alloc: Global, depth: usize, tokens: &[Lexeme]) -> Result<(Table, &[Lex
 fn put_pairs<'a>(
     alloc: Global,
     depth: usize,
-    found: &mut Table,
+    found: &mut ReadHash,
     tokens: &'a [Lexeme],
 ) -> Result<&'a [Lexeme], ReadError>
     ensures { Fills found.new.entries result (spec.pairs depth found.old.entries) tokens.now }

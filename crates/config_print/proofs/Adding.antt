@@ -6,7 +6,7 @@ use Rattle.std.specs.Result.{is_ok}
 use Rattle.event_json.proofs.Written.{adds_two}
 use Rattle.config_print.specs.Layout.{Piece, text_of}
 use Rattle.config_print.specs.Conditions.{opened, closed, grouped, comma, members}
-use Rattle.config_print.specs.declared.values.Margin.{Margin}
+use Rattle.config_print.specs.declared.values.Indent.{Indent}
 use Rattle.config_print.specs.Printed.{gap, Gapped, deeper, braced, behind_else, arm_front, branch}
 use Rattle.config_print.proofs.Layouts.{text_both}
 
@@ -21,7 +21,7 @@ pub pushed : {T E : Type 0} (r : Result T E) (x old new : List ℕ) → new ≡ 
 pushed (Ok y) x old new e = e
 pushed (Err y) x old new e = tt
 
-pub text_braced : (margin : Margin) (lines : List Piece) → text_of (braced margin lines) ≡ codes " {" ++ (text_of lines ++ (gap margin ++ 125 ∷ []))
+pub text_braced : (margin : Indent) (lines : List Piece) → text_of (braced margin lines) ≡ codes " {" ++ (text_of lines ++ (gap margin ++ 125 ∷ []))
 text_braced margin lines = ap (λ z. 32 ∷ 123 ∷ z) (text_both lines _)
 
 -- parts that are added are one
@@ -49,10 +49,10 @@ pub turn_each : {X : Type 0} (f : X → List Piece) (xs : List X) (i : ℕ) (x :
 turn_each f xs i x old new whole l e added h = turn (f x) (flat_map f (drop (i + 1) xs)) old new whole added (ap (λ ys. old ++ text_of (flat_map f ys)) (sym (at_place xs i x l e)) ∙ h)
 
 -- where nothing is left, lines in braces are whole with the closing one
-pub block_done : {X T E : Type 0} (r : Result T E) (f : Margin → X → List Piece) (xs : List X) (i : ℕ) (margin inner : Margin) (old to new : List ℕ) → length xs ≤ i → inner ≡ deeper margin
+pub block_done : {X T E : Type 0} (r : Result T E) (f : Indent → X → List Piece) (xs : List X) (i : ℕ) (margin inner : Indent) (old to new : List ℕ) → length xs ≤ i → inner ≡ deeper margin
     → to ++ text_of (flat_map (f inner) (drop i xs)) ≡ old ++ (codes " {" ++ text_of (flat_map (f inner) xs)) → OnOk r (new ≡ to ++ (gap margin ++ 125 ∷ [])) → OnOk r (new ≡ old ++ text_of (braced margin (flat_map (f (deeper margin)) xs)))
 block_done r f xs i margin inner old to new l same h =
-    let lines = λ (m : Margin). text_of (flat_map (f m) xs) in
+    let lines = λ (m : Indent). text_of (flat_map (f m) xs) in
     let all : to ≡ old ++ (codes " {" ++ lines (deeper margin)) = sym (ap (λ ys. to ++ text_of (flat_map (f inner) ys)) (drop_of_length-le xs l) ∙ append-nil to) ∙ h ∙ ap (λ m. old ++ (codes " {" ++ lines m)) same in
     adds_two r (codes " {" ++ lines (deeper margin)) (gap margin ++ 125 ∷ []) _ old to new (text_braced margin (flat_map (f (deeper margin)) xs)) all
 
@@ -64,7 +64,7 @@ turn_member f xs i x later old m new whole l e first added h =
     turn (f x) rest m new whole added (turn (comma later) (f x ++ rest) old m whole first (ap (λ ys. old ++ text_of (members later (map f ys))) (sym (at_place xs i x l e)) ∙ h))
 
 -- arms of a branch
-pub turn_arm : {X : Type 0} (f : X → Gapped) (margin : Margin) (xs : List X) (i : ℕ) (x : X) (later : Bool) (old m new whole : List ℕ) → i < length xs → x ≡ get_or xs i x
+pub turn_arm : {X : Type 0} (f : X → Gapped) (margin : Indent) (xs : List X) (i : ℕ) (x : X) (later : Bool) (old m new whole : List ℕ) → i < length xs → x ≡ get_or xs i x
     → m ≡ old ++ text_of (behind_else later margin) → new ≡ m ++ text_of (f x (arm_front later margin) margin) → old ++ text_of (branch later margin (map f (drop i xs))) ≡ whole
     → new ++ text_of (branch true margin (map f (drop (i + 1) xs))) ≡ whole
 turn_arm f margin xs i x later old m new whole l e first added h =

@@ -13,8 +13,8 @@ use Rattle.config_tree.specs.declared.tree.Literal.{Literal}
 use Rattle.config_tree.specs.declared.tree.Literal.TheVariants as l
 use Rattle.config_tree.specs.declared.tree.MatchPattern.{MatchPattern}
 use Rattle.config_tree.specs.declared.tree.MatchPattern.TheVariants as p
-use Rattle.config_print.specs.declared.conditions.Place.{Place}
-use Rattle.config_print.specs.declared.conditions.Place.TheVariants as at
+use Rattle.config_print.specs.declared.conditions.ConditionContext.{ConditionContext}
+use Rattle.config_print.specs.declared.conditions.ConditionContext.TheVariants as at
 use Rattle.config_print.specs.Tokens.{number_token, parts_of}
 use Rattle.config_print.specs.Layout.{Piece, spaced, text_of}
 
@@ -62,13 +62,13 @@ abbrev pub matched_text : Operand → List ℕ → MatchPattern → List ℕ
 matched_text x sign q = text_of (operand x) ++ 32 ∷ (sign ++ text_of (pattern q))
 
 -- `or` and `xor` bind the least, and stand bare only where any condition may
-abbrev pub parts_or : Place → Bool
+abbrev pub parts_or : ConditionContext → Bool
 parts_or at.Whole = false
 parts_or at.Joined = true
 parts_or at.Unary = true
 
 -- `and` and `nand` bind more tightly, and stand bare also where what they join is joined
-abbrev pub parts_and : Place → Bool
+abbrev pub parts_and : ConditionContext → Bool
 parts_and at.Whole = false
 parts_and at.Joined = false
 parts_and at.Unary = true
@@ -85,10 +85,10 @@ grouped parens pieces = opened parens ++ (pieces ++ closed parens)
 
 -- the pieces of a condition depend on where it stands
 abbrev pub Placed : Type 0
-Placed = Place → List Piece
+Placed = ConditionContext → List Piece
 
 -- what follows the first condition of a row: each further one behind its joint
-abbrev pub joined : {J : Type 0} → (J → Word) → Place → J × Placed → List Piece
+abbrev pub joined : {J : Type 0} → (J → Word) → ConditionContext → J × Placed → List Piece
 joined word place e = spaced (t.Word (word e.0)) ∷ e.1 place
 
 abbrev pub compared : Token → Operand → Operand → List Piece
@@ -109,8 +109,8 @@ unfoldable pub condition : Condition → Placed
 condition = fold-Condition Placed condition_step
 
 -- further conditions of a row
-abbrev pub conjunct : {J : Type 0} → (J → Word) → Place → J × Condition → List Piece
+abbrev pub conjunct : {J : Type 0} → (J → Word) → ConditionContext → J × Condition → List Piece
 conjunct word place e = joined word place (e.0, condition e.1)
 
-abbrev pub row : {J : Type 0} → (J → Word) → Place → List (J × Condition) → List Piece
+abbrev pub row : {J : Type 0} → (J → Word) → ConditionContext → List (J × Condition) → List Piece
 row word place = flat_map (conjunct word place)

@@ -17,22 +17,22 @@ use Rattle.config_tree.specs.declared.tree.Statement.TheFolds.{fold-Statement, f
 use Rattle.config_tree.specs.declared.tree.Arm.{Arm}
 use Rattle.config_tree.specs.declared.tree.Config.{Config}
 use Rattle.config_tree.specs.Joining.{Entries}
-use Rattle.config_print.specs.declared.conditions.Place.TheVariants as at
-use Rattle.config_print.specs.declared.values.Margin.{Margin}
-use Rattle.config_print.specs.declared.values.Margin.TheVariants as line
+use Rattle.config_print.specs.declared.conditions.ConditionContext.TheVariants as at
+use Rattle.config_print.specs.declared.values.Indent.{Indent}
+use Rattle.config_print.specs.declared.values.Indent.TheVariants as line
 use Rattle.config_print.specs.Tokens.{name_token, plugin_token, number_token}
 use Rattle.config_print.specs.Layout.{Piece, spaced, text_of}
 use Rattle.config_print.specs.Conditions.{listed, condition}
 
-abbrev pub one_line : Margin
+abbrev pub one_line : Indent
 one_line = line.OneLine
 
 -- where a line without indentation begins
-abbrev pub no_indentation : Margin
+abbrev pub no_indentation : Indent
 no_indentation = line.Level 0
 
 -- one level deeper
-abbrev pub deeper : Margin → Margin
+abbrev pub deeper : Indent → Indent
 deeper line.OneLine = line.OneLine
 deeper (line.Level n) = line.Level (n + 1)
 
@@ -42,26 +42,26 @@ indentation zero = []
 indentation (suc n) = 32 ∷ 32 ∷ indentation n
 
 -- what stands in front of each line: a newline (10) and the indentation; where all stands on one line, one blank
-abbrev pub gap : Margin → List ℕ
+abbrev pub gap : Indent → List ℕ
 gap line.OneLine = codes " "
 gap (line.Level n) = 10 ∷ indentation n
 
 -- pieces that have a margin, as far as they go over several lines
 abbrev pub Laid : Type 0
-Laid = Margin → List Piece
+Laid = Indent → List Piece
 
 -- lines in braces, the closing one on a line of its own
-abbrev pub braced : Margin → List Piece → List Piece
+abbrev pub braced : Indent → List Piece → List Piece
 braced margin lines = spaced t.OpenBrace ∷ (lines ++ (gap margin, t.CloseBrace) ∷ [])
 
 -- a name or key with its value, on a line of its own
 abbrev pub entry : Token → Laid → Laid
 entry name value margin = (gap margin, name) ∷ spaced t.Arrow ∷ value margin
 
-abbrev pub setting : Margin → List ℕ × Laid → List Piece
+abbrev pub setting : Indent → List ℕ × Laid → List Piece
 setting margin e = entry (name_token e.0) e.1 margin
 
-abbrev pub pair : Margin → List ℕ × Laid → List Piece
+abbrev pub pair : Indent → List ℕ × Laid → List Piece
 pair margin e = entry (t.Quoted e.0) e.1 margin
 
 -- a value, with the pieces of each value in it: an array stands on one line
@@ -87,19 +87,19 @@ abbrev pub members_in_line : List SettingValue → List Piece
 members_in_line xs = listed (map (λ x. value x one_line) xs)
 
 -- each key, or each name of a setting, with its value on a line of its own
-abbrev pub pair_line : Margin → List ℕ × SettingValue → List Piece
+abbrev pub pair_line : Indent → List ℕ × SettingValue → List Piece
 pair_line margin e = pair margin (e.0, value e.1)
 
-abbrev pub pair_lines : Margin → Entries → List Piece
+abbrev pub pair_lines : Indent → Entries → List Piece
 pair_lines margin = flat_map (pair_line margin)
 
 abbrev pub pairs : Entries → Laid
 pairs list margin = braced margin (pair_lines (deeper margin) list)
 
-abbrev pub setting_line : Margin → List ℕ × SettingValue → List Piece
+abbrev pub setting_line : Indent → List ℕ × SettingValue → List Piece
 setting_line margin e = setting margin (e.0, value e.1)
 
-abbrev pub setting_lines : Margin → Entries → List Piece
+abbrev pub setting_lines : Indent → Entries → List Piece
 setting_lines margin = flat_map (setting_line margin)
 
 abbrev pub settings : Entries → Laid
@@ -110,17 +110,17 @@ abbrev pub plugin : Plugin → Laid
 plugin x margin = (gap margin, plugin_token x.name) ∷ settings x.settings.list margin
 
 -- each on a line of its own
-abbrev pub lines_of : {A : Type 0} → (A → Laid) → Margin → List A → List Piece
+abbrev pub lines_of : {A : Type 0} → (A → Laid) → Indent → List A → List Piece
 lines_of f margin = flat_map (λ x. f x margin)
 
 -- the condition of an arm, behind its `if` and the blanks in front of that
-abbrev pub test : Margin → Option Condition → List Piece
+abbrev pub test : Indent → Option Condition → List Piece
 test margin None = []
 test margin (Some x) = (gap margin, t.Word w.If) ∷ condition x at.Whole
 
 -- pieces that have a margin, and one in front of the first
 abbrev pub Gapped : Type 0
-Gapped = Margin → Laid
+Gapped = Indent → Laid
 
 -- statements in braces, behind the condition
 abbrev pub arm_step : Arm-F Laid Gapped → Gapped
@@ -131,10 +131,10 @@ abbrev pub behind_else : Bool → Laid
 behind_else later margin = if later then (gap margin, t.Word w.Else) ∷ [] else []
 
 -- .. and the first on a line of its own
-abbrev pub arm_front : Bool → Margin → Margin
+abbrev pub arm_front : Bool → Indent → Indent
 arm_front later margin = if later then one_line else margin
 
-abbrev pub branch : Bool → Margin → List Gapped → List Piece
+abbrev pub branch : Bool → Indent → List Gapped → List Piece
 branch later margin [] = []
 branch later margin (x ∷ xs) = behind_else later margin ++ (x (arm_front later margin) margin ++ branch true margin xs)
 
@@ -149,10 +149,10 @@ unfoldable pub arm : Arm → Gapped
 arm = fold-Arm Laid Gapped statement_step arm_step
 
 -- plugins and statements, each on a line of its own, and the arms of a branch
-abbrev pub plugin_lines : Margin → List Plugin → List Piece
+abbrev pub plugin_lines : Indent → List Plugin → List Piece
 plugin_lines = lines_of plugin
 
-abbrev pub statement_lines : Margin → List Statement → List Piece
+abbrev pub statement_lines : Indent → List Statement → List Piece
 statement_lines = lines_of statement
 
 -- the same in braces
@@ -162,7 +162,7 @@ plugin_block list margin = braced margin (plugin_lines (deeper margin) list)
 abbrev pub block : List Statement → Laid
 block list margin = braced margin (statement_lines (deeper margin) list)
 
-abbrev pub arms : Margin → List Arm → List Piece
+abbrev pub arms : Indent → List Arm → List Piece
 arms margin list = branch false margin (map arm list)
 
 -- a section, where it isn't empty

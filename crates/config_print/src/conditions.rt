@@ -4,7 +4,7 @@ ghost use Rattle.std.specs.Prelude.{◌≡◌, ◌∷◌, OnOk};
 ghost use Rattle.config_lex.specs.declared.token.Word.TheVariants as w;
 ghost use Rattle.config_print.specs.Prints.{Prints, Lays};
 ghost use Rattle.config_print.specs.Conditions as spec;
-ghost use Rattle.config_print.specs.declared.conditions.Place.TheVariants as at;
+ghost use Rattle.config_print.specs.declared.conditions.ConditionContext.TheVariants as at;
 
 use crate::tokens::{
     add_number, add_regexp, add_selector, add_string, comparison_text, conjunction_text,
@@ -15,7 +15,7 @@ use std::alloc::AllocError;
 
 /// Where a condition stands in another one.
 #[derive(Clone, Copy)]
-pub enum Place {
+pub enum ConditionContext {
     /// Behind `if`, in parentheses, or the first of those with `or` or `xor` between: no condition wants parentheses.
     Whole,
     /// Behind `or` or `xor`, or the first of those with `and` or `nand` between: `or` and `xor` want them.
@@ -24,21 +24,21 @@ pub enum Place {
     Unary,
 }
 
-fn parts_or(place: Place) -> bool
+fn parts_or(place: ConditionContext) -> bool
     ensures { result ≡ spec.parts_or place }
 {
     match place {
-        Place::Whole => false,
-        Place::Joined | Place::Unary => true,
+        ConditionContext::Whole => false,
+        ConditionContext::Joined | ConditionContext::Unary => true,
     }
 }
 
-fn parts_and(place: Place) -> bool
+fn parts_and(place: ConditionContext) -> bool
     ensures { result ≡ spec.parts_and place }
 {
     match place {
-        Place::Whole | Place::Joined => false,
-        Place::Unary => true,
+        ConditionContext::Whole | ConditionContext::Joined => false,
+        ConditionContext::Unary => true,
     }
 }
 
@@ -149,7 +149,7 @@ fn add_conjuncts(to: &mut String, rest: &[(Conjunction, Condition)]) -> Result<(
 {
     for part in rest {
         add_sign(to, conjunction_text(part.0))?;
-        add_condition(to, &part.1, Place::Unary)?;
+        add_condition(to, &part.1, ConditionContext::Unary)?;
     }
     Ok(())
 }
@@ -161,7 +161,7 @@ fn add_disjuncts(to: &mut String, rest: &[(Disjunction, Condition)]) -> Result<(
 {
     for part in rest {
         add_sign(to, disjunction_text(part.0))?;
-        add_condition(to, &part.1, Place::Joined)?;
+        add_condition(to, &part.1, ConditionContext::Joined)?;
     }
     Ok(())
 }
@@ -172,7 +172,7 @@ fn add_disjuncts(to: &mut String, rest: &[(Disjunction, Condition)]) -> Result<(
 pub(crate) fn add_condition(
     to: &mut String,
     condition: &Condition,
-    place: Place,
+    place: ConditionContext,
 ) -> Result<(), AllocError>
     ensures { OnOk result (Lays to.old to.new (spec.condition condition.now place)) }
 {
@@ -180,19 +180,19 @@ pub(crate) fn add_condition(
         Condition::Operand(only) => add_operand(to, only),
         Condition::Not(inner) => {
             to.push_str(" !")?;
-            add_condition(to, inner.get(), Place::Unary)
+            add_condition(to, inner.get(), ConditionContext::Unary)
         }
         Condition::Conjoined(first, rest) => {
             let parens = parts_and(place);
             add_open(to, parens)?;
-            add_condition(to, first.get(), Place::Joined)?;
+            add_condition(to, first.get(), ConditionContext::Joined)?;
             add_conjuncts(to, rest.as_slice())?;
             add_close(to, parens)
         }
         Condition::Disjoined(first, rest) => {
             let parens = parts_or(place);
             add_open(to, parens)?;
-            add_condition(to, first.get(), Place::Whole)?;
+            add_condition(to, first.get(), ConditionContext::Whole)?;
             add_disjuncts(to, rest.as_slice())?;
             add_close(to, parens)
         }

@@ -5,14 +5,14 @@ ghost use Rattle.config_lex.specs.Spelling.{section_text};
 ghost use Rattle.config_print.specs.Prints.{Prints, Lays};
 ghost use Rattle.config_print.specs.Printed as spec;
 
-use crate::conditions::{Place, add_condition};
-use crate::values::{Margin, add_close_brace, add_gap, add_plugin, deeper};
+use crate::conditions::{ConditionContext, add_condition};
+use crate::values::{Indent, add_close_brace, add_gap, add_plugin, deeper};
 use config_lex::Section;
 use config_tree::{Arm, Condition, Plugin, Statement};
 use std::alloc::AllocError;
 
 /// The condition of an arm, behind its `if` and what stands in front of that.
-fn add_test(to: &mut String, front: Margin, condition: &Option<Condition>) -> Result<(), AllocError>
+fn add_test(to: &mut String, front: Indent, condition: &Option<Condition>) -> Result<(), AllocError>
     ensures { OnOk result (Lays to.old to.new (spec.test front condition.now)) }
 {
     match condition {
@@ -20,14 +20,14 @@ fn add_test(to: &mut String, front: Margin, condition: &Option<Condition>) -> Re
         Some(condition) => {
             add_gap(to, front)?;
             to.push_str("if")?;
-            add_condition(to, condition, Place::Whole)
+            add_condition(to, condition, ConditionContext::Whole)
         }
     }
 }
 
 /// Statements in braces, behind a blank.
 #[cycle(statements)]
-fn add_block(to: &mut String, list: &[Statement], margin: Margin) -> Result<(), AllocError>
+fn add_block(to: &mut String, list: &[Statement], margin: Indent) -> Result<(), AllocError>
     ensures { OnOk result (Lays to.old to.new (spec.block list.now margin)) }
 {
     to.push_str(" {")?;
@@ -39,7 +39,7 @@ fn add_block(to: &mut String, list: &[Statement], margin: Margin) -> Result<(), 
 }
 
 #[cycle(statements)]
-fn add_arm(to: &mut String, arm: &Arm, front: Margin, margin: Margin) -> Result<(), AllocError>
+fn add_arm(to: &mut String, arm: &Arm, front: Indent, margin: Indent) -> Result<(), AllocError>
     ensures { OnOk result (Lays to.old to.new (spec.arm arm.now front margin)) }
 {
     add_test(to, front, &arm.condition)?;
@@ -47,7 +47,7 @@ fn add_arm(to: &mut String, arm: &Arm, front: Margin, margin: Margin) -> Result<
 }
 
 /// What an arm of a branch stands behind.
-fn add_else(to: &mut String, later: bool, margin: Margin) -> Result<(), AllocError>
+fn add_else(to: &mut String, later: bool, margin: Indent) -> Result<(), AllocError>
     ensures { OnOk result (Lays to.old to.new (spec.behind_else later margin)) }
 {
     if !later {
@@ -58,14 +58,14 @@ fn add_else(to: &mut String, later: bool, margin: Margin) -> Result<(), AllocErr
 }
 
 /// What stands in front of the `if` of an arm.
-fn arm_front(later: bool, margin: Margin) -> Margin
+fn arm_front(later: bool, margin: Indent) -> Indent
     ensures { result ≡ spec.arm_front later margin }
 {
-    if later { Margin::OneLine } else { margin }
+    if later { Indent::OneLine } else { margin }
 }
 
 #[cycle(statements)]
-fn add_branch(to: &mut String, arms: &[Arm], margin: Margin) -> Result<(), AllocError>
+fn add_branch(to: &mut String, arms: &[Arm], margin: Indent) -> Result<(), AllocError>
     ensures { OnOk result (Lays to.old to.new (spec.arms margin arms.now)) }
 {
     let mut later = false;
@@ -79,7 +79,7 @@ fn add_branch(to: &mut String, arms: &[Arm], margin: Margin) -> Result<(), Alloc
 
 #[tactic(auto, using(crate::proofs::Equations::statements))]
 #[cycle(statements)]
-fn add_statement(to: &mut String, statement: &Statement, margin: Margin) -> Result<(), AllocError>
+fn add_statement(to: &mut String, statement: &Statement, margin: Indent) -> Result<(), AllocError>
     ensures { OnOk result (Lays to.old to.new (spec.statement statement.now margin)) }
 {
     match statement {
@@ -89,7 +89,7 @@ fn add_statement(to: &mut String, statement: &Statement, margin: Margin) -> Resu
 }
 
 /// Plugins in braces, behind a blank.
-fn add_plugins(to: &mut String, list: &[Plugin], margin: Margin) -> Result<(), AllocError>
+fn add_plugins(to: &mut String, list: &[Plugin], margin: Indent) -> Result<(), AllocError>
     ensures { OnOk result (Lays to.old to.new (spec.plugin_block list.now margin)) }
 {
     to.push_str(" {")?;
@@ -118,7 +118,7 @@ pub(crate) fn add_inputs(to: &mut String, list: &[Plugin]) -> Result<(), AllocEr
         return Ok(());
     }
     to.push_str("input")?;
-    add_plugins(to, list, Margin::Level(0))?;
+    add_plugins(to, list, Indent::Level(0))?;
     to.push_str("\n")
 }
 
@@ -133,6 +133,6 @@ pub(crate) fn add_section(
         return Ok(());
     }
     to.push_str(section_text(kind))?;
-    add_block(to, list, Margin::Level(0))?;
+    add_block(to, list, Indent::Level(0))?;
     to.push_str("\n")
 }

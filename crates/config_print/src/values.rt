@@ -12,7 +12,7 @@ use std::alloc::AllocError;
 
 /// What stands in front of what goes on a line of its own.
 #[derive(Clone, Copy)]
-pub enum Margin {
+pub enum Indent {
     /// One blank: all stands on one line.
     OneLine,
     /// A newline, and two blanks for each of so many levels.
@@ -20,13 +20,13 @@ pub enum Margin {
 }
 
 /// The margin of what is one level deeper.
-pub(crate) fn deeper(margin: Margin) -> Result<Margin, AllocError>
+pub(crate) fn deeper(margin: Indent) -> Result<Indent, AllocError>
     ensures { IfOk result (λ made. made ≡ spec.deeper margin) }
 {
     match margin {
-        Margin::OneLine => Ok(Margin::OneLine),
-        Margin::Level(levels) => match levels.checked_add(1) {
-            Some(more) => Ok(Margin::Level(more)),
+        Indent::OneLine => Ok(Indent::OneLine),
+        Indent::Level(levels) => match levels.checked_add(1) {
+            Some(more) => Ok(Indent::Level(more)),
             None => Err(AllocError),
         },
     }
@@ -41,12 +41,12 @@ fn add_indentation(to: &mut String, levels: usize) -> Result<(), AllocError>
     Ok(())
 }
 
-pub(crate) fn add_gap(to: &mut String, margin: Margin) -> Result<(), AllocError>
+pub(crate) fn add_gap(to: &mut String, margin: Indent) -> Result<(), AllocError>
     ensures { OnOk result (Prints to.old to.new (spec.gap margin)) }
 {
     match margin {
-        Margin::OneLine => to.push_str(" "),
-        Margin::Level(levels) => {
+        Indent::OneLine => to.push_str(" "),
+        Indent::Level(levels) => {
             to.push_str("\n")?;
             add_indentation(to, levels)
         }
@@ -54,7 +54,7 @@ pub(crate) fn add_gap(to: &mut String, margin: Margin) -> Result<(), AllocError>
 }
 
 /// The end of what stands in braces.
-pub(crate) fn add_close_brace(to: &mut String, margin: Margin) -> Result<(), AllocError>
+pub(crate) fn add_close_brace(to: &mut String, margin: Indent) -> Result<(), AllocError>
     ensures { OnOk result (Prints to.old to.new (spec.gap margin ++ 125 ∷ [])) }
 {
     add_gap(to, margin)?;
@@ -70,7 +70,7 @@ fn add_members(to: &mut String, list: &[SettingValue]) -> Result<(), AllocError>
     let mut later = false;
     for member in list {
         add_comma(to, later)?;
-        add_value(to, member, Margin::OneLine)?;
+        add_value(to, member, Indent::OneLine)?;
         later = true;
     }
     to.push_str(" ]")
@@ -81,7 +81,7 @@ fn add_pair(
     to: &mut String,
     value: &SettingValue,
     key: &str,
-    margin: Margin,
+    margin: Indent,
 ) -> Result<(), AllocError>
     ensures { OnOk result (Lays to.old to.new (spec.pair_line margin (key.now, value.now))) }
 {
@@ -96,7 +96,7 @@ fn add_pair(
 fn add_pairs(
     to: &mut String,
     list: &[(Text, SettingValue)],
-    margin: Margin,
+    margin: Indent,
 ) -> Result<(), AllocError>
     ensures { OnOk result (Lays to.old to.new (spec.pairs list.now margin)) }
 {
@@ -113,7 +113,7 @@ fn add_setting(
     to: &mut String,
     value: &SettingValue,
     name: &str,
-    margin: Margin,
+    margin: Indent,
 ) -> Result<(), AllocError>
     ensures { OnOk result (Lays to.old to.new (spec.setting_line margin (name.now, value.now))) }
 {
@@ -128,7 +128,7 @@ fn add_setting(
 fn add_settings(
     to: &mut String,
     list: &[(Text, SettingValue)],
-    margin: Margin,
+    margin: Indent,
 ) -> Result<(), AllocError>
     ensures { OnOk result (Lays to.old to.new (spec.settings list.now margin)) }
 {
@@ -143,7 +143,7 @@ fn add_settings(
 /// A value behind a blank.
 #[tactic(auto, using(crate::proofs::Equations::values))]
 #[cycle(values)]
-fn add_value(to: &mut String, value: &SettingValue, margin: Margin) -> Result<(), AllocError>
+fn add_value(to: &mut String, value: &SettingValue, margin: Indent) -> Result<(), AllocError>
     ensures { OnOk result (Lays to.old to.new (spec.value value.now margin)) }
 {
     match value {
@@ -166,7 +166,7 @@ fn add_value(to: &mut String, value: &SettingValue, margin: Margin) -> Result<()
 }
 
 /// A plugin that is a statement, on a line of its own.
-pub(crate) fn add_plugin(to: &mut String, plugin: &Plugin, margin: Margin) -> Result<(), AllocError>
+pub(crate) fn add_plugin(to: &mut String, plugin: &Plugin, margin: Indent) -> Result<(), AllocError>
     ensures { OnOk result (Lays to.old to.new (spec.plugin plugin.now margin)) }
 {
     add_gap(to, margin)?;

@@ -19,9 +19,9 @@ use Rattle.config_tree.specs.Joining.{Entries, plugin_of, empty}
 use Rattle.config_print.specs.Tokens.{number_token, name_token}
 use Rattle.config_print.specs.Layout.{Piece, spaced, tokens_of}
 use Rattle.config_print.specs.Conditions.{condition, members}
-use Rattle.config_print.specs.declared.values.Margin.{Margin}
+use Rattle.config_print.specs.declared.values.Indent.{Indent}
 use Rattle.config_print.specs.Printed.{gap, one_line, no_indentation, deeper, braced, pair_lines, setting_lines, value, plugin, plugin_lines, statement_lines, arm, branch, plugin_section, statement_section, pieces, Laid, statement, lines_of}
-use Rattle.config_print.specs.declared.conditions.Place.TheVariants as at
+use Rattle.config_print.specs.declared.conditions.ConditionContext.TheVariants as at
 use Rattle.config_print.proofs.Equations.{value-Text, value-Number, value-Array, value-Hash, value-Nested, statement-Plugin, statement-Branch, arm-is}
 use Rattle.config_print_laws.proofs.Conditions.{append_nil, sign, again_condition}
 use Rattle.config_print_laws.specs.Once.{Fresh, StandOnce}
@@ -32,7 +32,7 @@ use Rattle.config_print_laws.proofs.Good.{good_settings, good_pairs, Lawful, Goo
 use Rattle.config_print_laws.proofs.Names.{word_spelled, name_reads, plugin_reads}
 
 -- `}` on a line of its own
-abbrev close : Margin → List Piece
+abbrev close : Indent → List Piece
 close m = (gap m, t.CloseBrace) ∷ []
 
 module _ (Ok : Token → Type 0) (law : Lawful Ok) where
@@ -42,11 +42,11 @@ module _ (Ok : Token → Type 0) (law : Lawful Ok) where
   open_brace : F (spaced t.OpenBrace)
   open_brace = sign Ok law t.OpenBrace refl tt
 
-  closes : (m : Margin) → AllOf F (close m)
+  closes : (m : Indent) → AllOf F (close m)
   closes m = ((gap_is m, tt, law.sign t.CloseBrace refl), tt)
 
   mutual
-    again_value : {d : ℕ} {x : SettingValue} → GoodValue Ok d x → (m : Margin) → Printed Ok (λ l. g.ReadsValue d l x) (value x m)
+    again_value : {d : ℕ} {x : SettingValue} → GoodValue Ok d x → (m : Indent) → Printed Ok (λ l. g.ReadsValue d l x) (value x m)
     again_value {d} (good_text {s} o) m = subst (Printed Ok (λ l. g.ReadsValue d l (v.Text s))) (sym (value-Text s m)) (g.scalar_value refl, (fine Ok (t.Quoted s) tt o, tt))
     again_value {d} (good_number {n} o) m = subst (Printed Ok (λ l. g.ReadsValue d l (v.Number n))) (sym (value-Number n m)) (g.scalar_value refl, (fine Ok (number_token n) refl o, tt))
     again_value (good_nested {d} {name} {es} o p f) m =
@@ -77,7 +77,7 @@ module _ (Ok : Token → Type 0) (law : Lawful Ok) where
         let q = two Ok (λ l. g.ReadsMore d front (t.Comma ∷ l) (front ++ x ∷ xs)) (value x one_line) rest whole k.1 r.1 in
         (q.0, (sign Ok law t.Comma refl tt, q.1))
 
-    again_pairs : {d : ℕ} {es : Entries} (front : Entries) → GoodEntries Ok false d es → Fresh front es → (n m : Margin) → Printed Ok (λ l. g.ReadsPairs d front l (front ++ es)) (pair_lines n es ++ close m)
+    again_pairs : {d : ℕ} {es : Entries} (front : Entries) → GoodEntries Ok false d es → Fresh front es → (n m : Indent) → Printed Ok (λ l. g.ReadsPairs d front l (front ++ es)) (pair_lines n es ++ close m)
     again_pairs {d} front no_entries f n m = (subst (λ k. g.ReadsPairs d front (t.CloseBrace ∷ []) k) (append_nil front) g.no_pair, closes m)
     again_pairs {d} front (entry {k} {x} {es} o h p) f n m =
         let u = again_value h n in
@@ -87,7 +87,7 @@ module _ (Ok : Token → Type 0) (law : Lawful Ok) where
         let q = three Ok (λ l. g.ReadsPairs d front (t.Quoted k ∷ t.Arrow ∷ l) (front ++ (k, x) ∷ es)) (value x n) (pair_lines n es) (close m) whole u.1 r.1 in
         (q.0, ((gap_is n, tt, o), (sign Ok law t.Arrow refl tt, q.1)))
 
-    again_settings : {d : ℕ} {es : Entries} (front : Entries) → GoodEntries Ok true d es → Fresh front es → (n m : Margin) → Printed Ok (λ l. g.ReadsSettings d front l (front ++ es)) (setting_lines n es ++ close m)
+    again_settings : {d : ℕ} {es : Entries} (front : Entries) → GoodEntries Ok true d es → Fresh front es → (n m : Indent) → Printed Ok (λ l. g.ReadsSettings d front l (front ++ es)) (setting_lines n es ++ close m)
     again_settings {d} front no_entries f n m = (subst (λ k. g.ReadsSettings d front (t.CloseBrace ∷ []) k) (append_nil front) g.no_setting, closes m)
     again_settings {d} front (entry {k} {x} {es} o h p) f n m =
         let u = again_value h n in
@@ -100,7 +100,7 @@ module _ (Ok : Token → Type 0) (law : Lawful Ok) where
 
   -- a plugin that is printed at any margin is read again
   abbrev Prints : ℕ → Plugin → Type 0
-  Prints d x = (m : Margin) → Printed Ok (λ l. g.ReadsPlugin d l x) (plugin x m)
+  Prints d x = (m : Indent) → Printed Ok (λ l. g.ReadsPlugin d l x) (plugin x m)
 
   plugin_prints : {d : ℕ} {ts : List Token} {x : Plugin} → g.ReadsPlugin d ts x → AllOf Ok ts → Prints d x
   plugin_prints (g.plugin {name} {y} e q) o m =
@@ -114,9 +114,9 @@ module _ (Ok : Token → Type 0) (law : Lawful Ok) where
     GoesOn x ps = ((front xs : List A) (b : List Token) → Reads (front ++ x ∷ []) b xs → Reads front (tokens_of ps ++ b) xs) × AllOf F ps
 
     abbrev Goes : A → Type 0
-    Goes x = (m : Margin) → GoesOn x (line x m)
+    Goes x = (m : Indent) → GoesOn x (line x m)
 
-    lines_again : (xs : List A) → AllOf Goes xs → (front : List A) (n m : Margin) → Printed Ok (λ l. Reads front l (front ++ xs)) (lines_of line n xs ++ close m)
+    lines_again : (xs : List A) → AllOf Goes xs → (front : List A) (n m : Indent) → Printed Ok (λ l. Reads front l (front ++ xs)) (lines_of line n xs ++ close m)
     lines_again [] h front n m = (subst (λ k. Reads front (t.CloseBrace ∷ []) k) (append_nil front) (ends front), closes m)
     lines_again (x ∷ xs) h front n m =
         let u = h.0 n in
@@ -132,10 +132,10 @@ module _ (Ok : Token → Type 0) (law : Lawful Ok) where
     abbrev StatementGoes : Statement → Type 0
     StatementGoes = Goes statement (g.ReadsStatements d) (λ front. g.no_statement)
 
-    plugins_again : (xs : List Plugin) → AllOf PluginGoes xs → (n m : Margin) → Printed Ok (λ l. g.ReadsPlugins d [] l xs) (plugin_lines n xs ++ close m)
+    plugins_again : (xs : List Plugin) → AllOf PluginGoes xs → (n m : Indent) → Printed Ok (λ l. g.ReadsPlugins d [] l xs) (plugin_lines n xs ++ close m)
     plugins_again xs h n m = lines_again plugin (g.ReadsPlugins d) (λ front. g.no_plugin) xs h [] n m
 
-    statements_again : (xs : List Statement) → AllOf StatementGoes xs → (n m : Margin) → Printed Ok (λ l. g.ReadsStatements d [] l xs) (statement_lines n xs ++ close m)
+    statements_again : (xs : List Statement) → AllOf StatementGoes xs → (n m : Indent) → Printed Ok (λ l. g.ReadsStatements d [] l xs) (statement_lines n xs ++ close m)
     statements_again xs h n m = lines_again statement (g.ReadsStatements d) (λ front. g.no_statement) xs h [] n m
 
     plugins_go : {front xs : List Plugin} {ts : List Token} → g.ReadsPlugins d front ts xs → AllOf Ok ts → AllOf PluginGoes front → AllOf PluginGoes xs
@@ -149,7 +149,7 @@ module _ (Ok : Token → Type 0) (law : Lawful Ok) where
         subst (GoesOn statement (g.ReadsStatements d) (λ front. g.no_statement) (s.Plugin x)) (sym (statement-Plugin x m)) ((λ front xs b r. g.plugin_statement p.0 r), p.1)
 
   -- an arm with a condition, behind its `if`
-  record ArmAgain (d : ℕ) (x : Arm) (front m : Margin) : Type 0 where
+  record ArmAgain (d : ℕ) (x : Arm) (front m : Indent) : Type 0 where
     rest : List Piece
     whole : arm x front m ≡ (gap front, t.Word w.If) ∷ rest
     printed : Printed Ok (λ l. g.ReadsArm d l x) rest
@@ -158,15 +158,15 @@ module _ (Ok : Token → Type 0) (law : Lawful Ok) where
   record ElseAgain (d : ℕ) (front arms : List Arm) : Type 0 where
     more : List Arm
     whole : arms ≡ front ++ more
-    printed : (m : Margin) → Printed Ok (λ l. g.ReadsElse d front l arms) (branch true m (map arm more))
+    printed : (m : Indent) → Printed Ok (λ l. g.ReadsElse d front l arms) (branch true m (map arm more))
 
-  if_fine : (m : Margin) → F (gap m, t.Word w.If)
+  if_fine : (m : Indent) → F (gap m, t.Word w.If)
   if_fine m = (gap_is m, tt, law.sign (t.Word w.If) refl)
 
-  else_fine : (m : Margin) → F (gap m, t.Word w.Else)
+  else_fine : (m : Indent) → F (gap m, t.Word w.Else)
   else_fine m = (gap_is m, tt, law.sign (t.Word w.Else) refl)
 
-  branch_goes : {d : ℕ} (x : Arm) (arms : List Arm) → ((m : Margin) → ArmAgain d x m m) → ElseAgain d (x ∷ []) arms → StatementGoes d (s.Branch arms)
+  branch_goes : {d : ℕ} (x : Arm) (arms : List Arm) → ((m : Indent) → ArmAgain d x m m) → ElseAgain d (x ∷ []) arms → StatementGoes d (s.Branch arms)
   branch_goes {d} x arms p q m =
       let k = p m in
       let u = q.printed m in
@@ -174,7 +174,7 @@ module _ (Ok : Token → Type 0) (law : Lawful Ok) where
       subst (GoesOn statement (g.ReadsStatements d) (λ front. g.no_statement) (s.Branch arms)) (sym (ap (λ l. statement (s.Branch l) m) q.whole ∙ statement-Branch (x ∷ q.more) m ∙ ap (λ l. l ++ elses) k.whole))
       ((λ front xs b r. subst (λ l. g.ReadsStatements d front (t.Word w.If ∷ l) xs) (sym (ap (λ l. l ++ b) (tokens_both k.rest elses) ∙ append_assoc (tokens_of k.rest) (tokens_of elses) b)) (g.branch k.printed.0 u.0 r)), (if_fine m, all_of_both F k.rest elses k.printed.1 u.1))
 
-  else_if : {d : ℕ} {arms : List Arm} (front : List Arm) (x : Arm) (more : List Arm) (m : Margin) → ArmAgain d x one_line m → Printed Ok (λ l. g.ReadsElse d (front ++ x ∷ []) l arms) (branch true m (map arm more))
+  else_if : {d : ℕ} {arms : List Arm} (front : List Arm) (x : Arm) (more : List Arm) (m : Indent) → ArmAgain d x one_line m → Printed Ok (λ l. g.ReadsElse d (front ++ x ∷ []) l arms) (branch true m (map arm more))
       → Printed Ok (λ l. g.ReadsElse d front l arms) (branch true m (map arm (x ∷ more)))
   else_if {d} {arms} front x more m p u =
       let elses = branch true m (map arm more) in
@@ -191,7 +191,7 @@ module _ (Ok : Token → Type 0) (law : Lawful Ok) where
         statements_go o (last_of_all Ok b e k)
         (all_of_both (StatementGoes d) front (s.Branch arms ∷ []) u (branch_goes x arms (λ m. arm_again q (first_of_all Ok a (b ++ e) h.1) m m) (else_again r (first_of_all Ok b e k)), tt))
 
-    arm_again : {d : ℕ} {ts : List Token} {x : Arm} → g.ReadsArm d ts x → AllOf Ok ts → (front m : Margin) → ArmAgain d x front m
+    arm_again : {d : ℕ} {ts : List Token} {x : Arm} → g.ReadsArm d ts x → AllOf Ok ts → (front m : Indent) → ArmAgain d x front m
     arm_again {d} (g.arm {a} {b} {x} {xs} q r) h front m =
         let k = again_condition Ok law q (first_of_all Ok a (t.OpenBrace ∷ b) h) in
         let u = statements_again _ xs (statements_go r (last_of_all Ok a (t.OpenBrace ∷ b) h).1 tt) (deeper m) m in
@@ -239,7 +239,7 @@ module _ (Ok : Token → Type 0) (law : Lawful Ok) where
   abbrev joined : List Plugin → List Statement → List Statement → Config
   joined i f o = record { inputs = i; filters = f; outputs = o }
 
-  abbrev inner : Margin
+  abbrev inner : Indent
   inner = deeper no_indentation
 
   section_fine : (k : Section) → F (gap no_indentation, t.Word (w.Section k))

@@ -20,8 +20,8 @@ use Rattle.config_tree.specs.declared.tree.MatchPattern.TheVariants as p
 use Rattle.config_grammar.specs.Grammar as g
 use Rattle.config_grammar.specs.Words as words
 use Rattle.config_tree.specs.Joints.{conjoined, disjoined, conjuncts, disjuncts}
-use Rattle.config_print.specs.declared.conditions.Place.{Place}
-use Rattle.config_print.specs.declared.conditions.Place.TheVariants as at
+use Rattle.config_print.specs.declared.conditions.ConditionContext.{ConditionContext}
+use Rattle.config_print.specs.declared.conditions.ConditionContext.TheVariants as at
 use Rattle.config_print.specs.Tokens.{number_token, parts_of}
 use Rattle.config_print.specs.Layout.{Piece, spaced, tokens_of}
 use Rattle.config_print.specs.Conditions.{condition, members, literal, literal_token, operand, pattern, pattern_token, compared, grouped, row, parts_and, parts_or, conjunct}
@@ -134,19 +134,19 @@ whole_of {d} {ts} {x} j = subst (λ k. g.ReadsCondition d k x) (sym (append_nil 
 -- ---- what a condition with one more joint is printed as
 
 -- a row of joints of one rank
-module _ {J : Type 0} (word : J → Word) (first later : Place) (parts : Place → Bool) (roll : Condition → List (J × Condition) → Condition)
-    (is : (x : Condition) (rest : List (J × Condition)) (place : Place) → condition (roll x rest) place ≡ grouped (parts place) (condition x first ++ row word later rest)) (bare : parts first ≡ false) where
+module _ {J : Type 0} (word : J → Word) (first later : ConditionContext) (parts : ConditionContext → Bool) (roll : Condition → List (J × Condition) → Condition)
+    (is : (x : Condition) (rest : List (J × Condition)) (place : ConditionContext) → condition (roll x rest) place ≡ grouped (parts place) (condition x first ++ row word later rest)) (bare : parts first ≡ false) where
   row_both : (a b : List (J × Condition)) → row word later (a ++ b) ≡ row word later a ++ row word later b
   row_both = flat_map-append (conjunct word later)
 
   -- with one more at its end
-  longer : (x : Condition) (rest : List (J × Condition)) (e : J × Condition) (place : Place) → condition (roll x (rest ++ e ∷ [])) place ≡ grouped (parts place) (condition (roll x rest) first ++ row word later (e ∷ []))
+  longer : (x : Condition) (rest : List (J × Condition)) (e : J × Condition) (place : ConditionContext) → condition (roll x (rest ++ e ∷ [])) place ≡ grouped (parts place) (condition (roll x rest) first ++ row word later (e ∷ []))
   longer x rest e place =
       is x (rest ++ e ∷ []) place ∙ ap (λ r. grouped (parts place) (condition x first ++ r)) (row_both rest (e ∷ []))
       ∙ ap (grouped (parts place)) (sym (append_assoc (condition x first) (row word later rest) (row word later (e ∷ []))))
       ∙ ap (λ l. grouped (parts place) (l ++ row word later (e ∷ []))) (sym (is x rest first ∙ ap (λ b. grouped b (condition x first ++ row word later rest)) bare ∙ append-nil (condition x first ++ row word later rest)))
 
-conjoined_is : (j : Conjunction) (x y : Condition) (place : Place) → condition (conjoined j x y) place ≡ grouped (parts_and place) (condition x at.Joined ++ row w.Conjunction at.Unary ((j, y) ∷ []))
+conjoined_is : (j : Conjunction) (x y : Condition) (place : ConditionContext) → condition (conjoined j x y) place ≡ grouped (parts_and place) (condition x at.Joined ++ row w.Conjunction at.Unary ((j, y) ∷ []))
 conjoined_is j x y place = by (out-Condition x) (roll-out-Condition x)
   where
     by : (o : Condition-F Condition) → roll-Condition o ≡ x → condition (c.Conjoined (conjuncts x o).0 ((conjuncts x o).1 ++ (j, y) ∷ [])) place ≡ grouped (parts_and place) (condition x at.Joined ++ row w.Conjunction at.Unary ((j, y) ∷ []))
@@ -155,7 +155,7 @@ conjoined_is j x y place = by (out-Condition x) (roll-out-Condition x)
         ∙ ap (λ z. grouped (parts_and place) (condition z at.Joined ++ row w.Conjunction at.Unary ((j, y) ∷ []))) (sym (c.rolls-Conjoined first rest) ∙ e)
     by o e = condition-Conjoined x ((j, y) ∷ []) place
 
-disjoined_is : (j : Disjunction) (x y : Condition) (place : Place) → condition (disjoined j x y) place ≡ grouped (parts_or place) (condition x at.Whole ++ row w.Disjunction at.Joined ((j, y) ∷ []))
+disjoined_is : (j : Disjunction) (x y : Condition) (place : ConditionContext) → condition (disjoined j x y) place ≡ grouped (parts_or place) (condition x at.Whole ++ row w.Disjunction at.Joined ((j, y) ∷ []))
 disjoined_is j x y place = by (out-Condition x) (roll-out-Condition x)
   where
     by : (o : Condition-F Condition) → roll-Condition o ≡ x → condition (c.Disjoined (disjuncts x o).0 ((disjuncts x o).1 ++ (j, y) ∷ [])) place ≡ grouped (parts_or place) (condition x at.Whole ++ row w.Disjunction at.Joined ((j, y) ∷ []))
@@ -173,15 +173,15 @@ group_tokens true ps = ap (λ l. t.OpenParen ∷ l) (tokens_both ps _)
 group_tokens false ps = ap tokens_of (append-nil ps)
 
 -- two with a joint between, as tokens
-with_joint : {J : Type 0} (word : J → Word) (a : List Piece) (later : Place) (j : J) (y : Condition) → tokens_of (a ++ row word later ((j, y) ∷ [])) ≡ tokens_of a ++ t.Word (word j) ∷ tokens_of (condition y later)
+with_joint : {J : Type 0} (word : J → Word) (a : List Piece) (later : ConditionContext) (j : J) (y : Condition) → tokens_of (a ++ row word later ((j, y) ∷ [])) ≡ tokens_of a ++ t.Word (word j) ∷ tokens_of (condition y later)
 with_joint word a later j y = tokens_both a (row word later ((j, y) ∷ [])) ∙ ap (λ l. tokens_of a ++ t.Word (word j) ∷ tokens_of l) (append-nil (condition y later))
 
-conjoined_tokens : (j : Conjunction) (x y : Condition) (place : Place)
+conjoined_tokens : (j : Conjunction) (x y : Condition) (place : ConditionContext)
     → tokens_of (condition (conjoined j x y) place) ≡ group (parts_and place) (tokens_of (condition x at.Joined) ++ t.Word (w.Conjunction j) ∷ tokens_of (condition y at.Unary))
 conjoined_tokens j x y place =
     ap tokens_of (conjoined_is j x y place) ∙ group_tokens (parts_and place) (condition x at.Joined ++ row w.Conjunction at.Unary ((j, y) ∷ [])) ∙ ap (group (parts_and place)) (with_joint w.Conjunction (condition x at.Joined) at.Unary j y)
 
-disjoined_tokens : (j : Disjunction) (x y : Condition) (place : Place)
+disjoined_tokens : (j : Disjunction) (x y : Condition) (place : ConditionContext)
     → tokens_of (condition (disjoined j x y) place) ≡ group (parts_or place) (tokens_of (condition x at.Whole) ++ t.Word (w.Disjunction j) ∷ tokens_of (condition y at.Joined))
 disjoined_tokens j x y place =
     ap tokens_of (disjoined_is j x y place) ∙ group_tokens (parts_or place) (condition x at.Whole ++ row w.Disjunction at.Joined ((j, y) ∷ [])) ∙ ap (group (parts_or place)) (with_joint w.Disjunction (condition x at.Whole) at.Joined j y)
@@ -202,7 +202,7 @@ literal_written (l.Number n) = refl
 module _ (Ok : Token → Type 0) (law : Lawful Ok) where
   -- the pieces of a condition are fine at each place, ..
   abbrev Passes : Condition → Type 0
-  Passes x = (place : Place) → AllOf (Fine Ok) (condition x place)
+  Passes x = (place : ConditionContext) → AllOf (Fine Ok) (condition x place)
 
   -- .. and it is read again, at each place
   record Full (d : ℕ) (x : Condition) : Type 0 where
@@ -225,9 +225,9 @@ module _ (Ok : Token → Type 0) (law : Lawful Ok) where
   chain_of_full x f = record { joined = f.joined; part = record { whole = f.whole; above = record { unary = up_unary f.unary; joined = up_joined f.joined; whole = up_condition f.whole; passes = f.passes } } }
 
   -- printed alike at every place
-  flat : {d : ℕ} (x : Condition) (ps : List Piece) → ((place : Place) → condition x place ≡ ps) → g.ReadsUnary d (tokens_of ps) x → AllOf (Fine Ok) ps → Full d x
+  flat : {d : ℕ} (x : Condition) (ps : List Piece) → ((place : ConditionContext) → condition x place ≡ ps) → g.ReadsUnary d (tokens_of ps) x → AllOf (Fine Ok) ps → Full d x
   flat {d} x ps is u f =
-      let there = λ (place : Place). subst (λ k. g.ReadsUnary d (tokens_of k) x) (sym (is place)) u in
+      let there = λ (place : ConditionContext). subst (λ k. g.ReadsUnary d (tokens_of k) x) (sym (is place)) u in
       record { unary = there at.Unary; joined = joined_of (there at.Joined); whole = whole_of (joined_of (there at.Whole)); passes = λ place. subst (AllOf (Fine Ok)) (sym (is place)) f }
 
   -- a token that is always written alike, behind one blank
@@ -242,7 +242,7 @@ module _ (Ok : Token → Type 0) (law : Lawful Ok) where
   between : (y : Token) (a b : List Piece) → Fine Ok (spaced y) → AllOf (Fine Ok) a → AllOf (Fine Ok) b → AllOf (Fine Ok) (a ++ spaced y ∷ b)
   between y a b o h u = all_of_both (Fine Ok) a (spaced y ∷ b) h (o, u)
 
-  joint_pass : {J : Type 0} (word : J → Word) (j : J) (x : List Piece) (y : Condition) (later : Place) → Fine Ok (spaced (t.Word (word j))) → AllOf (Fine Ok) x → Passes y → AllOf (Fine Ok) (x ++ row word later ((j, y) ∷ []))
+  joint_pass : {J : Type 0} (word : J → Word) (j : J) (x : List Piece) (y : Condition) (later : ConditionContext) → Fine Ok (spaced (t.Word (word j))) → AllOf (Fine Ok) x → Passes y → AllOf (Fine Ok) (x ++ row word later ((j, y) ∷ []))
   joint_pass word j x y later o h u = between (t.Word (word j)) x (condition y later ++ []) o h (all_of_both (Fine Ok) (condition y later) [] (u later) tt)
 
   -- the members of a list, behind its `[`
@@ -309,7 +309,7 @@ module _ (Ok : Token → Type 0) (law : Lawful Ok) where
   chain_and : {d : ℕ} (j : Conjunction) (x r : Condition) → Chain d x → Full d r → Chain d (conjoined j x r)
   chain_and {d} j x r q f =
       let y = conjoined j x r in
-      let is = λ (place : Place). sym (conjoined_tokens j x r place) in
+      let is = λ (place : ConditionContext). sym (conjoined_tokens j x r place) in
       let k = joined_and j q.joined f.unary in
       let at_joined = subst (λ l. g.ReadsJoined d l y) (is at.Joined) k in
       let at_whole = subst (λ l. g.ReadsCondition d l y) (is at.Whole) (whole_of k) in
@@ -326,7 +326,7 @@ module _ (Ok : Token → Type 0) (law : Lawful Ok) where
   part_or : {d : ℕ} (j : Disjunction) (x r : Condition) → Part d x → Chain d r → Part d (disjoined j x r)
   part_or {d} j x r q f =
       let y = disjoined j x r in
-      let is = λ (place : Place). sym (disjoined_tokens j x r place) in
+      let is = λ (place : ConditionContext). sym (disjoined_tokens j x r place) in
       let k = condition_or j q.whole f.joined in
       let at_whole = subst (λ l. g.ReadsCondition d l y) (is at.Whole) k in
       let ps = condition x at.Whole ++ row w.Disjunction at.Joined ((j, r) ∷ []) in

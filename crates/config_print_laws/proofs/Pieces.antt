@@ -8,8 +8,8 @@ use Rattle.config_lex.specs.Bytes.{is_blank}
 use Rattle.config_lex.specs.Lexemes.{word_of}
 use Rattle.config_print.specs.Tokens.{is_word, is_branch_word, name_token, plugin_token}
 use Rattle.config_print.specs.Layout.{Piece, spaced, tokens_of}
-use Rattle.config_print.specs.declared.values.Margin.{Margin}
-use Rattle.config_print.specs.declared.values.Margin.TheVariants as line
+use Rattle.config_print.specs.declared.values.Indent.{Indent}
+use Rattle.config_print.specs.declared.values.Indent.TheVariants as line
 use Rattle.config_print.specs.Printed.{indentation, gap}
 use Rattle.config_print.proofs.Layouts.{tokens_both}
 
@@ -43,7 +43,7 @@ indentation_blanks : (n : ℕ) → AreBlanks (indentation n)
 indentation_blanks zero = tt
 indentation_blanks (suc n) = (refl, (refl, indentation_blanks n))
 
-pub gap_is : (m : Margin) → IsGap (gap m)
+pub gap_is : (m : Indent) → IsGap (gap m)
 gap_is line.OneLine = (refl, tt)
 gap_is (line.Level n) = (refl, indentation_blanks n)
 

@@ -7,7 +7,7 @@ use Rattle.config_grammar.specs.Grammar.{ReadsConfig, ReadsCondition, ReadsSetti
 use Rattle.config_tree.specs.Joining.{Entries}
 use Rattle.config_lex.specs.Lexemes.{tokens as tokens_in}
 use Rattle.config_grammar.specs.Texts.{Reads}
-use Rattle.config_print.specs.declared.conditions.Place.TheVariants as at
+use Rattle.config_print.specs.declared.conditions.ConditionContext.TheVariants as at
 use Rattle.config_print.specs.Layout.{tokens_of}
 use Rattle.config_print.specs.Conditions.{condition}
 use Rattle.config_print.specs.Printed.{pieces, printed}

@@ -1,3 +1,4 @@
+// The calls on an event that a row of a table names.
 ghost use Rattle.std.specs.Prelude.{◌≡◌, IfOk};
 ghost use Rattle.event_text.specs.Template.{text, template_parts};
 

@@ -1,3 +1,4 @@
+// Cutting a table into its cases.
 use std::alloc::{AllocError, Global};
 
 /// The cases of a table: what stands between lines `---`, or its lines where there is no such line.

@@ -1,3 +1,4 @@
+// Events written by the codecs of outputs.
 use crate::cases::first_word;
 use event_text::Template;
 use event_tree::Event;

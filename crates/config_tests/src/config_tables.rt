@@ -11,7 +11,7 @@ use std::{fs, io};
 
 /// What the cases of a table are.
 #[derive(Clone, Copy)]
-enum Table {
+enum ConfigTable {
     /// Texts, of which the tokens are told.
     Tokens,
     /// Texts of configurations, of which the trees or faults are told.
@@ -34,35 +34,35 @@ enum Table {
     Rows,
 }
 
-const TABLES: [(&str, Table); 28] = [
-    ("tokens", Table::Tokens),
-    ("sections", Table::Outcomes),
-    ("names", Table::Outcomes),
-    ("values", Table::Outcomes),
-    ("twice", Table::Outcomes),
-    ("branches", Table::Outcomes),
-    ("section_faults", Table::Outcomes),
-    ("setting_faults", Table::Outcomes),
-    ("branch_faults", Table::Outcomes),
-    ("levels", Table::Outcomes),
-    ("faults", Table::Outcomes),
-    ("texts", Table::Outcomes),
-    ("blanks", Table::Blanks),
-    ("printed", Table::Printed),
-    ("strings", Table::Strings),
-    ("conditions", Table::Conditions),
-    ("nested", Table::Conditions),
-    ("compared", Table::Conditions),
-    ("readers", Table::Readers),
-    ("refusals", Table::Refusals),
-    ("operands", Table::Truths),
-    ("sides", Table::Truths),
-    ("orders", Table::Truths),
-    ("members", Table::Truths),
-    ("matches", Table::Truths),
-    ("joints", Table::Truths),
-    ("pairs", Table::Truths),
-    ("rows", Table::Rows),
+const TABLES: [(&str, ConfigTable); 28] = [
+    ("tokens", ConfigTable::Tokens),
+    ("sections", ConfigTable::Outcomes),
+    ("names", ConfigTable::Outcomes),
+    ("values", ConfigTable::Outcomes),
+    ("twice", ConfigTable::Outcomes),
+    ("branches", ConfigTable::Outcomes),
+    ("section_faults", ConfigTable::Outcomes),
+    ("setting_faults", ConfigTable::Outcomes),
+    ("branch_faults", ConfigTable::Outcomes),
+    ("levels", ConfigTable::Outcomes),
+    ("faults", ConfigTable::Outcomes),
+    ("texts", ConfigTable::Outcomes),
+    ("blanks", ConfigTable::Blanks),
+    ("printed", ConfigTable::Printed),
+    ("strings", ConfigTable::Strings),
+    ("conditions", ConfigTable::Conditions),
+    ("nested", ConfigTable::Conditions),
+    ("compared", ConfigTable::Conditions),
+    ("readers", ConfigTable::Readers),
+    ("refusals", ConfigTable::Refusals),
+    ("operands", ConfigTable::Truths),
+    ("sides", ConfigTable::Truths),
+    ("orders", ConfigTable::Truths),
+    ("members", ConfigTable::Truths),
+    ("matches", ConfigTable::Truths),
+    ("joints", ConfigTable::Truths),
+    ("pairs", ConfigTable::Truths),
+    ("rows", ConfigTable::Rows),
 ];
 
 /// What tables speak of besides their cases.
@@ -98,7 +98,12 @@ fn read_given(rt: &HostRuntime) -> io::Result<Given> {
     Ok(Given { settings, event })
 }
 
-fn print_answers(rt: &HostRuntime, given: &Given, table: Table, text: &str) -> io::Result<()> {
+fn print_answers(
+    rt: &HostRuntime,
+    given: &Given,
+    table: ConfigTable,
+    text: &str,
+) -> io::Result<()> {
     for case in cases_of(rt.alloc(), text)? {
         let answer = answer(rt.alloc(), given, table, case)?;
         println!(rt; "{answer}")?;
@@ -107,17 +112,22 @@ fn print_answers(rt: &HostRuntime, given: &Given, table: Table, text: &str) -> i
 }
 
 /// What is answered in a case of a table.
-fn answer(alloc: Global, given: &Given, table: Table, case: &str) -> Result<String, AllocError> {
+fn answer(
+    alloc: Global,
+    given: &Given,
+    table: ConfigTable,
+    case: &str,
+) -> Result<String, AllocError> {
     match table {
-        Table::Tokens => marks::marks_of(alloc, case),
-        Table::Outcomes => printed::outcome(alloc, case),
-        Table::Blanks => printed::outcome_of_blanks(alloc, case),
-        Table::Printed => printed::text(alloc, case),
-        Table::Strings => printed::string(alloc, case),
-        Table::Conditions => printed::condition(alloc, case),
-        Table::Readers => readers::answer(alloc, &given.settings, case),
-        Table::Refusals => readers::refusal(alloc, case),
-        Table::Truths => truths::answer(alloc, &given.event, case),
-        Table::Rows => rows::answer(alloc, &given.event, case),
+        ConfigTable::Tokens => marks::marks_of(alloc, case),
+        ConfigTable::Outcomes => printed::outcome(alloc, case),
+        ConfigTable::Blanks => printed::outcome_of_blanks(alloc, case),
+        ConfigTable::Printed => printed::text(alloc, case),
+        ConfigTable::Strings => printed::string(alloc, case),
+        ConfigTable::Conditions => printed::condition(alloc, case),
+        ConfigTable::Readers => readers::answer(alloc, &given.settings, case),
+        ConfigTable::Refusals => readers::refusal(alloc, case),
+        ConfigTable::Truths => truths::answer(alloc, &given.event, case),
+        ConfigTable::Rows => rows::answer(alloc, &given.event, case),
     }
 }

@@ -1,3 +1,4 @@
+// Encodings of events, written in base 16.
 use crate::json;
 use element_code::{decode, encode};
 use event_tree::Event;

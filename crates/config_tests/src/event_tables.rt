@@ -12,7 +12,7 @@ use std::{fs, io};
 
 /// What the cases of a table are.
 #[derive(Clone, Copy)]
-enum Table {
+enum EventTable {
     /// Texts that are read as JSON.
     JsonTexts,
     /// The same in base 16.
@@ -35,31 +35,31 @@ enum Table {
     Calls,
 }
 
-const TABLES: [(&str, Table); 24] = [
-    ("json_texts", Table::JsonTexts),
-    ("json_faults", Table::JsonTexts),
-    ("json_levels", Table::JsonTexts),
-    ("json_bytes", Table::JsonBytes),
-    ("elements", Table::Elements),
-    ("element_faults", Table::Elements),
-    ("cut_elements", Table::Elements),
-    ("nested_elements", Table::Elements),
-    ("large_elements", Table::Elements),
-    ("paths", Table::Paths),
-    ("same_paths", Table::SamePaths),
-    ("numbers", Table::Numbers),
-    ("number_texts", Table::NumberTexts),
-    ("digits", Table::Digits),
-    ("times", Table::Times),
-    ("calls", Table::Calls),
-    ("deep_calls", Table::Calls),
-    ("large_calls", Table::Calls),
-    ("event_values", Table::Calls),
-    ("event_fields", Table::Calls),
-    ("dates", Table::Calls),
-    ("no_moment", Table::Calls),
-    ("no_fields", Table::Calls),
-    ("days", Table::Calls),
+const TABLES: [(&str, EventTable); 24] = [
+    ("json_texts", EventTable::JsonTexts),
+    ("json_faults", EventTable::JsonTexts),
+    ("json_levels", EventTable::JsonTexts),
+    ("json_bytes", EventTable::JsonBytes),
+    ("elements", EventTable::Elements),
+    ("element_faults", EventTable::Elements),
+    ("cut_elements", EventTable::Elements),
+    ("nested_elements", EventTable::Elements),
+    ("large_elements", EventTable::Elements),
+    ("paths", EventTable::Paths),
+    ("same_paths", EventTable::SamePaths),
+    ("numbers", EventTable::Numbers),
+    ("number_texts", EventTable::NumberTexts),
+    ("digits", EventTable::Digits),
+    ("times", EventTable::Times),
+    ("calls", EventTable::Calls),
+    ("deep_calls", EventTable::Calls),
+    ("large_calls", EventTable::Calls),
+    ("event_values", EventTable::Calls),
+    ("event_fields", EventTable::Calls),
+    ("dates", EventTable::Calls),
+    ("no_moment", EventTable::Calls),
+    ("no_fields", EventTable::Calls),
+    ("days", EventTable::Calls),
 ];
 
 /// Prints what is answered in each case of the tables of events.
@@ -73,7 +73,7 @@ pub fn print_tables(rt: &HostRuntime) -> io::Result<()> {
     print_want_of_memory(rt)
 }
 
-fn print_answers(rt: &HostRuntime, table: Table, text: &str) -> io::Result<()> {
+fn print_answers(rt: &HostRuntime, table: EventTable, text: &str) -> io::Result<()> {
     let mut event = Event::new(rt.alloc());
     for case in cases_of(rt.alloc(), text)? {
         let mut answer = String::new(rt.alloc());
@@ -87,20 +87,20 @@ fn print_answers(rt: &HostRuntime, table: Table, text: &str) -> io::Result<()> {
 fn add_answer(
     to: &mut String,
     event: &mut Event,
-    table: Table,
+    table: EventTable,
     case: &str,
 ) -> Result<(), AllocError> {
     match table {
-        Table::JsonTexts => json::read_back(to, case.as_bytes()),
-        Table::JsonBytes => json::read_back(to, &bytes_of(*to.allocator(), case)?),
-        Table::Elements => elements::read_back(to, case),
-        Table::Paths => paths::add_parts(to, case),
-        Table::SamePaths => paths::add_comparison(to, case),
-        Table::Numbers => numbers::add_least(to, case),
-        Table::NumberTexts => numbers::add_read(to, case),
-        Table::Digits => numbers::add_from_digits(to, case),
-        Table::Times => numbers::add_moment(to, case),
-        Table::Calls => calls::call(to, event, case),
+        EventTable::JsonTexts => json::read_back(to, case.as_bytes()),
+        EventTable::JsonBytes => json::read_back(to, &bytes_of(*to.allocator(), case)?),
+        EventTable::Elements => elements::read_back(to, case),
+        EventTable::Paths => paths::add_parts(to, case),
+        EventTable::SamePaths => paths::add_comparison(to, case),
+        EventTable::Numbers => numbers::add_least(to, case),
+        EventTable::NumberTexts => numbers::add_read(to, case),
+        EventTable::Digits => numbers::add_from_digits(to, case),
+        EventTable::Times => numbers::add_moment(to, case),
+        EventTable::Calls => calls::call(to, event, case),
     }
 }
 

@@ -1,3 +1,4 @@
+// JSON texts of values, written and read back.
 ghost use Rattle.std.specs.Prelude.{◌≡◌, IfOk};
 ghost use Rattle.event_json.specs.Json as spec;
 

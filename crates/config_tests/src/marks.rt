@@ -1,3 +1,4 @@
+// The tokens of a text as marks with their places.
 ghost use Rattle.std.specs.Prelude.{◌≡◌};
 ghost use Rattle.config_tests.specs.Marks as spec;
 

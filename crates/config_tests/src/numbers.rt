@@ -1,3 +1,4 @@
+// Decimal numbers: read, in least form, and from digits.
 ghost use Rattle.std.specs.Prelude.{◌≡◌, option_map, IsTrue};
 ghost use Rattle.event_tree.specs.NumberTexts.{AreDigits};
 

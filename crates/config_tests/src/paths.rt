@@ -1,3 +1,4 @@
+// Paths: their parts, faults and comparisons.
 use crate::cases::first_word;
 use event_tree::Path;
 use std::alloc::AllocError;

@@ -1,3 +1,4 @@
+// Printing configurations and reading them again.
 use crate::again::again;
 use crate::show::add_config;
 use config_parse::{ConfigFault, parse};

@@ -1,3 +1,4 @@
+// The readers of settings on the settings of a text.
 use crate::cases::first_word;
 use crate::show::{add_array, add_hash, add_number, add_text};
 use config_parse::parse;

@@ -1,3 +1,4 @@
+// What conditions say of events.
 ghost use Rattle.std.specs.Prelude.{IfOk};
 ghost use Rattle.condition_eval.specs.Truths.{truth};
 ghost use Rattle.config_tests.specs.Outcomes.{IsOutcome};
@@ -13,7 +14,7 @@ use std::alloc::{AllocError, Global};
 
 /// What comes of a condition's text.
 #[derive(Drop)]
-pub enum Outcome {
+pub enum ConditionResult {
     /// It says this of the event.
     Said(Truth),
     /// It reads as no condition.
@@ -25,42 +26,42 @@ pub enum Outcome {
 /// What the condition of this text says of the event, as a text.
 pub fn answer(alloc: Global, event: &Event, text: &str) -> Result<String, AllocError> {
     match outcome_of(alloc, text, event)? {
-        Outcome::Said(Truth::Yes) => String::from_str(alloc, "yes"),
-        Outcome::Said(Truth::No) => String::from_str(alloc, "no"),
-        Outcome::Said(Truth::Wrong(reason)) => format!(in alloc; "{reason}"),
-        Outcome::Unread => String::from_str(alloc, "no condition"),
-        Outcome::BadPattern => String::from_str(alloc, "bad pattern"),
+        ConditionResult::Said(Truth::Yes) => String::from_str(alloc, "yes"),
+        ConditionResult::Said(Truth::No) => String::from_str(alloc, "no"),
+        ConditionResult::Said(Truth::Wrong(reason)) => format!(in alloc; "{reason}"),
+        ConditionResult::Unread => String::from_str(alloc, "no condition"),
+        ConditionResult::BadPattern => String::from_str(alloc, "bad pattern"),
     }
 }
 
 /// What the condition of this text says of the event.
-fn outcome_of(alloc: Global, text: &str, event: &Event) -> Result<Outcome, AllocError> {
+fn outcome_of(alloc: Global, text: &str, event: &Event) -> Result<ConditionResult, AllocError> {
     let source = format!(in alloc; "filter {{ if {text} {{ }} }}")?;
     let Ok(config) = parse(alloc, source.as_str()) else {
-        return Ok(Outcome::Unread);
+        return Ok(ConditionResult::Unread);
     };
     match config.filters.get(0) {
         Some(Statement::Branch(arms)) => match arms.get(0) {
             Some(arm) => match &arm.condition {
                 Some(condition) => said(alloc, condition, event),
-                None => Ok(Outcome::Unread),
+                None => Ok(ConditionResult::Unread),
             },
-            None => Ok(Outcome::Unread),
+            None => Ok(ConditionResult::Unread),
         },
-        _ => Ok(Outcome::Unread),
+        _ => Ok(ConditionResult::Unread),
     }
 }
 
 /// What the condition says, or that one of its patterns is refused.
-fn said(alloc: Global, condition: &Condition, event: &Event) -> Result<Outcome, AllocError>
+fn said(alloc: Global, condition: &Condition, event: &Event) -> Result<ConditionResult, AllocError>
     ensures { IfOk result (IsOutcome (truth condition.now event.now)) }
 {
     match patterns_of(alloc, condition) {
         Ok(patterns) => {
             let mut patterns = patterns;
-            Ok(Outcome::Said(eval(condition, &mut patterns, event)?))
+            Ok(ConditionResult::Said(eval(condition, &mut patterns, event)?))
         }
-        Err(PatternFault::BadPattern) => Ok(Outcome::BadPattern),
+        Err(PatternFault::BadPattern) => Ok(ConditionResult::BadPattern),
         Err(PatternFault::Memory) => Err(AllocError),
     }
 }

@@ -1,3 +1,4 @@
+// Why settings of a plugin are refused.
 use plain_data::Text;
 use std::alloc::AllocError;
 use thiserror::Error;

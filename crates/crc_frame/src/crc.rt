@@ -1,3 +1,4 @@
+// CRC-32 by tables, sixteen bytes at a step.
 ghost use Rattle.std.specs.Prelude.{◌≡◌, ◌<◌, ◌≤◌, ◌%◌, [], ◌∷◌, ◌++◌, length, replicate};
 ghost use Rattle.crc_frame.specs.Crc.{crc32, is_checked, remainder_after};
 

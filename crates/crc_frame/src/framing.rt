@@ -1,3 +1,4 @@
+// Writing of frames: a number, a length, a body and a CRC-32.
 ghost use Rattle.std.specs.Prelude.{◌≡◌, ◌+◌, ◌^◌, ◌<◌, ◌≤◌, ◌++◌, length, vec_len, vec_capacity, OnOk, OnErr, IsOk};
 ghost use Rattle.byteorder.specs.Endian.{big_bytes};
 ghost use Rattle.crc_frame.specs.Crc.{crc32};

@@ -1,3 +1,4 @@
+// The newest intact one of a file's two slots.
 ghost use Rattle.std.specs.Prelude.{◌≡◌, ◌≢◌, ℕ, ◌≤◌, length, IsTrue, false, IfSome, IfNone};
 ghost use Rattle.crc_frame.specs.Slots.{place_of, slot_bytes, turn_of, is_slot, is_intact, slot_at, is_newer, newest_of, newest_slot};
 

@@ -1,3 +1,4 @@
+// Reading of the frame in front of some bytes.
 ghost use Rattle.std.specs.Prelude.{◌≡◌, ◌≢◌, ℕ, ◌+◌, ◌^◌, ◌<◌, List, ◌++◌, length, drop, option_map, IfSome, IfNone};
 ghost use Rattle.crc_frame.specs.Frames.{frame_of, unframed, element_of};
 

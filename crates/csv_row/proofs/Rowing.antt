@@ -15,8 +15,8 @@ use Rattle.csv.specs.declared.parser.State.TheVariants as st
 use Rattle.csv.specs.declared.reader.Reader.{Reader}
 use Rattle.csv.specs.Reading.{reader_config, reader_state}
 use Rattle.csv_row.specs.Readers.{Says, Behind}
-use Rattle.csv_row.specs.declared.Next.{Next}
-use Rattle.csv_row.specs.declared.Next.TheVariants as next
+use Rattle.csv_row.specs.declared.NextRow.{NextRow}
+use Rattle.csv_row.specs.declared.NextRow.TheVariants as next
 use Rattle.csv_row.specs.Rows.{Row, form, only, rows, text_row, one_row}
 
 all_text : (row : Row) → AllText row → list_all is_utf8 row ≡ true
@@ -94,7 +94,7 @@ pub behind : {R : Type 0} (rem : R → Option (List ℕ)) (found : Option Read) 
 behind rem None row a b says = elim says [ ]
 behind rem (Some p) row a b says = (p, refl, says)
 
-refused_by : {R : Type 0} (rem : R → Option (List ℕ)) (separator quote : ℕ) (s : List ℕ) (row : Row) (a b : Reader R) (n : Next) (found : Option Read)
+refused_by : {R : Type 0} (rem : R → Option (List ℕ)) (separator quote : ℕ) (s : List ℕ) (row : Row) (a b : Reader R) (n : NextRow) (found : Option Read)
     → first separator quote s ≡ found → (n ≡ next.NoText) ⊎ (n ≡ next.End) → Says rem n found row a b → one_row separator quote s ≡ None
 refused_by rem separator quote s row a b n None is (inl e) says = elim (rw e at says) [ ]
 refused_by rem separator quote s row a b n (Some p) is (inl e) says = no_text separator quote s p is (rw e at says)
@@ -102,24 +102,24 @@ refused_by rem separator quote s row a b n None is (inr e) says = no_row separat
 refused_by rem separator quote s row a b n (Some p) is (inr e) says = elim (rw e at says) [ ]
 
 -- the first read found no row of text
-pub refused : {R : Type 0} (rem : R → Option (List ℕ)) (separator quote : ℕ) (s : List ℕ) (row : Row) (a b : Reader R) (n : Next)
+pub refused : {R : Type 0} (rem : R → Option (List ℕ)) (separator quote : ℕ) (s : List ℕ) (row : Row) (a b : Reader R) (n : NextRow)
     → reader_config a ≡ form separator quote → reader_state a ≡ st.StartRecord → (n ≡ next.NoText) ⊎ (n ≡ next.End)
     → Says rem n (next_record (reader_config a) (reader_state a) [] [] (strip_bom s)) row a b → one_row separator quote s ≡ None
 refused rem separator quote s row a b n config state no_row_is says = refused_by rem separator quote s row a b n _ refl no_row_is
     (subst (λ found. Says rem n found row a b) (ap₂ (λ cfg at. next_record cfg at [] [] (strip_bom s)) config state) says)
 
-others_by : {R : Type 0} (rem : R → Option (List ℕ)) (row : Row) (b c : Reader R) (n : Next) (found : Option Read)
+others_by : {R : Type 0} (rem : R → Option (List ℕ)) (row : Row) (b c : Reader R) (n : NextRow) (found : Option Read)
     → (n ≡ next.Row) ⊎ (n ≡ next.NoText) → Says rem n found row b c → (q : Read) × (found ≡ Some q)
 others_by rem row b c n None (inl e) says = elim (rw e at says) [ ]
 others_by rem row b c n None (inr e) says = elim (rw e at says) [ ]
 others_by rem row b c n (Some q) is says = (q, refl)
 
-end_by : {R : Type 0} (rem : R → Option (List ℕ)) (row : Row) (b c : Reader R) (n : Next) (found : Option Read)
+end_by : {R : Type 0} (rem : R → Option (List ℕ)) (row : Row) (b c : Reader R) (n : NextRow) (found : Option Read)
     → n ≡ next.End → Says rem n found row b c → found ≡ None
 end_by rem row b c n None e says = refl
 end_by rem row b c n (Some q) e says = elim (rw e at says) [ ]
 
-module _ {R : Type 0} (rem : R → Option (List ℕ)) (separator quote : ℕ) (s : List ℕ) (row other : Row) (a b c : Reader R) (p : Read) (n : Next)
+module _ {R : Type 0} (rem : R → Option (List ℕ)) (separator quote : ℕ) (s : List ℕ) (row other : Row) (a b c : Reader R) (p : Read) (n : NextRow)
     (config : reader_config a ≡ form separator quote) (state : reader_state a ≡ st.StartRecord)
     (is : next_record (reader_config a) (reader_state a) [] [] (strip_bom s) ≡ Some p) (found : Behind rem p row a b)
     (says : Says rem n (next_record (reader_config b) (reader_state b) [] [] p.2) other b c) where

@@ -5,8 +5,8 @@ use Rattle.csv.specs.Reading.{Ready, source_of, reader_config, reader_state, rea
 use Rattle.csv.specs.Records.{AllText}
 use Rattle.csv.specs.declared.reader.Reader.{Reader}
 use Rattle.csv.specs.declared.reader.Trim.TheVariants as trim
-use Rattle.csv_row.specs.declared.Next.{Next}
-use Rattle.csv_row.specs.declared.Next.TheVariants as next
+use Rattle.csv_row.specs.declared.NextRow.{NextRow}
+use Rattle.csv_row.specs.declared.NextRow.TheVariants as next
 
 -- the reader gives the next row of these bytes, of whatever length, with all its blanks
 pub record Stands {R : Type 0} (rem : R → Option (List ℕ)) (bytes : List ℕ) (r : Reader R) : Type 0 where
@@ -24,7 +24,7 @@ pub record Behind {R : Type 0} (rem : R → Option (List ℕ)) (read : Read) (ro
   pub stands : Stands rem read.2 new
 
 -- what a read finds is the next row of the bytes
-abbrev pub Says : {R : Type 0} → (R → Option (List ℕ)) → Next → Option Read → List (List ℕ) → Reader R → Reader R → Type 0
+abbrev pub Says : {R : Type 0} → (R → Option (List ℕ)) → NextRow → Option Read → List (List ℕ) → Reader R → Reader R → Type 0
 Says rem next.Row None row old new = ⊥
 Says rem next.Row (Some read) row old new = Behind rem read row old new
 Says rem next.NoText None row old new = ⊥

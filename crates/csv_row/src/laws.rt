@@ -1,3 +1,4 @@
+// The law that a row of CSV is the only one of its text.
 ghost use Rattle.std.specs.Prelude.{◌≡◌, ◌<◌, ℕ, List, IsUtf8};
 ghost use Rattle.csv_row.specs.Rows.{one_row, only, rows};
 

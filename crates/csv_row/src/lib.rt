@@ -42,13 +42,13 @@ fn only_row(alloc: Global, reader: &mut Reader<&[u8]>) -> Result<Option<Names>, 
 {
     let mut row = StringRecord::new(alloc);
     match read_next(reader, &mut row)? {
-        Next::Row => {}
-        Next::NoText | Next::End => return Ok(None),
+        NextRow::Row => {}
+        NextRow::NoText | NextRow::End => return Ok(None),
     }
     let mut other = StringRecord::new(alloc);
     match read_next(reader, &mut other)? {
-        Next::End => Ok(Some(fields(alloc, &row)?)),
-        Next::Row | Next::NoText => Ok(None),
+        NextRow::End => Ok(Some(fields(alloc, &row)?)),
+        NextRow::Row | NextRow::NoText => Ok(None),
     }
 }
 
@@ -68,7 +68,7 @@ fn reader_of(alloc: Global, text: &str, separator: u8, quote: u8) -> Reader<&[u8
 
 /// What a reader finds next.
 #[derive(Clone, Copy)]
-enum Next {
+enum NextRow {
     /// A row of text.
     Row,
     /// A row with a field that is no text.
@@ -78,17 +78,17 @@ enum Next {
 }
 
 /// Reads the next row. A slice can't fail, so that no error but that of memory is met beside `Utf8`.
-fn read_next(reader: &mut Reader<&[u8]>, row: &mut StringRecord) -> Result<Next, AllocError>
+fn read_next(reader: &mut Reader<&[u8]>, row: &mut StringRecord) -> Result<NextRow, AllocError>
     ensures { (left : List ℕ) → readers.Stands (λ source. Some source.now) left reader.old
         → IfOk result (λ next. readers.Says (λ source. Some source.now) next
         (next_record (reader_config reader.old) (reader_state reader.old) [] [] left)
         (fields_of row.new) reader.old reader.new) }
 {
     match reader.read_record(row) {
-        Ok(true) => Ok(Next::Row),
-        Ok(false) => Ok(Next::End),
+        Ok(true) => Ok(NextRow::Row),
+        Ok(false) => Ok(NextRow::End),
         Err(error) => match error.kind() {
-            ErrorKind::Utf8 { .. } => Ok(Next::NoText),
+            ErrorKind::Utf8 { .. } => Ok(NextRow::NoText),
             _ => Err(AllocError),
         },
     }

@@ -25,8 +25,8 @@ use Rattle.dead_letters.specs.Appends.{append_to}
 use Rattle.dead_letters.specs.Views.{DeadQueue, IsOwn, names_from, last_of, named, sheds, joining, taken_by, behind_append}
 use Rattle.dead_letters.specs.Ready.{files_from, held_now, IsReady, LeavesOldOrNew, IsAppended}
 use Rattle.dead_letters.specs.declared.letter.DeadLetter.{DeadLetter}
-use Rattle.dead_letters.specs.declared.counting.Segments.{Segments}
-use Rattle.dead_letters.specs.declared.counting.Counted.TheVariants.{Count}
+use Rattle.dead_letters.specs.declared.segments.Segments.{Segments}
+use Rattle.dead_letters.specs.declared.segments.Counted.TheVariants.{Count}
 use Rattle.dead_letters.proofs.NamesApart.{names_differ}
 use Rattle.dead_letters.proofs.SegmentSlots.{comes_next}
 use Rattle.dead_letters.proofs.Growing.{files_same, is_none_of, segment_apart, laid_other}

@@ -31,8 +31,8 @@ use Rattle.dead_letters.specs.Segments.{segments, said_by, slot_says, damaged_at
 use Rattle.dead_letters.specs.Found.{Held, bytes_in, held_first, found_by, found}
 use Rattle.dead_letters.specs.Views.{IsOwn}
 use Rattle.dead_letters.specs.Trimming.{IsFirst, StaysHeld}
-use Rattle.dead_letters.specs.declared.counting.Segments.{Segments}
-use Rattle.dead_letters.specs.declared.counting.Counted.TheVariants.{Nothing, Count, Damaged}
+use Rattle.dead_letters.specs.declared.segments.Segments.{Segments}
+use Rattle.dead_letters.specs.declared.segments.Counted.TheVariants.{Nothing, Count, Damaged}
 use Rattle.dead_letters.proofs.NamesApart.{names_differ}
 use Rattle.dead_letters.proofs.AppendRun.{names_apart}
 use Rattle.dead_letters.proofs.OpenedReads.{held_ok}

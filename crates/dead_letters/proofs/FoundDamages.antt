@@ -11,9 +11,9 @@ use Rattle.out_files.proofs.Holding.{damages_differ as outputs_differ}
 use Rattle.dead_letters.specs.Queues.{segment, names, position, name_in}
 use Rattle.dead_letters.specs.Segments.{counted_in}
 use Rattle.dead_letters.specs.Found.{bytes_in, held_in, held_by, held_first, found_by, FoundDamagesDiffer}
-use Rattle.dead_letters.specs.declared.counting.Segments.{Segments}
-use Rattle.dead_letters.specs.declared.counting.Counted.{Counted}
-use Rattle.dead_letters.specs.declared.counting.Counted.TheVariants.{Nothing, Count, Damaged}
+use Rattle.dead_letters.specs.declared.segments.Segments.{Segments}
+use Rattle.dead_letters.specs.declared.segments.Counted.{Counted}
+use Rattle.dead_letters.specs.declared.segments.Counted.TheVariants.{Nothing, Count, Damaged}
 use Rattle.dead_letters.proofs.SegmentSlots.{damages_differ}
 
 -- of a last segment that is too short

@@ -18,7 +18,7 @@ use Rattle.dead_letters.specs.Appends.{size_of, with_records, append_to, kept_fr
 use Rattle.dead_letters.specs.Views.{DeadQueue, names_from, last_of, held_last, named, sheds, joining, taken_by, sizes_with, behind_append}
 use Rattle.dead_letters.specs.Ready.{files_from, held_now, IsSaid}
 use Rattle.dead_letters.specs.declared.letter.DeadLetter.{DeadLetter}
-use Rattle.dead_letters.specs.declared.counting.Counted.TheVariants.{Count}
+use Rattle.dead_letters.specs.declared.segments.Counted.TheVariants.{Count}
 use Rattle.dead_letters.proofs.QueueNames.{pieces_make_segments}
 use Rattle.std.proofs.lemmas.List.Sums.{get_or-le-sum_by}
 use Rattle.dead_letters.proofs.Kept.{one_stays, kept_map, last_fits}

@@ -7,7 +7,7 @@ use Rattle.std.proofs.lemmas.List.Elements.{Contains-append_cases}
 use Rattle.io_traits.specs.Folders.{Content, IsPart, folder_start, Lists}
 use Rattle.dead_letters.specs.Queues.{segment, segment_name, name_in}
 use Rattle.dead_letters.specs.Trimming.{IsOther, AreAllOthers}
-use Rattle.dead_letters.specs.declared.counting.Segments.{Segments}
+use Rattle.dead_letters.specs.declared.segments.Segments.{Segments}
 
 -- ---- names without a slash
 

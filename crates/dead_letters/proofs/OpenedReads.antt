@@ -19,8 +19,8 @@ use Rattle.dead_letters.specs.Views.{DeadQueue, last_of, held_last}
 use Rattle.dead_letters.specs.Ready.{files_from, held_now, IsSaid}
 use Rattle.dead_letters.specs.Opening.{IsCleared}
 use Rattle.dead_letters.specs.Trimming.{IsOther, IsOfOther, IsCut, AreAllOthers, Trims, StaysHeld, sizes_cut, opened_queue}
-use Rattle.dead_letters.specs.declared.counting.Segments.{Segments}
-use Rattle.dead_letters.specs.declared.counting.Counted.TheVariants.{Count}
+use Rattle.dead_letters.specs.declared.segments.Segments.{Segments}
+use Rattle.dead_letters.specs.declared.segments.Counted.TheVariants.{Count}
 use Rattle.dead_letters.proofs.Growing.{segment_apart, files_same, files_split}
 use Rattle.dead_letters.proofs.Joining.{cut_is, last_size}
 use Rattle.dead_letters.proofs.AppendRun.{names_apart}

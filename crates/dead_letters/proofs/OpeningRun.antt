@@ -18,9 +18,9 @@ use Rattle.dead_letters.specs.Found.{Held, bytes_in, found}
 use Rattle.dead_letters.specs.Views.{IsOwn}
 use Rattle.dead_letters.specs.Opening.{NoChances, HoldsStill, LeavesHeld}
 use Rattle.dead_letters.specs.Trimming.{IsCut, IsExcess, IsOpened, StaysHeld, Trims, sizes_cut}
-use Rattle.dead_letters.specs.declared.counting.Segments.{Segments}
-use Rattle.dead_letters.specs.declared.counting.Counted.TheVariants.{Count}
-use Rattle.dead_letters.specs.declared.opening.Opened.{Opened}
+use Rattle.dead_letters.specs.declared.segments.Segments.{Segments}
+use Rattle.dead_letters.specs.declared.segments.Counted.TheVariants.{Count}
+use Rattle.dead_letters.specs.declared.opening.OpenedLetters.{OpenedLetters}
 use Rattle.dead_letters.specs.declared.trimming.Excess.{Excess}
 use Rattle.dead_letters.proofs.OpenedReads.{none_counted, other_own, trimmed, said, held, cleared}
 
@@ -74,7 +74,7 @@ module _ {S : Type 0} (store : StoreWords S) (tell : ImagesTell store) (folder :
   beside_looked old mid nothing told name outside = ap (λ (c : Content). c name) (nothing.reads told)
 
   -- and is open then
-  pub holds_opened : (old mid new : S) → (IsTrue store.tells → found folder (store.seen mid) ≡ found folder (store.seen old)) → (r : Result Opened QueueFault) → IfOk r (λ o. IsOpened store folder o mid new)
+  pub holds_opened : (old mid new : S) → (IsTrue store.tells → found folder (store.seen mid) ≡ found folder (store.seen old)) → (r : Result OpenedLetters QueueFault) → IfOk r (λ o. IsOpened store folder o mid new)
       → IfOk r (λ o. IsOpened store folder o old new)
   holds_opened old mid new same (Ok o) is = record { ready = is.ready; held = λ limit policy told. sym (same told) ∙ is.held limit policy told; cleared = is.cleared }
   holds_opened old mid new same (Err _) is = tt

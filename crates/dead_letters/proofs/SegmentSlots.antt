@@ -11,8 +11,8 @@ use Rattle.crc_frame.proofs.CrcLemmas.{is_checked-append}
 use Rattle.store_changes.specs.Slots.{newest_bytes, ComesNext, next, broken_slot}
 use Rattle.store_changes.proofs.Saying.{by_slot, by_none, by_broken, broken_differs, slot_is_long}
 use Rattle.dead_letters.specs.Segments.{segments, slot_body, slot_spelling, AreSegments, first_of, last_of, length_of, said_by, slot_says, damaged_at_first, counted_in, HasRoom, DamagesDiffer, CountedHaveRoom}
-use Rattle.dead_letters.specs.declared.counting.Segments.{Segments}
-use Rattle.dead_letters.specs.declared.counting.Counted.TheVariants.{Nothing, Count, Damaged}
+use Rattle.dead_letters.specs.declared.segments.Segments.{Segments}
+use Rattle.dead_letters.specs.declared.segments.Counted.TheVariants.{Nothing, Count, Damaged}
 
 -- ---- what a slot spells is read
 

@@ -9,9 +9,9 @@ use Rattle.out_files.specs.Contents.{damage, counted_in as first_version}
 use Rattle.dead_letters.specs.Queues.{segment, names, position, name_in}
 use Rattle.dead_letters.specs.Segments.{segments, counted_in}
 use Rattle.dead_letters.specs.Records.{records_in}
-use Rattle.dead_letters.specs.declared.counting.Segments.{Segments}
-use Rattle.dead_letters.specs.declared.counting.Counted.{Counted}
-use Rattle.dead_letters.specs.declared.counting.Counted.TheVariants.{Nothing, Count, Damaged}
+use Rattle.dead_letters.specs.declared.segments.Segments.{Segments}
+use Rattle.dead_letters.specs.declared.segments.Counted.{Counted}
+use Rattle.dead_letters.specs.declared.segments.Counted.TheVariants.{Nothing, Count, Damaged}
 use Rattle.dead_letters.specs.declared.letter.DeadLetter.{DeadLetter}
 use Rattle.dead_letters.specs.declared.faults.RecordFault.{RecordFault}
 

@@ -14,7 +14,7 @@ use Rattle.dead_letters.specs.Segments.{counted_in}
 use Rattle.dead_letters.specs.Found.{Held, bytes_in, found}
 use Rattle.dead_letters.specs.Appends.{append_to}
 use Rattle.dead_letters.specs.Views.{DeadQueue, IsOwn, last_of, named, sheds}
-use Rattle.dead_letters.specs.declared.counting.Counted.TheVariants.{Count}
+use Rattle.dead_letters.specs.declared.segments.Counted.TheVariants.{Count}
 use Rattle.dead_letters.specs.declared.letter.DeadLetter.{DeadLetter}
 
 -- so many segments from a number on, each to the end of its file

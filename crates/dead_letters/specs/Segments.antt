@@ -7,9 +7,9 @@ use Rattle.crc_frame.specs.Crc.{crc32}
 use Rattle.crc_frame.specs.Slots.{place_of, turn_of}
 use Rattle.store_trait.specs.Images.{FileImage}
 use Rattle.store_changes.specs.Slots.{said, OldOrNewSaid}
-use Rattle.dead_letters.specs.declared.counting.Segments.{Segments}
-use Rattle.dead_letters.specs.declared.counting.Counted.{Counted}
-use Rattle.dead_letters.specs.declared.counting.Counted.TheVariants.{Nothing, Count, Damaged}
+use Rattle.dead_letters.specs.declared.segments.Segments.{Segments}
+use Rattle.dead_letters.specs.declared.segments.Counted.{Counted}
+use Rattle.dead_letters.specs.declared.segments.Counted.TheVariants.{Nothing, Count, Damaged}
 
 abbrev pub segments : ℕ → ℕ → ℕ → Segments
 segments first last length = record { first = first; last = last; length = length }

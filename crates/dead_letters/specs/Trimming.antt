@@ -11,8 +11,8 @@ use Rattle.dead_letters.specs.Found.{bytes_in, found}
 use Rattle.dead_letters.specs.Views.{DeadQueue, IsOwn}
 use Rattle.dead_letters.specs.Ready.{files_from, IsReady, held_now}
 use Rattle.dead_letters.specs.Opening.{HoldsStill, IsCleared}
-use Rattle.dead_letters.specs.declared.counting.Segments.{Segments}
-use Rattle.dead_letters.specs.declared.opening.Opened.{Opened}
+use Rattle.dead_letters.specs.declared.segments.Segments.{Segments}
+use Rattle.dead_letters.specs.declared.opening.OpenedLetters.{OpenedLetters}
 use Rattle.dead_letters.specs.declared.trimming.Excess.{Excess}
 
 -- a number of none of these segments
@@ -68,7 +68,7 @@ module _ {S : Type 0} (store : StoreWords S) where
     pub front : HasFirst len (store.seen s last) (i last)
 
   -- a folder is open: each queue with these segments is ready, holds what the folder held, and has no other segment
-  pub record IsOpened (folder : List ℕ) (o : Opened) (old new : S) : Type 0 where
+  pub record IsOpened (folder : List ℕ) (o : OpenedLetters) (old new : S) : Type 0 where
     pub ready : (limit : ℕ) (policy : Policy) → IsReady store (opened_queue folder limit policy o.turn o.first o.sizes) new
     pub held : (limit : ℕ) (policy : Policy) → IsTrue store.tells → found folder (store.seen old) ≡ Ok (held_now (opened_queue folder limit policy o.turn o.first o.sizes) (store.seen new))
     pub cleared : (limit : ℕ) (policy : Policy) → IsTrue store.tells → IsCleared (opened_queue folder limit policy o.turn o.first o.sizes) (store.seen new)

@@ -10,14 +10,14 @@ ghost use Rattle.dead_letters.specs.Ready.{AppendLeaves, IsAppended, IsReady};
 ghost use Rattle.dead_letters.specs.Views.{DeadQueue, IsOwn, behind_append};
 ghost use Rattle.dead_letters.specs.declared.letter.DeadLetter.{DeadLetter as LetterValue};
 
+use crate::append_plan::AppendPlan;
 use crate::naming::count_segments;
-use crate::planning::Plan;
 use store_changes::{append_each, remove_each};
 use store_disk::{Failed, Store};
 
 /// Carries out an append: writes the records and syncs, names the segments that count and syncs, and removes
 /// those that left. Takes no memory.
-pub(crate) fn carry_out<S: Store>(store: &mut S, plan: &Plan) -> Result<(), Failed>
+pub(crate) fn carry_out<S: Store>(store: &mut S, plan: &AppendPlan) -> Result<(), Failed>
     requires each { length plan.now.joining.pieces ≡ length plan.now.names.items }
     requires within { sum plan.now.joining.pieces ≤ length plan.now.joining.bytes.items }
     requires order { plan.now.segments.first ≤ plan.now.segments.last }

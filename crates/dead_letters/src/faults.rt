@@ -1,3 +1,4 @@
+// The errors of reading and appending dead letters.
 use std::alloc::AllocError;
 use store_disk::Failed;
 

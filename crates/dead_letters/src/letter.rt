@@ -1,3 +1,4 @@
+// A dead letter, and the length of its record.
 ghost use Rattle.std.specs.Prelude.{◌≡◌, ◌<◌, ◌↔◌, ◌^◌, IsTrue, length};
 ghost use Rattle.dead_letters.specs.Letters.{FitsRecord, letter_body, record_bytes};
 

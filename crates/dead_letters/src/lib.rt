@@ -16,8 +16,8 @@
 //! what a stop leaves of an opening.
 #![tactic(auto)]
 
+mod append_plan;
 mod appending;
-mod counting;
 mod entries;
 mod faults;
 mod keeping;
@@ -28,17 +28,16 @@ mod moment;
 mod naming;
 mod opened;
 mod opening;
-mod planning;
 mod queue;
 mod reading;
 mod records;
 mod rows;
 mod segment_slot;
+mod segments;
 mod shedding;
 mod trimming;
 mod writing;
 
-pub use counting::{Counted, Segments};
 pub use faults::{DeadFault, ReadFault, RecordFault};
 pub use letter::{DeadLetter, Letters};
 pub use naming::{count_segments, read_segments};
@@ -46,5 +45,6 @@ pub use opened::DeadLetters;
 pub use queue::{pieces, segment_name};
 pub use records::read_records;
 pub use rows::{DeadRow, DeadRows};
+pub use segments::{Counted, Segments};
 pub use shedding::{Shedding, shed};
 pub use writing::write_record;

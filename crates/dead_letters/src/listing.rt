@@ -4,8 +4,8 @@ ghost use Rattle.std.specs.Fmt.{decimal};
 ghost use Rattle.dead_letters.specs.Trimming.{IsOfOther, IsOther};
 ghost use Rattle.dead_letters.specs.Queues.{name_in, segment, segment_name};
 
-use crate::counting::Segments;
 use crate::queue::segment_name;
+use crate::segments::Segments;
 use event_tree::Text;
 use itoa::Buffer;
 use std::alloc::{AllocError, Global};

@@ -8,10 +8,10 @@ ghost use Rattle.store_trait.specs.Moments.{EachMoment, ReadsBeside};
 ghost use Rattle.store_changes.specs.Changes.{AllRest, Alters};
 ghost use Rattle.store_changes.specs.Slots.{ComesNext};
 ghost use Rattle.dead_letters.specs.Segments.{AreOrdered, OldOrNewSegments, counted_in, said_by};
-ghost use Rattle.dead_letters.specs.declared.counting.Counted.TheVariants.{Count};
+ghost use Rattle.dead_letters.specs.declared.segments.Counted.TheVariants.{Count};
 
-use crate::counting::{Counted, Segments};
 use crate::segment_slot::{SLOT_LEN, segments_of, slot_of};
+use crate::segments::{Counted, Segments};
 use crc_frame::newest;
 use store_changes::{broken_slot, write_slot};
 use store_disk::{Failed, Store};

@@ -1,3 +1,4 @@
+// A queue of dead letters that is open: appending letters and reading them.
 ghost use Rattle.std.specs.Prelude.{◌≡◌, ◌≤◌, ◌<◌, ◌+◌, ◌^◌, ◌&&◌, ℕ, IsTrue, Ok, Err, length, map, nat_lt, IfOk, OnOk, OnErr};
 ghost use Rattle.std.specs.List.{sum};
 ghost use Rattle.io_traits.specs.Counts.{HasCause};
@@ -15,13 +16,13 @@ ghost use Rattle.dead_letters.specs.Found.{Answers, found, letters_of};
 ghost use Rattle.dead_letters.specs.Rows.{AnswersRows, rows_of};
 ghost use Rattle.dead_letters.specs.declared.faults.DeadFault.TheVariants as d;
 
+use crate::append_plan::{AppendPlan, Joining, names_from, segments_of, sizes_with};
 use crate::appending::carry_out;
 use crate::entries::{read_letters, read_rows};
 use crate::faults::DeadFault;
 use crate::keeping::{added_by, kept_records, record_sizes};
 use crate::letter::{DeadLetter, Letters};
-use crate::opening::{Opened, open_folder};
-use crate::planning::{Joining, Plan, names_from, segments_of, sizes_with};
+use crate::opening::{OpenedLetters, open_folder};
 use crate::queue::{pieces, slot_name};
 use crate::rows::DeadRows;
 use crate::shedding::{Shedding, shed, total};
@@ -100,7 +101,7 @@ impl DeadLetters {
         ensures cause { HasCause (S.faults store.old) (S.faults store.new) (result ≡ Err f.Fault) }
     {
         let path = Text::of(alloc, folder)?;
-        let Opened { turn, first, sizes } = open_folder(alloc, store, folder)?;
+        let OpenedLetters { turn, first, sizes } = open_folder(alloc, store, folder)?;
         Ok(DeadLetters {
             folder: path,
             limit,
@@ -148,7 +149,7 @@ impl DeadLetters {
         }
         let plan = self.planned(letters)?;
         carry_out(store, &plan)?;
-        let Plan {
+        let AppendPlan {
             joining,
             turn,
             segments,
@@ -226,7 +227,7 @@ impl DeadLetters {
     }
 
     // What an append of these letters writes and removes.
-    fn planned(&self, letters: &[DeadLetter]) -> Result<Plan, AllocError>
+    fn planned(&self, letters: &[DeadLetter]) -> Result<AppendPlan, AllocError>
         requires some { 0 < length self.now.sizes }
         requires numbers { self.now.first + length self.now.sizes ≤ 2 ^ 32 }
         requires fit { AllFit letters.now }
@@ -244,7 +245,7 @@ impl DeadLetters {
         let sizes = sizes_with(alloc, held, older as usize, taken)?;
         let slot = slot_name(alloc, folder)?;
         let segments = segments_of(self.first + older as u32, sizes.as_slice());
-        Ok(Plan {
+        Ok(AppendPlan {
             joining,
             names,
             gone,

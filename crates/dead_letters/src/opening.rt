@@ -13,11 +13,11 @@ ghost use Rattle.dead_letters.specs.Found.{found};
 ghost use Rattle.dead_letters.specs.Views.{IsOwn};
 ghost use Rattle.dead_letters.specs.Opening.{LeavesHeld};
 ghost use Rattle.dead_letters.specs.Trimming.{IsFirst, IsOpened, StaysHeld};
-ghost use Rattle.dead_letters.specs.declared.counting.Counted.TheVariants.{Count, Nothing};
+ghost use Rattle.dead_letters.specs.declared.segments.Counted.TheVariants.{Count, Nothing};
 
-use crate::counting::{Counted, Segments};
 use crate::naming::{count_segments, read_segments};
 use crate::queue::{position_name, segment_name, slot_name};
+use crate::segments::{Counted, Segments};
 use crate::trimming::{cut_back, damaged};
 use event_tree::{Items, Text};
 use out_files::OutFile;
@@ -26,7 +26,7 @@ use store_disk::{Failed, QueueFault, Store};
 
 /// What a folder holds, once it is open.
 #[derive(Drop)]
-pub(crate) struct Opened {
+pub(crate) struct OpenedLetters {
     /// The turn of the slot that names the segments.
     pub(crate) turn: u64,
     /// The number of the oldest one.
@@ -41,7 +41,7 @@ pub(crate) fn open_folder<S: Store>(
     alloc: Global,
     store: &mut S,
     folder: &str,
-) -> Result<Opened, QueueFault>
+) -> Result<OpenedLetters, QueueFault>
     requires { folder_start folder.now ≡ folder.now }
     ensures opened { IfOk result (λ o. IsOpened S.Store folder.now o store.old store.new) }
     ensures damaged { (damage : DamageValue) → result ≡ Err (f.Damaged damage) → IsTrue S.tells
@@ -79,7 +79,7 @@ fn open_settled<S: Store>(
     folder: &str,
     slot: Text,
     counted: Counted,
-) -> Result<Opened, QueueFault>
+) -> Result<OpenedLetters, QueueFault>
     requires start { folder_start folder.now ≡ folder.now }
     requires slot { slot ≡ name_in folder.now names }
     requires order { AreOrdered counted }

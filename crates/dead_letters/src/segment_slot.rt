@@ -3,7 +3,7 @@ ghost use Rattle.std.specs.Prelude.{◌≡◌, length};
 ghost use Rattle.crc_frame.specs.Slots.{IsSlotOf};
 ghost use Rattle.dead_letters.specs.Segments.{first_of, last_of, length_of, segments, slot_body, slot_spelling};
 
-use crate::counting::Segments;
+use crate::segments::Segments;
 use byteorder::{BigEndian, ByteOrder};
 use crc_frame::crc32;
 

@@ -14,12 +14,12 @@ ghost use Rattle.dead_letters.specs.Found.{IsNoDamage, bytes_in, found, held_by}
 ghost use Rattle.dead_letters.specs.Ready.{files_from};
 ghost use Rattle.dead_letters.specs.Views.{IsOwn};
 ghost use Rattle.dead_letters.specs.Trimming.{IsCut, IsExcess, IsOpened, StaysHeld, Trims, sizes_cut};
-ghost use Rattle.dead_letters.specs.declared.counting.Counted.TheVariants.{Count};
+ghost use Rattle.dead_letters.specs.declared.segments.Counted.TheVariants.{Count};
 
-use crate::counting::Segments;
 use crate::listing::others;
-use crate::opening::Opened;
+use crate::opening::OpenedLetters;
 use crate::queue::segment_name;
+use crate::segments::Segments;
 use event_tree::{Items, Text};
 use std::alloc::Global;
 use store_changes::{cut_settled, remove_each};
@@ -41,7 +41,7 @@ pub(crate) fn cut_back<S: Store>(
     folder: &str,
     turn: u64,
     segments: Segments,
-) -> Result<Opened, QueueFault>
+) -> Result<OpenedLetters, QueueFault>
     requires start { folder_start folder.now ≡ folder.now }
     requires order { segments.first ≤ segments.last }
     requires counted { IsTrue S.tells
@@ -59,7 +59,7 @@ pub(crate) fn cut_back<S: Store>(
     let excess = excess_in(alloc, store, folder, segments)?;
     let sizes = sizes_of(alloc, store, folder, segments)?;
     trim(store, &excess.gone, excess.last.as_str(), segments.length)?;
-    Ok(Opened {
+    Ok(OpenedLetters {
         turn,
         first: segments.first,
         sizes,

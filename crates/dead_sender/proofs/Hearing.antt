@@ -9,14 +9,14 @@ use Rattle.pipeline_bus.specs.Parcels.{IsInTurn}
 use Rattle.pipeline_bus.specs.Ends.{Sending, heard_as}
 use Rattle.pipeline_bus.specs.declared.parcel.Answer.{Answer}
 use Rattle.pipeline_bus.specs.declared.parcel.Heard.TheVariants.{Assured, NotListening}
-use Rattle.dead_letters.specs.declared.counting.Counted.{Counted}
+use Rattle.dead_letters.specs.declared.segments.Counted.{Counted}
 use Rattle.dead_letters.specs.declared.rows.DeadRow.{DeadRow}
 use Rattle.dead_sender.specs.Places.{Passes, Rise}
 use Rattle.dead_sender.specs.Ready.{IsReady, LeavesPlace, Says}
 use Rattle.dead_sender.specs.Steps.{Hears, IsRecorded, Pushes, Recorded, Steps, goes_on, hears, after_push, answered, done_by, no_answer, recorded_at}
 use Rattle.dead_sender.specs.Steps as step
 use Rattle.dead_sender.specs.Work.{IsSending, Work}
-use Rattle.dead_sender.specs.declared.sender.Sent.{Sent}
+use Rattle.dead_sender.specs.declared.sender.SendOutcome.{SendOutcome}
 use Rattle.dead_sender.proofs.Passing.{passes_those}
 use Rattle.dead_sender.proofs.Working.{heard_sending, no_answer_sending, pushes_sending}
 use Rattle.pipeline_bus.specs.declared.parcel.Parcel.{Parcel}
@@ -87,13 +87,13 @@ module _ {S : Type 0} (store : StoreWords S) where
   push_stays w None = record { file = refl; rows = refl; done = refl; recorded = refl }
   push_stays w (Some back) = record { file = refl; rows = refl; done = refl; recorded = refl }
 
-  pub pushes_stay : (w v : Work) (r : Result Sent QueueFault) → Pushes w v r → Stays w v
+  pub pushes_stay : (w v : Work) (r : Result SendOutcome QueueFault) → Pushes w v r → Stays w v
   pushes_stay w v r (step.pushes back some is says) = subst (Stays w) (sym is) (push_stays w back)
   pushes_stay w v r (step.no_memory not is says) = subst (Stays w) (sym is) (record { file = refl; rows = refl; done = refl; recorded = refl })
   pushes_stay w v r (step.ends back all not is says) = subst (Stays w) (sym is) (record { file = refl; rows = refl; done = refl; recorded = refl })
   pushes_stay w v r (step.has_ended all last is says) = subst (Stays w) (sym is) (record { file = refl; rows = refl; done = refl; recorded = refl })
 
-  pub pushes_ready : (w v : Work) (s : S) (r : Result Sent QueueFault) → IsReady store w s → w.out ≡ 0 → Pushes w v r → IsReady store v s
+  pub pushes_ready : (w v : Work) (s : S) (r : Result SendOutcome QueueFault) → IsReady store w s → w.out ≡ 0 → Pushes w v r → IsReady store v s
   pushes_ready w v s r ready none p =
       let st = pushes_stay w v r p in
       record {
@@ -112,7 +112,7 @@ module _ {S : Type 0} (store : StoreWords S) where
     pub none : mid.out ≡ 0
     pub moments : EachMoment store old s (LeavesPlace store w.file w.rows mid.done old)
 
-  module _ (w : Work) (old : S) (mid : Work) (s : S) (took : Took w old mid s) (v : Work) (r : Result Sent QueueFault) (p : Pushes mid v r) where
+  module _ (w : Work) (old : S) (mid : Work) (s : S) (took : Took w old mid s) (v : Work) (r : Result SendOutcome QueueFault) (p : Pushes mid v r) where
     pub took_steps : Steps w v r
     took_steps = ⊎_elim (λ (same : (w.out ≡ 0) × (mid ≡ w)). goes_on same.0 (subst (λ x. Pushes x v r) same.1 p)) (λ h. hears mid h p) took.come
 

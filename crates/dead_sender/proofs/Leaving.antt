@@ -10,8 +10,8 @@ use Rattle.store_trait.proofs.Moments.{started, weaker}
 use Rattle.store_changes.specs.Changes.{Alters}
 use Rattle.store_changes.specs.Slots.{ComesNext}
 use Rattle.dead_letters.specs.Segments.{OldOrNewSegments, counted_in, segments}
-use Rattle.dead_letters.specs.declared.counting.Counted.{Counted}
-use Rattle.dead_letters.specs.declared.counting.Counted.TheVariants.{Nothing, Count, Damaged}
+use Rattle.dead_letters.specs.declared.segments.Counted.{Counted}
+use Rattle.dead_letters.specs.declared.segments.Counted.TheVariants.{Nothing, Count, Damaged}
 use Rattle.dead_letters.specs.declared.rows.DeadRow.{DeadRow}
 use Rattle.dead_letters.proofs.FirstVersion.{first_comes}
 use Rattle.dead_letters.proofs.SegmentSlots.{comes_next, counted_have_room}

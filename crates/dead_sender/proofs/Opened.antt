@@ -23,7 +23,7 @@ use Rattle.dead_letters.specs.Queues.{Role, segment, names, position, name_in}
 use Rattle.dead_letters.specs.Rows.{AnswersRows, rows_of}
 use Rattle.dead_letters.specs.Segments.{counted_in}
 use Rattle.dead_letters.specs.Views.{IsOwn}
-use Rattle.dead_letters.specs.declared.counting.Counted.{Counted}
+use Rattle.dead_letters.specs.declared.segments.Counted.{Counted}
 use Rattle.dead_letters.specs.declared.rows.DeadRow.{DeadRow}
 use Rattle.dead_sender.specs.Names.{place_file, without_slash}
 use Rattle.dead_sender.specs.Places.{place_in}

@@ -10,20 +10,20 @@ use Rattle.dead_letters.specs.Found.{Held, in_file}
 use Rattle.dead_letters.specs.Appends.{size_of}
 use Rattle.dead_letters.specs.Rows.{placed, placed_in, row, rows_from, rows_of, rows_then}
 use Rattle.dead_letters.proofs.RecordReads.{length-record_of}
-use Rattle.dead_letters.specs.declared.counting.Counted.{Counted}
+use Rattle.dead_letters.specs.declared.segments.Counted.{Counted}
 use Rattle.dead_letters.specs.declared.letter.DeadLetter.{DeadLetter}
 use Rattle.dead_letters.specs.declared.rows.DeadRow.{DeadRow}
 use Rattle.dead_sender.specs.Places.{AllBehind, Passes, Rise, is_behind, place, place_at, place_in, rows_behind}
 use Rattle.dead_sender.specs.Steps.{recorded_at}
-use Rattle.dead_sender.specs.declared.place.Place.{Place}
+use Rattle.dead_sender.specs.declared.place.LetterPosition.{LetterPosition}
 
 -- ---- one letter behind another
 
 -- in another segment behind, or in the same one behind
-behind_by_segment : (p : Place) (r : DeadRow) → p.segment < r.segment → is_behind (Some p) r ≡ true
+behind_by_segment : (p : LetterPosition) (r : DeadRow) → p.segment < r.segment → is_behind (Some p) r ≡ true
 behind_by_segment p r less = grind (arith, nat_tests, less)
 
-behind_by_length : (p : Place) (r : DeadRow) → p.segment ≡ r.segment → p.length < r.length → is_behind (Some p) r ≡ true
+behind_by_length : (p : LetterPosition) (r : DeadRow) → p.segment ≡ r.segment → p.length < r.length → is_behind (Some p) r ≡ true
 behind_by_length p r same less = grind (arith, nat_tests, same, less)
 
 not_behind_itself : (r : DeadRow) → is_behind (Some (place_at r)) r ≡ false
@@ -39,7 +39,7 @@ abbrev StandFrom : ℕ → List DeadRow → Type 0
 StandFrom n [] = Unit {0}
 StandFrom n (r ∷ rows) = (n ≤ r.segment) × StandFrom n rows
 
-far_behind : (p : Place) (n : ℕ) (rows : List DeadRow) → p.segment < n → StandFrom n rows → AllBehind (Some p) rows
+far_behind : (p : LetterPosition) (n : ℕ) (rows : List DeadRow) → p.segment < n → StandFrom n rows → AllBehind (Some p) rows
 far_behind p n [] less from = tt
 far_behind p n (r ∷ rows) less from = (behind_by_segment p r (omega (arith, less, from.0)), far_behind p n rows less from.1)
 
@@ -51,7 +51,7 @@ size_some : (l : DeadLetter) → 0 < size_of l
 size_some l = let e = length-record_of (letter_body l) in omega (arith, e)
 
 -- letters of one segment, and then those of segments behind it
-placed_behind : (p : Place) (n before : ℕ) (ls : List DeadLetter) (more : List DeadRow) → p.segment ≡ n → p.length ≤ before → AllBehind (Some p) more → AllBehind (Some p) (placed n before ls ++ more)
+placed_behind : (p : LetterPosition) (n before : ℕ) (ls : List DeadLetter) (more : List DeadRow) → p.segment ≡ n → p.length ≤ before → AllBehind (Some p) more → AllBehind (Some p) (placed n before ls ++ more)
 placed_behind p n before [] more same less behind = behind
 placed_behind p n before (l ∷ ls) more same less behind =
     let some = size_some l in
@@ -89,31 +89,31 @@ letters_rise folder h all is = (from_rise folder h.first h.segments all is).1
 
 -- ---- the letters behind a place
 
-kept_one : (p : Option Place) (r : DeadRow) (rows : List DeadRow) → is_behind p r ≡ true → rows_behind p (r ∷ rows) ≡ r ∷ rows_behind p rows
+kept_one : (p : Option LetterPosition) (r : DeadRow) (rows : List DeadRow) → is_behind p r ≡ true → rows_behind p (r ∷ rows) ≡ r ∷ rows_behind p rows
 kept_one p r rows is = cond-true (is_behind p r) (r ∷ rows_behind p rows) (rows_behind p rows) is
 
-left_one : (p : Option Place) (r : DeadRow) (rows : List DeadRow) → is_behind p r ≡ false → rows_behind p (r ∷ rows) ≡ rows_behind p rows
+left_one : (p : Option LetterPosition) (r : DeadRow) (rows : List DeadRow) → is_behind p r ≡ false → rows_behind p (r ∷ rows) ≡ rows_behind p rows
 left_one p r rows is = cond-false (is_behind p r) (r ∷ rows_behind p rows) (rows_behind p rows) is
 
-keeps_all : (p : Option Place) (rows : List DeadRow) → AllBehind p rows → rows_behind p rows ≡ rows
+keeps_all : (p : Option LetterPosition) (rows : List DeadRow) → AllBehind p rows → rows_behind p rows ≡ rows
 keeps_all p [] behind = refl
 keeps_all p (r ∷ rows) behind = kept_one p r rows behind.0 ∙ ap (λ l. r ∷ l) (keeps_all p rows behind.1)
 
-all_kept : (p : Option Place) (rows : List DeadRow) → AllBehind p (rows_behind p rows)
+all_kept : (p : Option LetterPosition) (rows : List DeadRow) → AllBehind p (rows_behind p rows)
 all_kept p [] = tt
 all_kept p (r ∷ rows) = ⊎_elim
     (λ is. let both : AllBehind p (r ∷ rows_behind p rows) = (is, all_kept p rows) in subst (AllBehind p) (sym (kept_one p r rows is)) both)
     (λ is. subst (AllBehind p) (sym (left_one p r rows is)) (all_kept p rows))
     (cases_Bool (is_behind p r))
 
-still_behind : (p q : Option Place) (rows : List DeadRow) → AllBehind q rows → AllBehind q (rows_behind p rows)
+still_behind : (p q : Option LetterPosition) (rows : List DeadRow) → AllBehind q rows → AllBehind q (rows_behind p rows)
 still_behind p q [] behind = tt
 still_behind p q (r ∷ rows) behind = ⊎_elim
     (λ is. let both : AllBehind q (r ∷ rows_behind p rows) = (behind.0, still_behind p q rows behind.1) in subst (AllBehind q) (sym (kept_one p r rows is)) both)
     (λ is. subst (AllBehind q) (sym (left_one p r rows is)) (still_behind p q rows behind.1))
     (cases_Bool (is_behind p r))
 
-pub behind_rise : (p : Option Place) (rows : List DeadRow) → Rise rows → Rise (rows_behind p rows)
+pub behind_rise : (p : Option LetterPosition) (rows : List DeadRow) → Rise rows → Rise (rows_behind p rows)
 behind_rise p [] rise = tt
 behind_rise p (r ∷ rows) rise = ⊎_elim
     (λ is. let both : Rise (r ∷ rows_behind p rows) = (still_behind p (Some (place_at r)) rows rise.0, behind_rise p rows rise.1) in subst Rise (sym (kept_one p r rows is)) both)
@@ -121,7 +121,7 @@ behind_rise p (r ∷ rows) rise = ⊎_elim
     (cases_Bool (is_behind p r))
 
 -- at an opening nothing more is passed
-pub passes_none : (recorded : Counted) (p : Option Place) (all : List DeadRow) → place_in recorded ≡ Ok p → Passes (rows_behind p all) 0 recorded
+pub passes_none : (recorded : Counted) (p : Option LetterPosition) (all : List DeadRow) → place_in recorded ≡ Ok p → Passes (rows_behind p all) 0 recorded
 passes_none recorded p all is = record {
   recorded_at = p;
   is = is;
@@ -132,7 +132,7 @@ passes_none recorded p all is = record {
 
 -- ---- the place of a letter
 
-behind_at : (p : Option Place) (rows : List DeadRow) (k : ℕ) (r : DeadRow) → AllBehind p rows → slice_get rows k ≡ Some r → is_behind p r ≡ true
+behind_at : (p : Option LetterPosition) (rows : List DeadRow) (k : ℕ) (r : DeadRow) → AllBehind p rows → slice_get rows k ≡ Some r → is_behind p r ≡ true
 behind_at p [] zero r behind is = absurd cc
 behind_at p [] (suc k) r behind is = absurd cc
 behind_at p (x ∷ rows) zero r behind is = let same : x ≡ r = cc in subst (λ y. is_behind p y ≡ true) same behind.0

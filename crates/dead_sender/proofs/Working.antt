@@ -15,15 +15,15 @@ use Rattle.pipeline_bus.specs.declared.parcel.Parcel.{Parcel}
 use Rattle.pipeline_bus.specs.declared.parcel.Answer.{Answer}
 use Rattle.pipeline_bus.specs.declared.parcel.Heard.{Heard}
 use Rattle.pipeline_bus.specs.declared.parcel.Heard.TheVariants.{Assured, NotListening}
-use Rattle.dead_letters.specs.declared.counting.Counted.{Counted}
+use Rattle.dead_letters.specs.declared.segments.Counted.{Counted}
 use Rattle.dead_letters.specs.declared.rows.DeadRow.{DeadRow}
 use Rattle.dead_sender.specs.Marks.{events_of, marked}
 use Rattle.dead_sender.specs.Parcels.{assured, if_assured, kept, unless_refused}
 use Rattle.dead_sender.specs.Work.{AllAnswered, InOrder, IsAllSent, IsSending, NoneIsOut, OneIsOut, Work}
 use Rattle.dead_sender.specs.Steps.{Begins, Fails, HasMissed, HasPushed, Hears, Pushes, Runs, Steps, after_last, after_push, answered, done_by, last_parcel, next_parcel, next_rows, no_answer, told}
 use Rattle.dead_sender.specs.Steps as step
-use Rattle.dead_sender.specs.declared.sender.Sent.{Sent}
-use Rattle.dead_sender.specs.declared.sender.Sent.TheVariants as s
+use Rattle.dead_sender.specs.declared.sender.SendOutcome.{SendOutcome}
+use Rattle.dead_sender.specs.declared.sender.SendOutcome.TheVariants as s
 use Rattle.dead_sender.proofs.Answering.{filled_none, filled_one, last_sent, one_heard, one_sent}
 
 -- ---- letters
@@ -227,7 +227,7 @@ push_rows w (Some back) = refl
 abbrev StaysOn : Work → Work → Type 0
 StaysOn w v = IsSending v × (v.rows ≡ w.rows)
 
-pub pushes_sending : (w v : Work) (r : Result Sent QueueFault) → IsSending w → w.out ≡ 0 → Pushes w v r → StaysOn w v
+pub pushes_sending : (w v : Work) (r : Result SendOutcome QueueFault) → IsSending w → w.out ≡ 0 → Pushes w v r → StaysOn w v
 pushes_sending w v r sending none (step.pushes back some is says) = subst (StaysOn w) (sym is) (pushed_sending w back sending none some, push_rows w back)
 pushes_sending w v r sending none (step.no_memory not is says) = subst (StaysOn w) (sym is) (sending, refl)
 pushes_sending w v r sending none (step.ends back all not is says) = subst (StaysOn w) (sym is) (ended_sending w back sending none all, refl)
@@ -253,7 +253,7 @@ heard_on w mid sending h = subst (HeardOn w) (sym h.new_is) (record {
 pub no_answer_sending : (w : Work) → IsSending w → IsSending (no_answer w)
 no_answer_sending w sending = same_sending w (no_answer w) refl refl refl refl refl sending
 
-pub steps_sending : (w v : Work) (r : Result Sent QueueFault) → IsSending w → Steps w v r → StaysOn w v
+pub steps_sending : (w v : Work) (r : Result SendOutcome QueueFault) → IsSending w → Steps w v r → StaysOn w v
 steps_sending w v r sending (step.goes_on none p) = pushes_sending w v r sending none p
 steps_sending w v r sending (step.waits some is says) = subst (StaysOn w) (sym is) (no_answer_sending w sending, refl)
 steps_sending w v r sending (step.hears mid h p) =
@@ -262,7 +262,7 @@ steps_sending w v r sending (step.hears mid h p) =
     (both.0, both.1 ∙ on.rows)
 steps_sending w v r sending (step.fails t says) = subst (StaysOn w) (sym t.new_is) (heard_sending w t.answer w.recorded sending t.out, refl)
 
-pub runs_sending : (start w : Work) (results : List (Result Sent QueueFault)) → Begins start → Runs start results w → StaysOn start w
+pub runs_sending : (start w : Work) (results : List (Result SendOutcome QueueFault)) → Begins start → Runs start results w → StaysOn start w
 runs_sending start w results b step.none = (begins_sending start b, refl)
 runs_sending start w results b (step.more before u v r runs one) =
     let earlier = runs_sending start u before b runs in
@@ -271,7 +271,7 @@ runs_sending start w results b (step.more before u v r runs one) =
 
 -- ---- the end
 
-abbrev says_so : Sent → Result Sent QueueFault
+abbrev says_so : SendOutcome → Result SendOutcome QueueFault
 says_so sent = Ok sent
 
 not_parcel : says_so s.Parcel ≡ Ok s.Ended → ⊥
@@ -280,7 +280,7 @@ not_parcel e = cc
 not_yet : says_so s.NotYet ≡ Ok s.Ended → ⊥
 not_yet e = cc
 
-pub pushes_ended : (w v : Work) (r : Result Sent QueueFault) → Pushes w v r → r ≡ Ok s.Ended → ends_with_last v.sends.sent ≡ true
+pub pushes_ended : (w v : Work) (r : Result SendOutcome QueueFault) → Pushes w v r → r ≡ Ok s.Ended → ends_with_last v.sends.sent ≡ true
 pushes_ended w v r (step.pushes None some is says) end = absurd (not_parcel (sym says ∙ end))
 pushes_ended w v r (step.pushes (Some back) some is says) end = absurd (not_yet (sym says ∙ end))
 pushes_ended w v r (step.no_memory not is says) end = let e : Err f.Memory ≡ Ok s.Ended = sym says ∙ end in absurd cc
@@ -288,7 +288,7 @@ pushes_ended w v r (step.ends None all not is says) end = ap (λ (x : Work). end
 pushes_ended w v r (step.ends (Some back) all not is says) end = absurd (not_yet (sym says ∙ end))
 pushes_ended w v r (step.has_ended all last is says) end = ap (λ (x : Work). ends_with_last x.sends.sent) is ∙ last
 
-steps_last : (w v : Work) (r : Result Sent QueueFault) → Steps w v r → r ≡ Ok s.Ended → ends_with_last v.sends.sent ≡ true
+steps_last : (w v : Work) (r : Result SendOutcome QueueFault) → Steps w v r → r ≡ Ok s.Ended → ends_with_last v.sends.sent ≡ true
 steps_last w v r (step.goes_on none p) end = pushes_ended w v r p end
 steps_last w v r (step.waits some is says) end = absurd (not_yet (sym says ∙ end))
 steps_last w v r (step.hears mid h p) end = pushes_ended mid v r p end
@@ -301,11 +301,11 @@ all_sent v sending last =
     let all : events_of (take v.done v.rows) ≡ events_of v.rows = ap (λ k. events_of (take k v.rows)) e.0 ∙ ap events_of (take_all (length v.rows) v.rows (omega arith)) in
     record { are_kept = n.answered.are_kept ∙ all; are_assured = n.answered.are_assured ∙ all; last = last }
 
-pub steps_ended : (w v : Work) (r : Result Sent QueueFault) → IsSending w → Steps w v r → r ≡ Ok s.Ended → IsAllSent v
+pub steps_ended : (w v : Work) (r : Result SendOutcome QueueFault) → IsSending w → Steps w v r → r ≡ Ok s.Ended → IsAllSent v
 steps_ended w v r sending one end = all_sent v (steps_sending w v r sending one).0 (steps_last w v r one end)
 
 -- the other way round
-pushes_only : (w v : Work) (r : Result Sent QueueFault) → IsSending w → Pushes w v r → ends_with_last v.sends.sent ≡ true → r ≡ Ok s.Ended
+pushes_only : (w v : Work) (r : Result SendOutcome QueueFault) → IsSending w → Pushes w v r → ends_with_last v.sends.sent ≡ true → r ≡ Ok s.Ended
 pushes_only w v r sending (step.pushes None some is says) last =
     absurd (false≢true (sym (next_filled w some) ∙ sym (ends_more w.sends.sent (next_parcel w)) ∙ sym (ap (λ (x : Work). ends_with_last x.sends.sent) is) ∙ last))
 pushes_only w v r sending (step.pushes (Some back) some is says) last =
@@ -318,7 +318,7 @@ pushes_only w v r sending (step.has_ended all l is says) last = says
 still_out : (w v : Work) → IsSending w → 0 < w.out → v.sends.sent ≡ w.sends.sent → ends_with_last v.sends.sent ≡ true → ⊥
 still_out w v sending some same last = let e = (sending.ended (sym (ap ends_with_last same) ∙ last)).1 in omega (arith, some, e)
 
-pub ended_only : (w v : Work) (r : Result Sent QueueFault) → IsSending w → Steps w v r → IsAllSent v → r ≡ Ok s.Ended
+pub ended_only : (w v : Work) (r : Result SendOutcome QueueFault) → IsSending w → Steps w v r → IsAllSent v → r ≡ Ok s.Ended
 ended_only w v r sending (step.goes_on none p) all = pushes_only w v r sending p all.last
 ended_only w v r sending (step.waits some is says) all = absurd (still_out w v sending some (ap (λ (x : Work). x.sends.sent) is) all.last)
 ended_only w v r sending (step.hears mid h p) all = pushes_only mid v r (heard_on w mid sending h).sending p all.last
@@ -326,7 +326,7 @@ ended_only w v r sending (step.fails t says) all = absurd (still_out w v sending
 
 -- ---- the other answers
 
-pushes_parcel : (w v : Work) (r : Result Sent QueueFault) → Pushes w v r → r ≡ Ok s.Parcel → HasPushed w v
+pushes_parcel : (w v : Work) (r : Result SendOutcome QueueFault) → Pushes w v r → r ≡ Ok s.Parcel → HasPushed w v
 pushes_parcel w v r (step.pushes None some is says) sent = record { parcel = next_parcel w; sent = ap (λ (x : Work). x.sends.sent) is; filled = next_filled w some }
 pushes_parcel w v r (step.pushes (Some back) some is says) sent = let e : says_so s.NotYet ≡ Ok s.Parcel = sym says ∙ sent in absurd cc
 pushes_parcel w v r (step.no_memory not is says) sent = let e : Err f.Memory ≡ Ok s.Parcel = sym says ∙ sent in absurd cc
@@ -334,7 +334,7 @@ pushes_parcel w v r (step.ends None all not is says) sent = let e : says_so s.En
 pushes_parcel w v r (step.ends (Some back) all not is says) sent = let e : says_so s.NotYet ≡ Ok s.Parcel = sym says ∙ sent in absurd cc
 pushes_parcel w v r (step.has_ended all last is says) sent = let e : says_so s.Ended ≡ Ok s.Parcel = sym says ∙ sent in absurd cc
 
-pub steps_parcel : (w v : Work) (r : Result Sent QueueFault) → IsSending w → Steps w v r → r ≡ Ok s.Parcel → HasPushed w v
+pub steps_parcel : (w v : Work) (r : Result SendOutcome QueueFault) → IsSending w → Steps w v r → r ≡ Ok s.Parcel → HasPushed w v
 steps_parcel w v r sending (step.goes_on none p) sent = pushes_parcel w v r p sent
 steps_parcel w v r sending (step.waits some is says) sent = let e : says_so s.NotYet ≡ Ok s.Parcel = sym says ∙ sent in absurd cc
 steps_parcel w v r sending (step.hears mid h p) sent =
@@ -342,7 +342,7 @@ steps_parcel w v r sending (step.hears mid h p) sent =
     record { parcel = one.parcel; sent = one.sent ∙ ap (λ l. l ++ one.parcel ∷ []) (heard_on w mid sending h).sent; filled = one.filled }
 steps_parcel w v r sending (step.fails t says) sent = let e : Err f.Fault ≡ Ok s.Parcel = sym says ∙ sent in absurd cc
 
-pushes_missed : (w v : Work) (r : Result Sent QueueFault) → Pushes w v r → r ≡ Ok s.NotYet → v.sends.push_misses ≡ one_more w.sends.push_misses
+pushes_missed : (w v : Work) (r : Result SendOutcome QueueFault) → Pushes w v r → r ≡ Ok s.NotYet → v.sends.push_misses ≡ one_more w.sends.push_misses
 pushes_missed w v r (step.pushes None some is says) missed = let e : says_so s.Parcel ≡ Ok s.NotYet = sym says ∙ missed in absurd cc
 pushes_missed w v r (step.pushes (Some back) some is says) missed = ap (λ (x : Work). x.sends.push_misses) is
 pushes_missed w v r (step.no_memory not is says) missed = let e : Err f.Memory ≡ Ok s.NotYet = sym says ∙ missed in absurd cc
@@ -350,7 +350,7 @@ pushes_missed w v r (step.ends None all not is says) missed = let e : says_so s.
 pushes_missed w v r (step.ends (Some back) all not is says) missed = ap (λ (x : Work). x.sends.push_misses) is
 pushes_missed w v r (step.has_ended all last is says) missed = let e : says_so s.Ended ≡ Ok s.NotYet = sym says ∙ missed in absurd cc
 
-pub steps_missed : (w v : Work) (r : Result Sent QueueFault) → IsSending w → Steps w v r → r ≡ Ok s.NotYet → HasMissed w v
+pub steps_missed : (w v : Work) (r : Result SendOutcome QueueFault) → IsSending w → Steps w v r → r ≡ Ok s.NotYet → HasMissed w v
 steps_missed w v r sending (step.goes_on none p) missed = inl (pushes_missed w v r p missed)
 steps_missed w v r sending (step.waits some is says) missed = inr (some, ap (λ (x : Work). x.sends.answer_misses) is)
 steps_missed w v r sending (step.hears mid h p) missed = inl (pushes_missed mid v r p missed ∙ ap one_more (heard_on w mid sending h).push_misses)

@@ -15,7 +15,7 @@ use Rattle.dead_letters.specs.Views.{IsOwn}
 use Rattle.dead_letters.specs.declared.rows.DeadRow.{DeadRow}
 use Rattle.dead_sender.specs.Names.{place_file}
 use Rattle.dead_sender.specs.Places.{place_in, rows_behind}
-use Rattle.dead_sender.specs.declared.place.Place.{Place}
+use Rattle.dead_sender.specs.declared.place.LetterPosition.{LetterPosition}
 
 -- the letters of the queue of a folder
 pub record AreAll (folder : List ℕ) (content : Content) (rows : List DeadRow) : Type 0 where
@@ -27,7 +27,7 @@ pub record AreAll (folder : List ℕ) (content : Content) (rows : List DeadRow) 
 pub record AreLeft (folder : List ℕ) (content : Content) (rows : List DeadRow) : Type 0 where
   pub all : List DeadRow
   pub are : AreAll folder content all
-  pub recorded_at : Option Place
+  pub recorded_at : Option LetterPosition
   pub place_is : place_in (counted_in (bytes_of (content (place_file folder)))) ≡ Ok recorded_at
   pub left : rows ≡ rows_behind recorded_at all
 

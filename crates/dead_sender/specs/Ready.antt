@@ -8,7 +8,7 @@ use Rattle.store_trait.specs.Tails.{passes}
 use Rattle.store_trait.specs.Moments.{MayLeaveNow, LeavesBeside}
 use Rattle.store_trait.specs.declared.stores.Store.{Ghosts as StoreWords}
 use Rattle.dead_letters.specs.Segments.{counted_in}
-use Rattle.dead_letters.specs.declared.counting.Counted.{Counted}
+use Rattle.dead_letters.specs.declared.segments.Counted.{Counted}
 use Rattle.dead_letters.specs.declared.rows.DeadRow.{DeadRow}
 use Rattle.dead_sender.specs.Places.{Passes, Rise}
 use Rattle.dead_sender.specs.Work.{IsSending, Work}

@@ -12,13 +12,13 @@ use Rattle.pipeline_bus.specs.declared.parcel.Answer.{Answer}
 use Rattle.pipeline_bus.specs.declared.parcel.Heard.{Heard}
 use Rattle.pipeline_bus.specs.declared.parcel.Heard.TheVariants.{Assured, NotListening}
 use Rattle.dead_letters.specs.Segments.{segments}
-use Rattle.dead_letters.specs.declared.counting.Counted.{Counted}
-use Rattle.dead_letters.specs.declared.counting.Counted.TheVariants.{Nothing, Count, Damaged}
+use Rattle.dead_letters.specs.declared.segments.Counted.{Counted}
+use Rattle.dead_letters.specs.declared.segments.Counted.TheVariants.{Nothing, Count, Damaged}
 use Rattle.dead_letters.specs.declared.rows.DeadRow.{DeadRow}
 use Rattle.dead_sender.specs.Marks.{events_of}
 use Rattle.dead_sender.specs.Work.{InOrder, IsAllSent, Work}
-use Rattle.dead_sender.specs.declared.sender.Sent.{Sent}
-use Rattle.dead_sender.specs.declared.sender.Sent.TheVariants.{Parcel, NotYet, Ended}
+use Rattle.dead_sender.specs.declared.sender.SendOutcome.{SendOutcome}
+use Rattle.dead_sender.specs.declared.sender.SendOutcome.TheVariants.{Parcel, NotYet, Ended}
 
 -- ---- parcels
 
@@ -105,24 +105,24 @@ HearsBy (Err e) old new = Fails old new
 -- ---- steps
 
 -- the parcel was sent, or it came back
-abbrev pub told : Sent → Option ParcelOf → Sent
+abbrev pub told : SendOutcome → Option ParcelOf → SendOutcome
 told sent None = sent
 told sent (Some back) = NotYet
 
-abbrev pub SendsNext : Work → Work → Sent → Type 0
+abbrev pub SendsNext : Work → Work → SendOutcome → Type 0
 SendsNext old new sent = (back : Option ParcelOf) × (new ≡ after_push back old) × (sent ≡ told Parcel back)
 
-abbrev pub SendsLast : Work → Work → Sent → Type 0
+abbrev pub SendsLast : Work → Work → SendOutcome → Type 0
 SendsLast old new sent = (back : Option ParcelOf) × (new ≡ after_last back old) × (sent ≡ told Ended back)
 
 -- what is done where nothing is out
-pub data Pushes (old new : Work) (result : Result Sent QueueFault) : Type 0 where
+pub data Pushes (old new : Work) (result : Result SendOutcome QueueFault) : Type 0 where
   pushes : (back : Option ParcelOf) → old.done < length old.rows → new ≡ after_push back old → result ≡ Ok (told Parcel back) → Pushes old new result
   no_memory : ends_with_last old.sends.sent ≡ false → new ≡ old → result ≡ Err f.Memory → Pushes old new result
   ends : (back : Option ParcelOf) → old.done ≡ length old.rows → ends_with_last old.sends.sent ≡ false → new ≡ after_last back old → result ≡ Ok (told Ended back) → Pushes old new result
   has_ended : old.done ≡ length old.rows → ends_with_last old.sends.sent ≡ true → new ≡ old → result ≡ Ok Ended → Pushes old new result
 
-pub data Steps (old new : Work) (result : Result Sent QueueFault) : Type 0 where
+pub data Steps (old new : Work) (result : Result SendOutcome QueueFault) : Type 0 where
   -- nothing is out
   goes_on : old.out ≡ 0 → Pushes old new result → Steps old new result
   -- a parcel is out, and the ring showed no answer
@@ -145,9 +145,9 @@ HasMissed old new = (new.sends.push_misses ≡ one_more old.sends.push_misses) �
 -- ---- runs
 
 -- calls one after the other, the last one at the end
-pub data Runs (start : Work) : List (Result Sent QueueFault) → Work → Type 0 where
+pub data Runs (start : Work) : List (Result SendOutcome QueueFault) → Work → Type 0 where
   none : Runs start [] start
-  more : (results : List (Result Sent QueueFault)) (w v : Work) (result : Result Sent QueueFault) → Runs start results w → Steps w v result → Runs start (results ++ result ∷ []) v
+  more : (results : List (Result SendOutcome QueueFault)) (w v : Work) (result : Result SendOutcome QueueFault) → Runs start results w → Steps w v result → Runs start (results ++ result ∷ []) v
 
 -- nothing was sent on the link, and no letter is out
 pub record Begins (w : Work) : Type 0 where
@@ -162,9 +162,9 @@ pub record Begins (w : Work) : Type 0 where
 -- the first of them; the letters are those from the beginning.
 abbrev pub LettersAreSentInOrder : Type 0
 LettersAreSentInOrder =
-    (start w : Work) (results : List (Result Sent QueueFault)) → Begins start → Runs start results w → (w.rows ≡ start.rows) × InOrder w
+    (start w : Work) (results : List (Result SendOutcome QueueFault)) → Begins start → Runs start results w → (w.rows ≡ start.rows) × InOrder w
 
 -- Behind a call that answers Ended, each letter was answered Assured, and the last parcel was sent.
 abbrev pub AllAreSentAtTheEnd : Type 0
 AllAreSentAtTheEnd =
-    (start w v : Work) (results : List (Result Sent QueueFault)) → Begins start → Runs start results w → Steps w v (Ok Ended) → (v.rows ≡ start.rows) × IsAllSent v
+    (start w v : Work) (results : List (Result SendOutcome QueueFault)) → Begins start → Runs start results w → Steps w v (Ok Ended) → (v.rows ≡ start.rows) × IsAllSent v

@@ -6,7 +6,7 @@ use Rattle.pipeline_bus.specs.Ends.{Sending, sending}
 use Rattle.pipeline_bus.specs.declared.parcel.Parcel.{Parcel}
 use Rattle.pipeline_bus.specs.declared.parcel.Answer.{Answer}
 use Rattle.pipeline_bus.specs.declared.link.LinkSender.{LinkSender}
-use Rattle.dead_letters.specs.declared.counting.Counted.{Counted}
+use Rattle.dead_letters.specs.declared.segments.Counted.{Counted}
 use Rattle.dead_letters.specs.declared.rows.DeadRow.{DeadRow}
 use Rattle.dead_sender.specs.Marks.{events_of}
 use Rattle.dead_sender.specs.Parcels.{assured, kept}

@@ -2,7 +2,7 @@
 //! whoever listens on the address `dlq:` with the id of the pipeline, and records how far they were answered.
 //!
 //! - [`DeadSender`] is opened on a folder with the end of a link, and each of its steps hears an answer or sends a
-//!   parcel ([`Sent`]).
+//!   parcel ([`SendOutcome`]).
 //!
 //! `specs/Parcels` says which events the parcels of a link have by their answers, and `specs/Work` how these stand to
 //! the letters; `specs/Steps` has what each call makes of that by its answer, and what holds behind any list of calls.
@@ -19,4 +19,4 @@ mod place;
 mod recording;
 mod sender;
 
-pub use sender::{DeadSender, Sent};
+pub use sender::{DeadSender, SendOutcome};

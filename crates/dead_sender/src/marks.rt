@@ -1,7 +1,7 @@
 // The events of letters, with what is said of these.
 ghost use Rattle.std.specs.Prelude.{◌≡◌, [], ◌∷◌, true, codes, IfOk};
 ghost use Rattle.event_tree.specs.Events.{to};
-ghost use Rattle.dead_sender.specs.Marks.{about, events_of, marked};
+ghost use Rattle.dead_sender.specs.Marks.{letter_metadata, events_of, marked};
 
 use dead_letters::{DeadLetter, DeadRow};
 use event_tree::{Event, Fields, Items, Path, PutFault, Text, Value};
@@ -35,15 +35,15 @@ fn marked(letter: &DeadLetter, path: &Path) -> Result<Event, AllocError>
     ensures { IfOk result (λ event. event ≡ marked letter.now) }
 {
     let mut event = letter.event.copy()?;
-    match event.put(path, about(letter)?) {
+    match event.put(path, letter_metadata(letter)?) {
         Err(PutFault::Memory) => Err(AllocError),
         _ => Ok(event),
     }
 }
 
 // What is said of a letter.
-fn about(letter: &DeadLetter) -> Result<Value, AllocError>
-    ensures { IfOk result (λ value. value ≡ about letter.now) }
+fn letter_metadata(letter: &DeadLetter) -> Result<Value, AllocError>
+    ensures { IfOk result (λ value. value ≡ letter_metadata letter.now) }
 {
     let alloc = letter.kind.allocator();
     let mut fields = Fields::with_capacity(alloc, 4)?;

@@ -26,7 +26,7 @@ use store_disk::{Damage, Failed, QueueFault, Store};
 
 /// What an opening finds.
 #[derive(Drop)]
-pub(crate) struct Opened {
+pub(crate) struct OpenedReader {
     pub(crate) address: Text,
     /// The file of the place up to which letters were answered.
     pub(crate) file: Text,
@@ -41,7 +41,7 @@ pub(crate) fn open_folder<S: Store>(
     alloc: Global,
     store: &mut S,
     folder: &str,
-) -> Result<Opened, QueueFault>
+) -> Result<OpenedReader, QueueFault>
     requires { folder_start folder.now ≡ folder.now }
     ensures names { IfOk result (λ o. (o.address ≡ address_of folder.now)
         × (o.file ≡ place_file folder.now)) }
@@ -64,7 +64,7 @@ pub(crate) fn open_folder<S: Store>(
         Ok(place) => {
             let all = open_letters(alloc, store, folder)?;
             let rows = rows_behind(place, all)?;
-            Ok(Opened {
+            Ok(OpenedReader {
                 address,
                 file,
                 recorded,

@@ -8,7 +8,7 @@ use std::alloc::AllocError;
 
 /// A place in a queue of dead letters.
 #[derive(Clone, Copy, Debug, PartialEq, Eq)]
-pub(crate) struct Place {
+pub(crate) struct LetterPosition {
     /// The number of a segment.
     pub(crate) segment: u32,
     /// How many bytes of it.
@@ -16,7 +16,7 @@ pub(crate) struct Place {
 }
 
 /// The place that its file says, if any; or what was found there and what was expected.
-pub(crate) fn place_in(counted: Counted) -> Result<Option<Place>, (u64, u64)>
+pub(crate) fn place_in(counted: Counted) -> Result<Option<LetterPosition>, (u64, u64)>
     ensures { result ≡ place_in counted }
 {
     match counted {
@@ -25,7 +25,7 @@ pub(crate) fn place_in(counted: Counted) -> Result<Option<Place>, (u64, u64)>
             if segments.first != segments.last {
                 return Err((u64::from(segments.first), u64::from(segments.last)));
             }
-            Ok(Some(Place {
+            Ok(Some(LetterPosition {
                 segment: segments.last,
                 length: segments.length,
             }))
@@ -35,7 +35,7 @@ pub(crate) fn place_in(counted: Counted) -> Result<Option<Place>, (u64, u64)>
 }
 
 // Whether a letter stands behind a place.
-fn is_behind(place: Option<Place>, row: &DeadRow) -> bool
+fn is_behind(place: Option<LetterPosition>, row: &DeadRow) -> bool
     ensures { result ≡ is_behind place row.now }
 {
     match place {
@@ -48,7 +48,10 @@ fn is_behind(place: Option<Place>, row: &DeadRow) -> bool
 }
 
 /// The letters behind a place. An error is want of memory.
-pub(crate) fn rows_behind(place: Option<Place>, rows: DeadRows) -> Result<DeadRows, AllocError>
+pub(crate) fn rows_behind(
+    place: Option<LetterPosition>,
+    rows: DeadRows,
+) -> Result<DeadRows, AllocError>
     ensures { IfOk result (λ left. left ≡ rows_behind place rows) }
 {
     let mut left = Items::new(rows.allocator());

@@ -1,9 +1,10 @@
+// A reader of dead letters, which sends them in parcels and records what is answered.
 ghost use Rattle.std.specs.Prelude.{◌≡◌, ◌↔◌, ◌<◌, ◌≤◌, [], IsTrue, IsErr, Ok, Err, length, IfOk, IfErr, OnOk};
 ghost use Rattle.pipeline_bus.specs.Ends.{sending};
 ghost use Rattle.pipeline_bus.specs.Parcels.{ends_with_last, with_events};
 
 use crate::marks::events_of;
-use crate::opening::{Opened, open_folder};
+use crate::opening::{OpenedReader, open_folder};
 use crate::recording::record;
 use dead_letters::{Counted, DeadRow, DeadRows};
 use event_tree::{Items, Text};
@@ -16,7 +17,7 @@ const PARCEL_LETTERS: usize = 125;
 
 /// What a step did.
 #[derive(Clone, Copy, Debug, PartialEq, Eq)]
-pub enum Sent {
+pub enum SendOutcome {
     /// A parcel with letters was sent.
     Parcel,
     /// The ring of the link showed no free slot, or no answer to the parcel that is out.
@@ -63,7 +64,7 @@ impl DeadSender {
     ghost use Rattle.dead_sender.specs.Ready.{IsReady, LeavesPlace};
     ghost use Rattle.dead_sender.specs.Steps.{Begins, HasMissed, HasPushed, HearsBy, Pushes, SendsLast, SendsNext, Steps, next_rows};
     ghost use Rattle.dead_sender.specs.Work.{InOrder, IsAllSent, IsSending, sender_of, work};
-    ghost use Rattle.dead_sender.specs.declared.sender.Sent.TheVariants as s;
+    ghost use Rattle.dead_sender.specs.declared.sender.SendOutcome.TheVariants as s;
 
     /// Opens the queue of dead letters of a folder, whose path ends with a slash, and the file of the place up to
     /// which its letters were answered, `dlq.pos` in the folder beside it whose name ends with `.dlq`. The end of
@@ -99,7 +100,7 @@ impl DeadSender {
     {
         match open_folder(alloc, store, folder) {
             Ok(
-                Opened {
+                OpenedReader {
                     address,
                     file,
                     recorded,
@@ -134,7 +135,7 @@ impl DeadSender {
     ///
     /// `Memory` is want of memory for a parcel, or of a number: there are 2^64 - 1 for one link. What it heard and
     /// recorded before stands, and it may be called again. Behind `Fault` it takes no further step.
-    pub fn step<S: Store>(&mut self, store: &mut S) -> Result<Sent, QueueFault>
+    pub fn step<S: Store>(&mut self, store: &mut S) -> Result<SendOutcome, QueueFault>
         requires ready { IsReady S.Store (work self.old) store.old }
         ensures steps { Steps (work self.old) (work self.new) result }
         ensures ready { (result ≡ Err f.Fault → ⊥) → IsReady S.Store (work self.new) store.new }
@@ -155,7 +156,7 @@ impl DeadSender {
         if self.out > 0 {
             match self.hear(store) {
                 Ok(true) => {}
-                Ok(false) => return Ok(Sent::NotYet),
+                Ok(false) => return Ok(SendOutcome::NotYet),
                 Err(_) => return Err(QueueFault::Fault),
             }
         }
@@ -194,7 +195,7 @@ impl DeadSender {
     }
 
     // Sends the next parcel, or the last one. None is out.
-    fn send(&mut self) -> Result<Sent, QueueFault>
+    fn send(&mut self) -> Result<SendOutcome, QueueFault>
         requires sending { IsSending (work self.old) }
         requires none { (work self.old).out ≡ 0 }
         ensures pushes { Pushes (work self.old) (work self.new) result }
@@ -204,13 +205,13 @@ impl DeadSender {
             return Ok(self.send_next()?);
         }
         if self.ended {
-            return Ok(Sent::Ended);
+            return Ok(SendOutcome::Ended);
         }
         Ok(self.send_last()?)
     }
 
     // Sends the next letters.
-    fn send_next(&mut self) -> Result<Sent, AllocError>
+    fn send_next(&mut self) -> Result<SendOutcome, AllocError>
         requires sending { IsSending (work self.old) }
         requires some { (work self.old).done < length (work self.old).rows }
         ensures sent { IfOk result (SendsNext (work self.old) (work self.new)) }
@@ -229,11 +230,11 @@ impl DeadSender {
             events: events_of(alloc, next)?,
         };
         match self.sender.push(parcel) {
-            Some(_) => Ok(Sent::NotYet),
+            Some(_) => Ok(SendOutcome::NotYet),
             None => {
                 self.number = number;
                 self.out = out;
-                Ok(Sent::Parcel)
+                Ok(SendOutcome::Parcel)
             }
         }
     }
@@ -248,7 +249,7 @@ impl DeadSender {
     }
 
     // Sends the last parcel.
-    fn send_last(&mut self) -> Result<Sent, AllocError>
+    fn send_last(&mut self) -> Result<SendOutcome, AllocError>
         ensures sent { IfOk result (SendsLast (work self.old) (work self.new)) }
         ensures err { IfErr result (λ _. work self.new ≡ work self.old) }
         ensures same { IsSameSender (sender_of self.old) (sender_of self.new) }
@@ -259,10 +260,10 @@ impl DeadSender {
             events: Items::new(self.rows.allocator()),
         };
         match self.sender.push(parcel) {
-            Some(_) => Ok(Sent::NotYet),
+            Some(_) => Ok(SendOutcome::NotYet),
             None => {
                 self.ended = true;
-                Ok(Sent::Ended)
+                Ok(SendOutcome::Ended)
             }
         }
     }

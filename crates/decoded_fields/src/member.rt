@@ -1,3 +1,4 @@
+// Where the members of a decoded JSON object go in an event.
 ghost use Rattle.std.specs.Prelude.{◌≡◌, ◌∷◌, [], IfOk};
 ghost use Rattle.std.specs.List.{list_any};
 ghost use Rattle.event_tree.specs.PathTexts.{way_of};

@@ -1,3 +1,4 @@
+// The JSON value of a text, and the text of a value.
 ghost use Rattle.std.specs.Prelude.{◌≡◌, IfOk, option_map};
 ghost use Rattle.decoded_fields.specs.Decoded as spec;
 

@@ -1,3 +1,4 @@
+// The event that an encoding spells.
 ghost use Rattle.std.specs.Prelude.{◌≡◌, ◌≤◌, length, IfOk};
 ghost use Rattle.element_code.specs.Parts.{event_spelling};
 ghost use Rattle.element_code.specs.Values.{IsWhole};

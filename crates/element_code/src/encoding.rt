@@ -1,3 +1,4 @@
+// The encoding of an event: one spelling for each.
 ghost use Rattle.std.specs.Prelude.{◌≡◌, ◌∷◌, ◌++◌, length, OnOk, OnErr};
 ghost use Rattle.event_tree.specs.Events.{IsEvent, event_size};
 ghost use Rattle.byte_reader.specs.Fronts.{count_bytes, run_bytes};

@@ -1,3 +1,4 @@
+// Why bytes are no event.
 use thiserror::Error;
 
 /// Why bytes are no event.

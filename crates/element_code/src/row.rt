@@ -1,3 +1,4 @@
+// Rows of a queue: an event behind the input that it came by.
 ghost use Rattle.std.specs.Prelude.{◌≡◌, ◌≢◌, ◌+◌, ◌++◌, ◌≤◌, length, Ok, Err, OnOk, OnErr, IfOk};
 ghost use Rattle.event_tree.specs.Events.{event_size};
 ghost use Rattle.byte_reader.specs.Gives.{Gives};

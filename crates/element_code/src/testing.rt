@@ -88,7 +88,7 @@ fn test_event(bytes: &[u8]) -> Result<(), Stop>
 }
 
 // What is behind a value that holds no others, of which the tag was read.
-fn behind_leaf(tag: u8, rest: &[u8]) -> Result<&[u8], Stop>
+fn skip_scalar(tag: u8, rest: &[u8]) -> Result<&[u8], Stop>
     ensures reads { Gives (λ rest. rest.now) result (behind (leaf_at tag rest.now)) }
     ensures memory { result ≢ Err Stop.Memory }
 {
@@ -162,7 +162,7 @@ fn behind_value(levels: usize, bytes: &[u8]) -> Result<&[u8], Stop>
     if levels > 0 && *tag == tags::OBJECT {
         return behind_object(levels - 1, rest);
     }
-    behind_leaf(*tag, rest)
+    skip_scalar(*tag, rest)
 }
 
 #[tactic(auto, unfolding(crate::specs::Reading::list_at))]

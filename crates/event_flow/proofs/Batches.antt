@@ -8,10 +8,10 @@ use Rattle.condition_eval.specs.declared.truth.Truth.{Truth}
 use Rattle.condition_eval.specs.declared.truth.Truth.TheVariants as truth
 use Rattle.foreign_parts.specs.declared.filter.Verdict.{Verdict}
 use Rattle.event_flow.specs.Flows.{Derived, To, Asked, Flow, Goes, nothing, derives, behind, each, led}
-use Rattle.event_flow.specs.Marks.{Mark, At, Did, Used, derived_in, verdicts_in, at_once, dids, led_mark, Acts, Becomes, AllBecome, AllMay, Does, Ran}
+use Rattle.event_flow.specs.Marks.{Mark, At, Did, Used, derived_in, verdicts_in, at_once, dids, led_mark, Acts, Becomes, StepsAll, AllMay, Does, Derives}
 use Rattle.event_flow.specs.Steps.{Act, Gives, Asks, Sends, acted, Table, from}
-use Rattle.event_flow.specs.declared.step.Step.{Step}
-use Rattle.event_flow.specs.declared.step.Step.TheVariants as s
+use Rattle.event_flow.specs.declared.step.FlowStep.{FlowStep}
+use Rattle.event_flow.specs.declared.step.FlowStep.TheVariants as s
 
 module _ (may : ℕ → Ev → Verdict → Type 0) where
   may_both : (qs rs : List Asked) → AllMay may qs → AllMay may rs → AllMay may (qs ++ rs)
@@ -94,17 +94,17 @@ module _ (may : ℕ → Ev → Verdict → Type 0) where
   runs_led k over id e truth.No ms vs ds left (some, more, mid, is, here, runs) = record { some = some; more = more; mid = mid; whole = is; here = here; there = runs }
   runs_led k over id e (truth.Wrong reason) ms vs ds left (more, is, runs) = record { some = _ ∷ []; more = more; mid = vs; whole = is; here = record { derived = refl; asked = tt; left_over = refl; enough = refl }; there = runs }
 
-  module _ (table : Table) (goes : Goes) (ss : List Step) where
+  module _ (table : Table) (goes : Goes) (ss : List FlowStep) where
     abbrev behind_it : ℕ → Goes
     behind_it skip = from table ss skip goes
 
-    abbrev before_it : Step → ℕ → Goes
+    abbrev before_it : FlowStep → ℕ → Goes
     before_it x skip = from table (x ∷ ss) skip goes
 
-    abbrev Before : Step → List Mark → List Mark → Type 0
+    abbrev Before : FlowStep → List Mark → List Mark → Type 0
     Before x ms more = (vs : List Verdict) (ds : List Derived) (left : List Verdict) → Runs behind_it more vs ds left → Runs (before_it x) ms vs ds left
 
-    runs_mark : (x : Step) (m : Mark) (part more ms : List Mark) (vs : List Verdict) (ds : List Derived) (left : List Verdict) → Becomes may table x m part → Before x ms more → Runs behind_it (part ++ more) vs ds left → Runs (before_it x) (m ∷ ms) vs ds left
+    runs_mark : (x : FlowStep) (m : Mark) (part more ms : List Mark) (vs : List Verdict) (ds : List Derived) (left : List Verdict) → Becomes may table x m part → Before x ms more → Runs behind_it (part ++ more) vs ds left → Runs (before_it x) (m ∷ ms) vs ds left
     runs_mark x (Did d) part more ms vs ds left is others runs =
         let (rest, whole, there) = subst (λ p. Runs behind_it (p ++ more) vs ds left) is runs in
         (rest, whole, others vs rest left there)
@@ -125,7 +125,7 @@ module _ (may : ℕ → Ev → Verdict → Type 0) where
         (some, rest, mid, whole, here, others mid rest left there)
 
     -- one step on
-    runs_step : (x : Step) (ms out : List Mark) (vs : List Verdict) (ds : List Derived) (left : List Verdict) → AllBecome may table x ms out → Runs behind_it out vs ds left → Runs (before_it x) ms vs ds left
+    runs_step : (x : FlowStep) (ms out : List Mark) (vs : List Verdict) (ds : List Derived) (left : List Verdict) → StepsAll may table x ms out → Runs behind_it out vs ds left → Runs (before_it x) ms vs ds left
     runs_step x [] out vs ds left all runs = subst (λ os. Runs behind_it os vs ds left) all runs
     runs_step x (m ∷ ms) out vs ds left (part, more, is, becomes, all) runs =
         runs_mark x m part more ms vs ds left becomes (λ ws es end. runs_step x ms more ws es end all) (subst (λ os. Runs behind_it os vs ds left) is runs)
@@ -157,7 +157,7 @@ acts_as may now e (Sends id places) part weaker is = is
 acts_as may now e (Asks k events) part weaker (v, answers, is) = (v, weaker k e v answers, is)
 
 -- what a step does by a kit that means the same
-becomes_as : (table : Table) (may now : ℕ → Ev → Verdict → Type 0) (x : Step) (m : Mark) (part : List Mark) → Weaker now may → Becomes now table x m part → Becomes may table x m part
+becomes_as : (table : Table) (may now : ℕ → Ev → Verdict → Type 0) (x : FlowStep) (m : Mark) (part : List Mark) → Weaker now may → Becomes now table x m part → Becomes may table x m part
 becomes_as table may now x (Did d) part weaker is = is
 becomes_as table may now x (Used v) part weaker is = is
 becomes_as table may now x (At (suc skip) e) part weaker is = is
@@ -165,23 +165,23 @@ becomes_as table may now (s.Plugin n) (At zero e) part weaker is = acts_as may n
 becomes_as table may now (s.Test n over) (At zero e) part weaker is = is
 becomes_as table may now (s.Skip over) (At zero e) part weaker is = is
 
-pub all_become_as : (table : Table) (may now : ℕ → Ev → Verdict → Type 0) (x : Step) (ms out : List Mark) → Weaker now may → AllBecome now table x ms out → AllBecome may table x ms out
+pub all_become_as : (table : Table) (may now : ℕ → Ev → Verdict → Type 0) (x : FlowStep) (ms out : List Mark) → Weaker now may → StepsAll now table x ms out → StepsAll may table x ms out
 all_become_as table may now x [] out weaker all = all
 all_become_as table may now x (m ∷ ms) out weaker (part, more, whole, is, all) = (part, more, whole, becomes_as table may now x m part weaker is, all_become_as table may now x ms more weaker all)
 
-module _ (may : ℕ → Ev → Verdict → Type 0) (table : Table) (x : Step) where
+module _ (may : ℕ → Ev → Verdict → Type 0) (table : Table) (x : FlowStep) where
   -- marks in front of others
-  pub all_behind : (ms ns part more : List Mark) → AllBecome may table x ms part → AllBecome may table x ns more → AllBecome may table x (ms ++ ns) (part ++ more)
-  all_behind [] ns part more none all = subst (λ p. AllBecome may table x ns (p ++ more)) (sym none) all
+  pub all_behind : (ms ns part more : List Mark) → StepsAll may table x ms part → StepsAll may table x ns more → StepsAll may table x (ms ++ ns) (part ++ more)
+  all_behind [] ns part more none all = subst (λ p. StepsAll may table x ns (p ++ more)) (sym none) all
   all_behind (m ∷ ms) ns part more (here, rest, whole, becomes, all) others =
       (here, rest ++ more, ap (λ p. p ++ more) whole ∙ append_assoc here rest more, becomes, all_behind ms ns rest more all others)
 
   -- what was derived stays
-  pub dids_stay : (ds : List Derived) → AllBecome may table x (dids ds) (dids ds)
+  pub dids_stay : (ds : List Derived) → StepsAll may table x (dids ds) (dids ds)
   dids_stay [] = refl
   dids_stay (d ∷ ds) = (Did d ∷ [], dids ds, refl, refl, dids_stay ds)
 
-  pub one_becomes : (m : Mark) (part : List Mark) → Becomes may table x m part → AllBecome may table x (m ∷ []) part
+  pub one_becomes : (m : Mark) (part : List Mark) → Becomes may table x m part → StepsAll may table x (m ∷ []) part
   one_becomes m part becomes = (part, [], sym (append-nil part), becomes, refl)
 
 -- a kit that means the same
@@ -196,25 +196,25 @@ pub same_then : (table now new : Table) (may may' may'' : ℕ → Ev → Verdict
 same_then table now new may may' may'' same is weaker = record { same_table = is ∙ same.same_table; weaker = λ k e v answers. same.weaker k e v (weaker k e v answers) }
 
 -- the marks are those of the first i steps
-pub record Running (table : Table) (may : ℕ → Ev → Verdict → Type 0) (steps : List Step) (events : List Ev) (ms : List Mark) (i : ℕ) : Type 0 where
+pub record Running (table : Table) (may : ℕ → Ev → Verdict → Type 0) (steps : List FlowStep) (events : List Ev) (ms : List Mark) (i : ℕ) : Type 0 where
   pub runs : (vs : List Verdict) (ds : List Derived) (left : List Verdict) → Runs may (λ skip. from table (drop i steps) skip (λ e. nothing)) ms vs ds left → Does may (each (from table steps 0 (λ e. nothing)) events) vs ds left
 
-pub running_starts : (table : Table) (may : ℕ → Ev → Verdict → Type 0) (steps : List Step) (events : List Ev) (ms : List Mark) → ms ≡ at_once events → Running table may steps events ms 0
+pub running_starts : (table : Table) (may : ℕ → Ev → Verdict → Type 0) (steps : List FlowStep) (events : List Ev) (ms : List Mark) → ms ≡ at_once events → Running table may steps events ms 0
 running_starts table may steps events ms is = record {
   runs = λ vs ds left runs. begins may (λ skip. from table steps skip (λ e. nothing)) events vs ds left (subst (λ os. Runs may (λ skip. from table steps skip (λ e. nothing)) os vs ds left) is runs);
 }
 
-pub running_one : (table now : Table) (may may' : ℕ → Ev → Verdict → Type 0) (steps : List Step) (events : List Ev) (ms out : Table → List Mark) (i : ℕ) (d : Step) → i < length steps → Same table now may may' → Running table may steps events (ms table) i → AllBecome may' now (get_or steps i d) (ms now) (out now) → Running table may steps events (out table) (i + 1)
+pub running_one : (table now : Table) (may may' : ℕ → Ev → Verdict → Type 0) (steps : List FlowStep) (events : List Ev) (ms out : Table → List Mark) (i : ℕ) (d : FlowStep) → i < length steps → Same table now may may' → Running table may steps events (ms table) i → StepsAll may' now (get_or steps i d) (ms now) (out now) → Running table may steps events (out table) (i + 1)
 running_one table now may may' steps events ms out i d below same running become =
-    let all : AllBecome may table (get_or steps i d) (ms table) (out table)
-    = all_become_as table may may' (get_or steps i d) (ms table) (out table) same.weaker (subst (λ t. AllBecome may' t (get_or steps i d) (ms t) (out t)) same.same_table become) in
+    let all : StepsAll may table (get_or steps i d) (ms table) (out table)
+    = all_become_as table may may' (get_or steps i d) (ms table) (out table) same.weaker (subst (λ t. StepsAll may' t (get_or steps i d) (ms t) (out t)) same.same_table become) in
     record {
       runs = λ vs ds left runs. running.runs vs ds left
           (subst (λ ss. Runs may (λ skip. from table ss skip (λ e. nothing)) (ms table) vs ds left) (sym (drop_more steps i d below))
           (runs_step may table (λ e. nothing) (drop (i + 1) steps) (get_or steps i d) (ms table) (out table) vs ds left all runs));
     }
 
-pub running_ends : (table : Table) (may : ℕ → Ev → Verdict → Type 0) (steps : List Step) (events : List Ev) (ms : List Mark) (i : ℕ) → length steps ≤ i → Running table may steps events ms i → Ran may (each (from table steps 0 (λ e. nothing)) events) ms
+pub running_ends : (table : Table) (may : ℕ → Ev → Verdict → Type 0) (steps : List FlowStep) (events : List Ev) (ms : List Mark) (i : ℕ) → length steps ≤ i → Running table may steps events ms i → Derives may (each (from table steps 0 (λ e. nothing)) events) ms
 running_ends table may steps events ms i end running =
     let none : drop i steps ≡ [] = grind (arith, common_steps) in
     record {

@@ -4,19 +4,19 @@ use Rattle.event_tree.specs.Events.{Ev}
 use Rattle.event_flow.specs.Flows.{Goes, led}
 use Rattle.event_flow.specs.Laying.{behind_block, closing}
 use Rattle.event_flow.specs.Steps.{Table, Mean, acted, from}
-use Rattle.event_flow.specs.declared.step.Step.{Step}
-use Rattle.event_flow.specs.declared.step.Step.TheVariants as s
+use Rattle.event_flow.specs.declared.step.FlowStep.{FlowStep}
+use Rattle.event_flow.specs.declared.step.FlowStep.TheVariants as s
 
 module _ (table : Table) where
-  passed_over : (ss rest : List Step) (goes : Goes) (e : Ev) → from table (ss ++ rest) (length ss) goes e ≡ from table rest 0 goes e
+  passed_over : (ss rest : List FlowStep) (goes : Goes) (e : Ev) → from table (ss ++ rest) (length ss) goes e ≡ from table rest 0 goes e
   passed_over [] rest goes e = refl
   passed_over (x ∷ ss) rest goes e = passed_over ss rest goes e
 
-  passed_next : (ss : List Step) (x : Step) (rest : List Step) (goes : Goes) (e : Ev) → from table (ss ++ x ∷ rest) (suc (length ss)) goes e ≡ from table rest 0 goes e
+  passed_next : (ss : List FlowStep) (x : FlowStep) (rest : List FlowStep) (goes : Goes) (e : Ev) → from table (ss ++ x ∷ rest) (suc (length ss)) goes e ≡ from table rest 0 goes e
   passed_next [] x rest goes e = refl
   passed_next (y ∷ ss) x rest goes e = passed_next ss x rest goes e
 
-  passed_one : (ss : List Step) (x : Step) (rest : List Step) (goes : Goes) (e : Ev) → from table (ss ++ x ∷ rest) (length ss + 1) goes e ≡ from table rest 0 goes e
+  passed_one : (ss : List FlowStep) (x : FlowStep) (rest : List FlowStep) (goes : Goes) (e : Ev) → from table (ss ++ x ∷ rest) (length ss + 1) goes e ≡ from table rest 0 goes e
   passed_one ss x rest goes e = rw add-one (passed_next ss x rest goes e)
 
   pub mean_nothing : Mean table [] (λ goes. goes)
@@ -25,13 +25,13 @@ module _ (table : Table) where
   pub mean_plugin : (n : ℕ) → Mean table (s.Plugin n ∷ []) (λ goes e. acted (table.acts n e) goes e)
   mean_plugin n = record { goes_on = λ rest goes e. refl }
 
-  pub mean_behind : (ss ts : List Step) (f g : Goes → Goes) → Mean table ss f → Mean table ts g → Mean table (ss ++ ts) (λ goes. f (g goes))
+  pub mean_behind : (ss ts : List FlowStep) (f g : Goes → Goes) → Mean table ss f → Mean table ts g → Mean table (ss ++ ts) (λ goes. f (g goes))
   mean_behind ss ts f g first second = record {
     goes_on = λ rest goes e. ap (λ us. from table us 0 goes e) (append_assoc ss ts rest) ∙ first.goes_on (ts ++ rest) goes e ∙ ap (λ h. f h e) (λ i x. second.goes_on rest goes x i);
   }
 
   -- a block with its condition, and the arms behind it
-  mean_arm : (n : ℕ) (ss ts : List Step) (f g : Goes → Goes) → Mean table ss f → Mean table ts g → Mean table (s.Test n (length ss + 1) ∷ ss ++ s.Skip (length ts) ∷ ts) (λ goes e. led (table.ids n) (table.says n e) (f goes) (g goes) e)
+  mean_arm : (n : ℕ) (ss ts : List FlowStep) (f g : Goes → Goes) → Mean table ss f → Mean table ts g → Mean table (s.Test n (length ss + 1) ∷ ss ++ s.Skip (length ts) ∷ ts) (λ goes e. led (table.ids n) (table.says n e) (f goes) (g goes) e)
   mean_arm n ss ts f g first second = record {
     goes_on = λ rest goes e.
         let taken : (x : Ev) → from table ((ss ++ s.Skip (length ts) ∷ ts) ++ rest) 0 goes x ≡ f (from table rest 0 goes) x
@@ -42,7 +42,7 @@ module _ (table : Table) where
   }
 
   -- the same where its end passes over the arms behind it, if there are any
-  pub mean_block : (n : ℕ) (ss ts : List Step) (f g : Goes → Goes) → Mean table ss f → Mean table ts g → Mean table (s.Test n (behind_block (length ss) ts) ∷ ss ++ closing ts) (λ goes e. led (table.ids n) (table.says n e) (f goes) (g goes) e)
+  pub mean_block : (n : ℕ) (ss ts : List FlowStep) (f g : Goes → Goes) → Mean table ss f → Mean table ts g → Mean table (s.Test n (behind_block (length ss) ts) ∷ ss ++ closing ts) (λ goes e. led (table.ids n) (table.says n e) (f goes) (g goes) e)
   mean_block n ss [] f g first second = record {
     goes_on = λ rest goes e.
         let taken : (x : Ev) → from table ((ss ++ []) ++ rest) 0 goes x ≡ f (from table rest 0 goes) x
@@ -54,11 +54,11 @@ module _ (table : Table) where
   mean_block n ss (x ∷ ts) f g first second = mean_arm n ss (x ∷ ts) f g first second
 
   -- a block that each event takes, and steps behind it that none meets
-  mean_else : (ss ts : List Step) (f : Goes → Goes) → Mean table ss f → Mean table (ss ++ s.Skip (length ts) ∷ ts) f
+  mean_else : (ss ts : List FlowStep) (f : Goes → Goes) → Mean table ss f → Mean table (ss ++ s.Skip (length ts) ∷ ts) f
   mean_else ss ts f first = record {
     goes_on = λ rest goes e. ap (λ us. from table us 0 goes e) (append_assoc ss (s.Skip (length ts) ∷ ts) rest) ∙ first.goes_on (s.Skip (length ts) ∷ ts ++ rest) goes e ∙ ap (λ h. f h e) (λ i x. passed_over ts rest goes x i);
   }
 
-  pub mean_last : (ss ts : List Step) (f : Goes → Goes) → Mean table ss f → Mean table (ss ++ closing ts) f
+  pub mean_last : (ss ts : List FlowStep) (f : Goes → Goes) → Mean table ss f → Mean table (ss ++ closing ts) f
   mean_last ss [] f first = subst (λ us. Mean table us f) (sym (append-nil ss)) first
   mean_last ss (x ∷ ts) f first = mean_else ss (x ∷ ts) f first

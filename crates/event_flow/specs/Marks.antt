@@ -10,8 +10,8 @@ use Rattle.event_flow.specs.declared.cell.Cell.{Cell}
 use Rattle.event_flow.specs.declared.cell.Cell.TheVariants as c
 use Rattle.event_flow.specs.declared.cell.Outcome.{Outcome}
 use Rattle.event_flow.specs.declared.cell.Outcome.TheVariants as o
-use Rattle.event_flow.specs.declared.step.Step.{Step}
-use Rattle.event_flow.specs.declared.step.Step.TheVariants as step
+use Rattle.event_flow.specs.declared.step.FlowStep.{FlowStep}
+use Rattle.event_flow.specs.declared.step.FlowStep.TheVariants as step
 
 -- an event that passes over so many steps; something that was derived; a verdict that was used
 pub data Mark : Type 0 where
@@ -46,9 +46,9 @@ module _ (table : Table) where
 
   -- an outcome and a cell as marks
   abbrev pub outcome_marks : Outcome → List Mark
-  outcome_marks (o.Gone e targets) = dids (sent_to targets e)
-  outcome_marks (o.Died n reason e targets) = dids (sent_to targets e) ++ Did (Dead (wrong_letter (table.ids n) reason e)) ∷ []
-  outcome_marks (o.Used v) = Used v ∷ []
+  outcome_marks (o.Consumed e targets) = dids (sent_to targets e)
+  outcome_marks (o.Dead n reason e targets) = dids (sent_to targets e) ++ Did (Dead (wrong_letter (table.ids n) reason e)) ∷ []
+  outcome_marks (o.Verdict v) = Used v ∷ []
 
   abbrev pub marks_of : Cell → List Mark
   marks_of (c.At skip e targets) = dids (sent_to targets e) ++ At skip e ∷ []
@@ -67,7 +67,7 @@ led_mark over id e (truth.Wrong reason) = Did (Dead (wrong_letter id reason e))
 abbrev pub led_cell : Truth → ℕ → ℕ → Ev → List ℕ → Cell
 led_cell truth.Yes n over e targets = c.At 0 e targets
 led_cell truth.No n over e targets = c.At over e targets
-led_cell (truth.Wrong reason) n over e targets = c.Came (o.Died n reason e targets)
+led_cell (truth.Wrong reason) n over e targets = c.Came (o.Dead n reason e targets)
 
 module _ (may : ℕ → Ev → Verdict → Type 0) where
   -- what a plugin puts in the place of an event
@@ -81,7 +81,7 @@ module _ (may : ℕ → Ev → Verdict → Type 0) where
   Meets table n e targets part = (acts : List Mark) × Acts e (table.acts n e) acts × (part ≡ dids (sent_to table targets e) ++ acts)
 
   -- what one step puts in the place of a mark
-  abbrev pub Becomes : Table → Step → Mark → List Mark → Type 0
+  abbrev pub Becomes : Table → FlowStep → Mark → List Mark → Type 0
   Becomes table s (Did d) part = part ≡ Did d ∷ []
   Becomes table s (Used v) part = part ≡ Used v ∷ []
   Becomes table s (At (suc skip) e) part = part ≡ At skip e ∷ []
@@ -90,9 +90,9 @@ module _ (may : ℕ → Ev → Verdict → Type 0) where
   Becomes table (step.Skip over) (At zero e) part = part ≡ At over e ∷ []
 
   -- what one step puts in the place of marks, each in order
-  abbrev pub AllBecome : Table → Step → List Mark → List Mark → Type 0
-  AllBecome table s [] out = out ≡ []
-  AllBecome table s (x ∷ ms) out = (part more : List Mark) × (out ≡ part ++ more) × Becomes table s x part × AllBecome table s ms more
+  abbrev pub StepsAll : Table → FlowStep → List Mark → List Mark → Type 0
+  StepsAll table s [] out = out ≡ []
+  StepsAll table s (x ∷ ms) out = (part more : List Mark) × (out ≡ part ++ more) × Becomes table s x part × StepsAll table s ms more
 
   -- each verdict may be the answer of that filter to that event
   abbrev pub AllMay : List Asked → Type 0
@@ -107,7 +107,7 @@ module _ (may : ℕ → Ev → Verdict → Type 0) where
     pub enough : (f vs).enough ≡ true
 
   -- with the verdicts of the marks, whatever stands behind them, a flow derives what the marks say, and uses just these
-  pub record Ran (f : Flow) (ms : List Mark) : Type 0 where
+  pub record Derives (f : Flow) (ms : List Mark) : Type 0 where
     pub does : (rest : List Verdict) → Does f (verdicts_in ms ++ rest) (derived_in ms) rest
 
 -- where an event met a plugin, the event stands in its place, if it stays, and nothing else came; else all that came is behind the other cells
@@ -116,7 +116,7 @@ Came table true e targets old new part = (new ≡ old) × (part ≡ marks_of tab
 Came table false e targets old new part = marks table new ≡ marks table old ++ part
 
 -- marks of this kind came of an event
-pub record Comes (Kind : List Mark → Type 0) (table : Table) (stays : Bool) (e : Ev) (targets : List ℕ) (old new : List Cell) : Type 0 where
+pub record Yields (Kind : List Mark → Type 0) (table : Table) (stays : Bool) (e : Ev) (targets : List ℕ) (old new : List Cell) : Type 0 where
   pub part : List Mark
   pub whole : Came table stays e targets old new part
   pub kind : Kind part

@@ -5,8 +5,8 @@ use Rattle.condition_eval.specs.declared.truth.Truth.{Truth}
 use Rattle.foreign_parts.specs.declared.filter.Verdict.{Verdict}
 use Rattle.foreign_parts.specs.declared.place.Place.{Place}
 use Rattle.event_flow.specs.Flows.{Goes, each, asks, sent, led}
-use Rattle.event_flow.specs.declared.step.Step.{Step}
-use Rattle.event_flow.specs.declared.step.Step.TheVariants as step
+use Rattle.event_flow.specs.declared.step.FlowStep.{FlowStep}
+use Rattle.event_flow.specs.declared.step.FlowStep.TheVariants as step
 
 -- what a plugin does to an event: these events stand in its place, or those that the verdict of the k-th filter gives, or it is sent to these places of an output
 pub data Act : Type 0 where
@@ -29,7 +29,7 @@ pub record Table : Type 0 where
 
 module _ (table : Table) where
   -- an event passes over so many steps, meets those behind them, and then goes on
-  abbrev pub from : List Step → ℕ → Goes → Goes
+  abbrev pub from : List FlowStep → ℕ → Goes → Goes
   from [] skip goes e = goes e
   from (s ∷ ss) (suc skip) goes e = from ss skip goes e
   from (step.Plugin n ∷ ss) zero goes e = acted (table.acts n e) (from ss 0 goes) e
@@ -37,5 +37,5 @@ module _ (table : Table) where
   from (step.Skip over ∷ ss) zero goes e = from ss over goes e
 
   -- the steps mean this, whatever stands behind them
-  pub record Mean (ss : List Step) (flow : Goes → Goes) : Type 0 where
-    pub goes_on : (rest : List Step) (goes : Goes) (e : Ev) → from (ss ++ rest) 0 goes e ≡ flow (from rest 0 goes) e
+  pub record Mean (ss : List FlowStep) (flow : Goes → Goes) : Type 0 where
+    pub goes_on : (rest : List FlowStep) (goes : Goes) (e : Ev) → from (ss ++ rest) 0 goes e ≡ flow (from rest 0 goes) e

@@ -1,3 +1,4 @@
+// The cells of a batch: events under way, and what came of the others.
 use crate::targets::Targets;
 use condition_eval::Reason;
 use event_tree::Event;
@@ -15,21 +16,21 @@ pub enum Cell {
 /// What came of an event, or was used for it, in the end.
 pub enum Outcome {
     /// An event that goes no further, and where it was sent.
-    Gone(Event, Targets),
+    Consumed(Event, Targets),
     /// An event that is dead: the number of its condition, and why that is wrong; and where it was
     /// sent.
-    Died(u64, Reason, Event, Targets),
+    Dead(u64, Reason, Event, Targets),
     /// A verdict that was used.
-    Used(Verdict),
+    Verdict(Verdict),
 }
 
 // Written out, so that it is one call wherever an error is handed on while an outcome is held.
 impl Drop for Outcome {
     fn drop(self) {
         match self {
-            Outcome::Gone(_event, _targets) => {}
-            Outcome::Died(_, _reason, _event, _targets) => {}
-            Outcome::Used(_verdict) => {}
+            Outcome::Consumed(_event, _targets) => {}
+            Outcome::Dead(_, _reason, _event, _targets) => {}
+            Outcome::Verdict(_verdict) => {}
         }
     }
 }

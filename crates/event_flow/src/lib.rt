@@ -5,16 +5,16 @@
 mod assembling;
 mod block;
 mod cell;
+mod flattening;
 pub mod laws;
-mod laying;
 mod running;
 mod step;
 mod stepping;
 mod targets;
 
-pub use block::{Block, Laid};
+pub use block::{Block, Flattened};
 pub use cell::{Cell, Outcome};
-pub use laying::{lay, lay_config};
+pub use flattening::{flatten, flatten_config};
 pub use running::{Plugins, run};
-pub use step::Step;
+pub use step::FlowStep;
 pub use targets::Targets;

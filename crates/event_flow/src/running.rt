@@ -1,3 +1,4 @@
+// Running a batch through all steps, and the trait of what the steps act by.
 ghost use Rattle.std.specs.Prelude.{◌≡◌, ℕ, ◌<◌, ◌≤◌, ◌++◌, [], IfOk, OnOk, map, length, take, drop};
 ghost use Rattle.event_tree.specs.Events.{Ev};
 ghost use Rattle.foreign_parts.specs.declared.filter.Verdict.{Verdict};
@@ -7,12 +8,12 @@ ghost use Rattle.event_flow.specs.Laying.{AreStepsOf, IsTableOf};
 ghost use Rattle.event_flow.specs.Meaning.{Makes, flow_of};
 ghost use Rattle.event_flow.specs.Places.{Draws};
 ghost use Rattle.event_flow.specs.Steps.{from};
-ghost use Rattle.event_flow.specs.Marks.{Meets, AllBecome, Ran, Adds, Comes, marks, marks_of};
+ghost use Rattle.event_flow.specs.Marks.{Meets, StepsAll, Derives, Adds, Yields, marks, marks_of};
 ghost use Rattle.event_flow.specs.Stepped.{Takes};
 ghost use Rattle.event_flow.specs.declared.cell.Cell.TheVariants as cell;
 
 use crate::cell::Cell;
-use crate::step::Step;
+use crate::step::FlowStep;
 use crate::stepping::step_cell;
 use crate::targets::Targets;
 use condition_eval::Truth;
@@ -53,7 +54,7 @@ pub trait Plugins {
     ) -> Result<bool, AllocError>
         requires { stands self.old }
         ensures stands { stands self.new }
-        ensures ok { IfOk result (λ stays. Comes
+        ensures ok { IfOk result (λ stays. Yields
             (Meets (may self.old) (table self.old) number event.old targets.old)
             (table self.old) stays event.new targets.new to.old to.new) }
         ensures table { table self.new ≡ table self.old }
@@ -79,7 +80,7 @@ pub trait Plugins {
 pub fn run<K: Plugins>(
     alloc: Global,
     kit: &mut K,
-    steps: &[Step],
+    steps: &[FlowStep],
     events: Events,
 ) -> Result<Items<Cell>, AllocError>
     requires { K.stands kit.old }
@@ -87,12 +88,12 @@ pub fn run<K: Plugins>(
     ensures table { K.table kit.new ≡ K.table kit.old }
     ensures boxes { K.boxes kit.new ≡ K.boxes kit.old }
     ensures may { (k : ℕ) (e : Ev) (v : Verdict) → K.may kit.new k e v → K.may kit.old k e v }
-    ensures ran { IfOk result (λ cells. Ran (K.may kit.old)
+    ensures ran { IfOk result (λ cells. Derives (K.may kit.old)
         (each (from (K.table kit.old) steps.now 0 (λ _. nothing)) events)
         (marks (K.table kit.old) cells)) }
     ensures derived { IfOk result (λ cells. (makes : Makes) (config : Config) (draws : Draws)
         → AreStepsOf config steps.now → IsTableOf makes config draws (K.table kit.old)
-        → Ran (K.may kit.old) (each (flow_of makes config draws) events)
+        → Derives (K.may kit.old) (each (flow_of makes config draws) events)
         (marks (K.table kit.old) cells)) }
 {
     let mut cells = started(alloc, events)?;
@@ -115,12 +116,12 @@ fn started(alloc: Global, events: Events) -> Result<Items<Cell>, AllocError>
 fn one_step<K: Plugins>(
     alloc: Global,
     kit: &mut K,
-    step: Step,
+    step: FlowStep,
     cells: Items<Cell>,
 ) -> Result<Items<Cell>, AllocError>
     requires { K.stands kit.old }
     ensures stands { K.stands kit.new }
-    ensures ok { IfOk result (λ out. AllBecome (K.may kit.old) (K.table kit.old) step
+    ensures ok { IfOk result (λ out. StepsAll (K.may kit.old) (K.table kit.old) step
         (marks (K.table kit.old) cells) (marks (K.table kit.old) out)) }
     ensures table { K.table kit.new ≡ K.table kit.old }
     ensures boxes { K.boxes kit.new ≡ K.boxes kit.old }
@@ -140,7 +141,7 @@ fn one_step<K: Plugins>(
 fn step_at<K: Plugins>(
     alloc: Global,
     kit: &mut K,
-    step: Step,
+    step: FlowStep,
     cells: &mut Items<Cell>,
     index: usize,
     others: &mut Items<Cell>,
@@ -166,7 +167,7 @@ fn step_at<K: Plugins>(
 fn step_rest<K: Plugins>(
     alloc: Global,
     kit: &mut K,
-    step: Step,
+    step: FlowStep,
     cells: Items<Cell>,
     from: usize,
     others: Items<Cell>,
@@ -175,7 +176,7 @@ fn step_rest<K: Plugins>(
     requires within { from ≤ length cells }
     ensures stands { K.stands kit.new }
     ensures ok { IfOk result (λ out. Adds
-        (AllBecome (K.may kit.old) (K.table kit.old) step
+        (StepsAll (K.may kit.old) (K.table kit.old) step
         (marks (K.table kit.old) (drop from cells)))
         (marks (K.table kit.old) (take from cells ++ others)) (marks (K.table kit.old) out)) }
     ensures table { K.table kit.new ≡ K.table kit.old }
@@ -196,14 +197,14 @@ fn step_rest<K: Plugins>(
 fn add_step<K: Plugins>(
     alloc: Global,
     kit: &mut K,
-    step: Step,
+    step: FlowStep,
     cell: Cell,
     out: &mut Items<Cell>,
 ) -> Result<(), AllocError>
     requires { K.stands kit.old }
     ensures stands { K.stands kit.new }
     ensures ok { OnOk result (Adds
-        (AllBecome (K.may kit.old) (K.table kit.old) step (marks_of (K.table kit.old) cell))
+        (StepsAll (K.may kit.old) (K.table kit.old) step (marks_of (K.table kit.old) cell))
         (marks (K.table kit.old) out.old) (marks (K.table kit.old) out.new)) }
     ensures table { K.table kit.new ≡ K.table kit.old }
     ensures boxes { K.boxes kit.new ≡ K.boxes kit.old }

@@ -3,15 +3,15 @@ ghost use Rattle.std.specs.Prelude.{◌≡◌, ℕ, List, ◌++◌, [], OnOk};
 ghost use Rattle.event_tree.specs.Events.{Ev};
 ghost use Rattle.foreign_parts.specs.declared.filter.Verdict.{Verdict};
 ghost use Rattle.event_flow.specs.Steps.{Table};
-ghost use Rattle.event_flow.specs.Marks.{AllBecome, marks, marks_of, led_cell};
+ghost use Rattle.event_flow.specs.Marks.{StepsAll, marks, marks_of, led_cell};
 ghost use Rattle.event_flow.specs.Stepped.{Passes};
 ghost use Rattle.event_flow.specs.Stepped as spec;
 ghost use Rattle.event_flow.specs.declared.cell.Cell.TheVariants as variant;
-ghost use Rattle.event_flow.specs.declared.step.Step.TheVariants as step;
+ghost use Rattle.event_flow.specs.declared.step.FlowStep.TheVariants as step;
 
 use crate::cell::{Cell, Outcome};
 use crate::running::Plugins;
-use crate::step::Step;
+use crate::step::FlowStep;
 use crate::targets::Targets;
 use condition_eval::Truth;
 use event_tree::{Event, Items};
@@ -23,14 +23,14 @@ use std::mem;
 pub(crate) fn step_cell<K: Plugins>(
     alloc: Global,
     kit: &mut K,
-    step: Step,
+    step: FlowStep,
     cell: &mut Cell,
     others: &mut Items<Cell>,
 ) -> Result<(), AllocError>
     requires stands { K.stands kit.old }
     requires none { others.old ≡ [] }
     ensures stands { K.stands kit.new }
-    ensures ok { OnOk result (AllBecome (K.may kit.old) (K.table kit.old) step
+    ensures ok { OnOk result (StepsAll (K.may kit.old) (K.table kit.old) step
         (marks_of (K.table kit.old) cell.old)
         (marks_of (K.table kit.old) cell.new ++ marks (K.table kit.old) others.new)) }
     ensures table { K.table kit.new ≡ K.table kit.old }
@@ -63,7 +63,7 @@ fn passes(cell: &mut Cell) -> bool
 fn meet_step<K: Plugins>(
     alloc: Global,
     kit: &mut K,
-    step: Step,
+    step: FlowStep,
     cell: &mut Cell,
     others: &mut Items<Cell>,
 ) -> Result<(), AllocError>
@@ -71,7 +71,7 @@ fn meet_step<K: Plugins>(
     requires none { others.old ≡ [] }
     ensures stands { K.stands kit.new }
     ensures ok { OnOk result ((e : Ev) (targets : List ℕ) → cell.old ≡ variant.At 0 e targets
-        → AllBecome (K.may kit.old) (K.table kit.old) step
+        → StepsAll (K.may kit.old) (K.table kit.old) step
         (marks_of (K.table kit.old) cell.old)
         (marks_of (K.table kit.old) cell.new ++ marks (K.table kit.old) others.new)) }
     ensures table { K.table kit.new ≡ K.table kit.old }
@@ -79,9 +79,9 @@ fn meet_step<K: Plugins>(
     ensures may { (k : ℕ) (e : Ev) (v : Verdict) → K.may kit.new k e v → K.may kit.old k e v }
 {
     match step {
-        Step::Plugin(number) => meet_plugin(alloc, kit, number, cell, others),
-        Step::Test(number, over) => meet_condition(alloc, kit, number, over, cell),
-        Step::Skip(over) => {
+        FlowStep::Plugin(number) => meet_plugin(alloc, kit, number, cell, others),
+        FlowStep::Test(number, over) => meet_condition(alloc, kit, number, over, cell),
+        FlowStep::Skip(over) => {
             pass_over(cell, over);
             Ok(())
         }
@@ -131,7 +131,7 @@ fn lead(alloc: Global, truth: Truth, number: u64, over: u64, cell: &mut Cell)
         Truth::No => pass_over(cell, over),
         Truth::Wrong(reason) => {
             if let Cell::At(_, event, targets) = mem::replace(cell, nothing(alloc)) {
-                *cell = Cell::Came(Outcome::Died(number, reason, event, targets));
+                *cell = Cell::Came(Outcome::Dead(number, reason, event, targets));
             }
         }
     }
@@ -149,7 +149,7 @@ fn meet_plugin<K: Plugins>(
     requires none { others.old ≡ [] }
     ensures stands { K.stands kit.new }
     ensures ok { OnOk result ((e : Ev) (targets : List ℕ) → cell.old ≡ variant.At 0 e targets
-        → AllBecome (K.may kit.old) (K.table kit.old) (step.Plugin number)
+        → StepsAll (K.may kit.old) (K.table kit.old) (step.Plugin number)
         (marks_of (K.table kit.old) cell.old)
         (marks_of (K.table kit.old) cell.new ++ marks (K.table kit.old) others.new)) }
     ensures table { K.table kit.new ≡ K.table kit.old }
@@ -172,7 +172,7 @@ fn meet_plugin<K: Plugins>(
 fn nothing(alloc: Global) -> Cell
     ensures { (table : Table) → marks_of table result ≡ [] }
 {
-    Cell::Came(Outcome::Gone(Event::new(alloc), Targets::new(alloc)))
+    Cell::Came(Outcome::Consumed(Event::new(alloc), Targets::new(alloc)))
 }
 
 // The first of the others, if there is one, in the place of a cell.

@@ -1,3 +1,4 @@
+// The outputs to which an event was sent.
 ghost use Rattle.std.specs.Prelude.{◌≡◌, ◌∷◌, ◌++◌, [], ◌↔◌, IsTrue, OnOk};
 
 use plain_data::Items;
@@ -9,12 +10,12 @@ use std::slice;
 /// their list. A single one takes no memory of its own.
 #[derive(Drop)]
 pub struct Targets {
-    held: Held,
+    held: TargetNumbers,
 }
 
 /// How the numbers are held.
 #[derive(Drop)]
-enum Held {
+enum TargetNumbers {
     One(u64, Global),
     All(Items<u64>),
 }
@@ -34,7 +35,7 @@ impl Targets {
         ensures { result ≡ [] }
     {
         Targets {
-            held: Held::All(Items::new(alloc)),
+            held: TargetNumbers::All(Items::new(alloc)),
         }
     }
 
@@ -48,8 +49,8 @@ impl Targets {
         ensures { result.now ≡ self.now }
     {
         match &self.held {
-            Held::One(number, _) => slice::from_ref(number),
-            Held::All(numbers) => numbers.as_slice(),
+            TargetNumbers::One(number, _) => slice::from_ref(number),
+            TargetNumbers::All(numbers) => numbers.as_slice(),
         }
     }
 
@@ -58,17 +59,17 @@ impl Targets {
         ensures { OnOk result (self.new ≡ self.old ++ number ∷ []) }
     {
         match &mut self.held {
-            Held::One(first, alloc) => {
+            TargetNumbers::One(first, alloc) => {
                 let mut numbers = Items::with_capacity(*alloc, 2)?;
                 numbers.push(*first)?;
                 numbers.push(number)?;
-                self.held = Held::All(numbers);
+                self.held = TargetNumbers::All(numbers);
             }
-            Held::All(numbers) => {
+            TargetNumbers::All(numbers) => {
                 if !numbers.is_empty() {
                     return numbers.push(number);
                 }
-                self.held = Held::One(number, numbers.allocator());
+                self.held = TargetNumbers::One(number, numbers.allocator());
             }
         }
         Ok(())

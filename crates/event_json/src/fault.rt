@@ -1,3 +1,4 @@
+// Why bytes are no JSON text, and where reading stopped.
 ghost use Rattle.std.specs.Prelude.{◌≡◌};
 
 use std::alloc::AllocError;

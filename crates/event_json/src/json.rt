@@ -1,3 +1,4 @@
+// Writing a value as compact JSON.
 ghost use Rattle.std.specs.Prelude.{◌≡◌, ◌<◌, ◌≤◌, length, ◌++◌, OnOk, OnErr, IsUtf8, true};
 ghost use Rattle.time_instant.specs.Calendar.{IsMoment};
 ghost use Rattle.event_tree.specs.Sound.{is_number, sound, items_sound, members_sound};

@@ -18,7 +18,7 @@ use event_tree::{Fields, Items, Number, Text, Value};
 use std::alloc::{AllocError, Global};
 
 // Keys with their values, of which some may be equal.
-type Pairs = Vec<(Text, Value)>;
+type JsonMembers = Vec<(Text, Value)>;
 
 // The text behind blanks.
 fn unspaced(text: &str) -> &str
@@ -103,7 +103,7 @@ fn after_colon(text: &str) -> Result<&str, JsonStop>
 }
 
 // Adds a pair behind the others.
-fn add_pair(pairs: &mut Pairs, key: Text, value: Value) -> Result<(), AllocError>
+fn add_pair(pairs: &mut JsonMembers, key: Text, value: Value) -> Result<(), AllocError>
     ensures { OnOk result (pairs.new.items ≡ pairs.old.items ++ (key, value) ∷ []) }
 {
     pairs.push((key, value))?;
@@ -123,7 +123,7 @@ fn put_last(found: &mut Fields<Value>, key: Text, value: Value) -> Result<(), Al
 
 // The members that these pairs are, of which the last with a key stands. They are sorted once, so that
 // each goes behind those before it.
-fn gathered(pairs: Pairs) -> Result<Fields<Value>, AllocError>
+fn gathered(pairs: JsonMembers) -> Result<Fields<Value>, AllocError>
     ensures { IfOk result (λ fields. fields ≡ put_all [] pairs.items) }
 {
     let mut sorted = pairs;
@@ -213,7 +213,7 @@ fn object(alloc: Global, text: &str, levels: usize) -> Result<(Value, &str), Jso
 
 // The pairs of an object, up to its end, in the order of the text.
 #[cycle(read)]
-fn members(alloc: Global, text: &str, levels: usize) -> Result<(Pairs, &str), JsonStop>
+fn members(alloc: Global, text: &str, levels: usize) -> Result<(JsonMembers, &str), JsonStop>
     ensures { Gives (λ x. (put_all [] x.0.items, x.1.now)) result (members_at levels text.now) }
 {
     let mut found = Vec::new(alloc);

@@ -1,3 +1,4 @@
+// The text of a moment by RFC 3339.
 ghost use Rattle.std.specs.Prelude.{◌≡◌, ◌+◌, ◌/◌, ◌%◌, ◌<◌, ◌≤◌, ◌≤ℤ◌, pos, unsigned_abs, take};
 ghost use Rattle.time_instant.specs.Calendar.{IsMoment};
 ghost use Rattle.event_json.specs.TimeText.{digit, date_text, clock_text, nine_digits, decimals_of, time_text_of, moment_in};

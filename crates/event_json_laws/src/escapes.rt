@@ -1,3 +1,4 @@
+// The escapes of JSON strings.
 ghost use Rattle.std.specs.Prelude.{◌≡◌, ◌<◌, IfSome};
 ghost use Rattle.event_json_laws.specs.Strings.{short_of, hex_of};
 

@@ -1,3 +1,4 @@
+// The format of a date in a template, as in `%{+yyyy.MM}`.
 ghost use Rattle.std.specs.Prelude.{◌≡◌, ◌<◌, ◌≤◌, length, IfOk, IsAscii};
 ghost use Rattle.std.specs.List.{list_all};
 ghost use Rattle.event_text.specs.Adds.{AddsText};

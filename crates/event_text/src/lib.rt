@@ -3,8 +3,8 @@
 #![tactic(auto)]
 
 mod applied;
-mod changes;
 mod date_format;
+mod event_changes;
 pub mod laws;
 mod options;
 pub mod path_laws;
@@ -14,8 +14,8 @@ mod template;
 pub mod value_laws;
 
 pub use applied::Applied;
-pub use changes::{add_tag, remove_tag, try_put, values};
 pub use date_format::DatePart;
+pub use event_changes::{add_tag, remove_tag, try_put, values};
 pub use event_json::{JsonFault, number_of, read_json, time_text, write_json};
 pub use options::Options;
 pub use path_text::path_in;

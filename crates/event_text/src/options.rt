@@ -1,9 +1,10 @@
+// The options that every filter has: fields and tags that are added and removed.
 ghost use Rattle.std.specs.Prelude.{◌≡◌, [], map, IfOk, OnOk, IsSome, Some};
 ghost use Rattle.event_text.specs.Options as spec;
 ghost use Rattle.event_text.specs.PathReading.{way_in};
 ghost use Rattle.event_text.specs.Template.{template_parts};
 
-use crate::changes::{add_tag, remove_tag, text_and, try_put};
+use crate::event_changes::{add_tag, remove_tag, text_and, try_put};
 use crate::path_text::path_in;
 use crate::template::Template;
 use event_tree::{Event, Names, Pairs, Path};

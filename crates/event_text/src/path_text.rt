@@ -1,3 +1,4 @@
+// The path that a text reads as, if it reads.
 ghost use Rattle.std.specs.Prelude.{◌≡◌, IfOk};
 ghost use Rattle.event_text.specs.PathReading.{way_in};
 

@@ -1,3 +1,4 @@
+// The text that a value is shown by.
 ghost use Rattle.std.specs.Prelude.{◌≡◌, IfOk};
 ghost use Rattle.event_json.specs.Json.{json, comma_if};
 ghost use Rattle.event_json.specs.TimeText.{time_text_of};

@@ -1,3 +1,4 @@
+// Texts with places that an event fills, as in `%{host}`.
 ghost use Rattle.std.specs.Prelude.{◌≡◌, ◌<◌, ◌≤◌, ◌+◌, ◌++◌, length, drop, MatchOption, IfOk, IfSome, IsTrue, OnOk, None};
 ghost use Rattle.std.specs.List.{list_all};
 ghost use Rattle.event_tree.specs.declared.value.Value.{out-Value};

@@ -1,3 +1,4 @@
+// Numbers of a fixed count of digits.
 ghost use Rattle.std.specs.Prelude.{◌≡◌, ◌<◌, ◌≤◌, ◌^◌, IfSome};
 ghost use Rattle.event_times.specs.Digits as spec;
 ghost use Rattle.event_times.specs.Digits.{as_front};

@@ -1,3 +1,4 @@
+// Moments written by ISO 8601.
 ghost use Rattle.std.specs.Prelude.{◌≡◌};
 ghost use Rattle.event_times.specs.Iso8601 as spec;
 

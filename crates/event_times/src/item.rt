@@ -1,3 +1,4 @@
+// The items that a format of times consists of.
 /// A part of a time that is written in one or two digits.
 #[derive(Clone, Copy)]
 pub enum TimeField {

@@ -1,3 +1,4 @@
+// The civil parts of a time, and the moment that they mean.
 ghost use Rattle.std.specs.Prelude.{◌≡◌, ◌≤◌, ◌<◌, ◌^◌, IfSome, option_and_then};
 ghost use Rattle.jiff_core.specs.Calendar.{IsEpochDay};
 ghost use Rattle.event_times.specs.Moments as spec;

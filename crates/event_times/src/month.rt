@@ -1,3 +1,4 @@
+// English names of months, long and short.
 ghost use Rattle.std.specs.Prelude.{◌≡◌, ◌≤◌, ◌↔◌, IsTrue, length, map};
 ghost use Rattle.event_times.specs.Digits.{as_front};
 ghost use Rattle.event_times.specs.Reading as spec;

@@ -1,3 +1,4 @@
+// Reading a text by the items of a format, with all ways of reading tried.
 ghost use Rattle.std.specs.Prelude.{◌≡◌, ◌≤◌, length};
 ghost use Rattle.event_tree.specs.NumberTexts.{digits_front};
 ghost use Rattle.event_times.specs.Reading as spec;

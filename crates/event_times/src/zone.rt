@@ -1,3 +1,4 @@
+// Offsets from UTC such as `+02:00`.
 ghost use Rattle.std.specs.Prelude.{◌≡◌};
 ghost use Rattle.event_times.specs.Zones as spec;
 ghost use Rattle.event_times.specs.Digits.{as_front};

@@ -6,7 +6,7 @@ use Rattle.event_tree.specs.Sizes.{size}
 use Rattle.event_tree.specs.Paths.{take}
 use Rattle.event_tree.specs.Events.{Ev, Way, IsEvent, IsObject, to, object_of, object_put, with_fields, with_meta, event_size, event_put, event_take, limited}
 use Rattle.event_tree.specs.Outcomes.{Finds, FindsAt, PutsWithin, PutsEvent}
-use Rattle.event_tree.specs.declared.moving.Found.{Found}
+use Rattle.event_tree.specs.declared.moving.FoundValue.{FoundValue}
 use Rattle.event_tree.specs.declared.value.Value.{Value}
 use Rattle.event_tree.specs.declared.value.Value.TheVariants as v
 use Rattle.event_tree.specs.declared.fault.PutFault.{PutFault}
@@ -104,19 +104,19 @@ module _ (e : Ev) (is : IsEvent e) (x : Value) where
       by false w = (leaves meta ps left w h).valid small
 
 module _ (e : Ev) (is : IsEvent e) where
-  finds_fields : (r : Option Found) (ps : List (List ℕ)) → Finds r (take ps e.fields) e.fields → FindsAt r (event_take (to false ps) e) e
+  finds_fields : (r : Option FoundValue) (ps : List (List ℕ)) → Finds r (take ps e.fields) e.fields → FindsAt r (event_take (to false ps) e) e
   finds_fields None ps h = ap (option_map {U = Value × Ev} (λ r. (r.0, with_fields e r.1))) h
   finds_fields (Some f) ps (left, taken, s) =
       let o = (take-kept ps e.fields f.value.now left taken).object is.fields_object in
       (with_fields e left, ap (option_map {U = Value × Ev} (λ r. (r.0, with_fields e r.1))) taken, omega (arith, s, size-object left o))
 
-  finds_meta : (r : Option Found) (p : List ℕ) (ps : List (List ℕ)) → Finds r (take (p ∷ ps) e.meta) e.meta → FindsAt r (event_take (to true (p ∷ ps)) e) e
+  finds_meta : (r : Option FoundValue) (p : List ℕ) (ps : List (List ℕ)) → Finds r (take (p ∷ ps) e.meta) e.meta → FindsAt r (event_take (to true (p ∷ ps)) e) e
   finds_meta None p ps h = ap (option_map {U = Value × Ev} (λ r. (r.0, with_meta e r.1))) h
   finds_meta (Some f) p ps (left, taken, s) =
       let o = (take-kept (p ∷ ps) e.meta f.value.now left taken).object is.meta_object in
       (with_meta e left, ap (option_map {U = Value × Ev} (λ r. (r.0, with_meta e r.1))) taken, omega (arith, s, size-object left o))
 
-  pub finds_at : (r : Option Found) (meta : Bool) (ps : List (List ℕ)) → is_whole meta ps ≡ false → Finds r (take ps (object_of (to meta ps) e)) (object_of (to meta ps) e) → FindsAt r (event_take (to meta ps) e) e
+  pub finds_at : (r : Option FoundValue) (meta : Bool) (ps : List (List ℕ)) → is_whole meta ps ≡ false → Finds r (take ps (object_of (to meta ps) e)) (object_of (to meta ps) e) → FindsAt r (event_take (to meta ps) e) e
   finds_at r false ps part h = finds_fields r ps h
   finds_at r true [] part h = absurd (search (part, rules))
   finds_at r true (p ∷ ps) part h = finds_meta r p ps h

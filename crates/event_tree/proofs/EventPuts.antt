@@ -12,8 +12,8 @@ use Rattle.event_tree.specs.Outcomes.{ends_as_no_object, Passes, Puts, PutsWithi
 use Rattle.event_tree.specs.declared.value.Value.{Value, out-Value, roll-Value, roll-out-Value}
 use Rattle.event_tree.specs.declared.value.Value.TheOpen.{Value-F}
 use Rattle.event_tree.specs.declared.value.Value.TheVariants as v
-use Rattle.event_tree.specs.declared.within.How.{How}
-use Rattle.event_tree.specs.declared.within.How.TheVariants as how
+use Rattle.event_tree.specs.declared.within.WriteKind.{WriteKind}
+use Rattle.event_tree.specs.declared.within.WriteKind.TheVariants as how
 use Rattle.event_tree.specs.declared.fault.PutFault.{PutFault}
 use Rattle.event_tree.specs.declared.fault.PutFault.TheVariants.{ThroughScalar, Deep, Large, Memory}
 use Rattle.event_tree.proofs.PutLaws.{Grown, refused, done, put_cases}
@@ -199,11 +199,11 @@ turned f m is = record {
 }
 
 -- what becomes of the object is one, however the value is put there
-abbrev made_by : How → List (List ℕ) → Value → Value → Option Value
+abbrev made_by : WriteKind → List (List ℕ) → Value → Value → Option Value
 made_by how.Put ps d old = put ps d old
 made_by how.Append ps d old = append ps d old
 
-changed_is : (how : How) (ps : List (List ℕ)) (d old : Value) → changed how ps d old ≡ option_and_then object (made_by how ps d old)
+changed_is : (how : WriteKind) (ps : List (List ℕ)) (d old : Value) → changed how ps d old ≡ option_and_then object (made_by how ps d old)
 changed_is how.Put ps d old = refl
 changed_is how.Append ps d old = refl
 
@@ -224,7 +224,7 @@ module _ (old other : Value) (was : IsEvent (both old other)) (whole : ℕ) (e :
         s,
       )
 
-  pub change_kept : (how : How) (d : Value) (left : ℕ) → PutsWithin (Ok left) (changed how ps d old) (16777216 - whole) old new → IsEvent (both new other) × (event_size (both new other) + left ≡ 16777216)
+  pub change_kept : (how : WriteKind) (d : Value) (left : ℕ) → PutsWithin (Ok left) (changed how ps d old) (16777216 - whole) old new → IsEvent (both new other) × (event_size (both new other) + left ≡ 16777216)
   change_kept how d left p = put_kept (made_by how ps d old) left (subst (λ said. PutsWithin (Ok left) said (16777216 - whole) old new) (changed_is how ps d old) p)
 
   pub take_kept : (x : Value) (key : ℕ) → Takes (Some x) (take ps old) old new → size new + size x + key ≡ size old → IsEvent (both new other) × (event_size (both new other) + size x + key ≡ whole)

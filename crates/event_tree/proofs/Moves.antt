@@ -6,7 +6,7 @@ use Rattle.event_tree.specs.Values.{Members}
 use Rattle.event_tree.specs.Sizes.{size}
 use Rattle.event_tree.specs.Paths.{list_place, cut_in, through_in, take}
 use Rattle.event_tree.specs.Outcomes.{Finds}
-use Rattle.event_tree.specs.declared.moving.Found.{Found}
+use Rattle.event_tree.specs.declared.moving.FoundValue.{FoundValue}
 use Rattle.event_tree.specs.declared.value.Value.{Value}
 use Rattle.event_tree.specs.declared.value.Value.TheVariants as v
 use Rattle.event_tree.proofs.Sizes.{size-List, size-Object, items_size-set, items_size-remove, members_size-set, members_size-remove}
@@ -32,7 +32,7 @@ module _ (p : List ℕ) (rest : List (List ℕ)) where
     omega (arith, size-List vs, size-List (remove vs i), items_size-remove vs i x found),
   )
 
-pub finds_field : (r : Option Found) (p : List ℕ) (rest : List (List ℕ)) (ms : Members) (inner : Value) → 0 < length rest → get_member p ms ≡ Some inner → Finds r (take rest inner) inner → Finds r (take (p ∷ rest) (v.Object ms)) (v.Object ms)
+pub finds_field : (r : Option FoundValue) (p : List ℕ) (rest : List (List ℕ)) (ms : Members) (inner : Value) → 0 < length rest → get_member p ms ≡ Some inner → Finds r (take rest inner) inner → Finds r (take (p ∷ rest) (v.Object ms)) (v.Object ms)
 finds_field r p [] ms inner n found h = absurd (omega arith)
 finds_field None p (q ∷ qs) ms inner n found h = ap (through_in p (take (q ∷ qs))) (v.outs-Object ms) ∙ rw (found, h)
 finds_field (Some f) p (q ∷ qs) ms inner n found (left, taken, s) = (
@@ -41,7 +41,7 @@ finds_field (Some f) p (q ∷ qs) ms inner n found (left, taken, s) = (
   omega (arith, s, size-Object ms, size-Object (set_member p left ms), members_size-set p ms inner left found),
 )
 
-pub finds_item : (r : Option Found) (p : List ℕ) (rest : List (List ℕ)) (vs : List Value) (i : ℕ) (inner : Value) → 0 < length rest → list_place p (length vs) ≡ Some i → slice_get vs i ≡ Some inner → Finds r (take rest inner) inner → Finds r (take (p ∷ rest) (v.List vs)) (v.List vs)
+pub finds_item : (r : Option FoundValue) (p : List ℕ) (rest : List (List ℕ)) (vs : List Value) (i : ℕ) (inner : Value) → 0 < length rest → list_place p (length vs) ≡ Some i → slice_get vs i ≡ Some inner → Finds r (take rest inner) inner → Finds r (take (p ∷ rest) (v.List vs)) (v.List vs)
 finds_item r p [] vs i inner n place found h = absurd (omega arith)
 finds_item None p (q ∷ qs) vs i inner n place found h = ap (through_in p (take (q ∷ qs))) (v.outs-List vs) ∙ rw (place, found, h)
 finds_item (Some f) p (q ∷ qs) vs i inner n place found (left, taken, s) = (

@@ -7,10 +7,10 @@ use Rattle.event_tree.specs.Paths.{put, append, take}
 use Rattle.event_tree.specs.Growth.{room_at_end}
 use Rattle.event_tree.specs.Events.{Ev, Way, object, object_put, object_append, event_size, event_put, event_append, event_take, event_move, limited}
 use Rattle.event_tree.specs.declared.cut.Cut.{Cut}
-use Rattle.event_tree.specs.declared.moving.Found.{Found}
+use Rattle.event_tree.specs.declared.moving.FoundValue.{FoundValue}
 use Rattle.event_tree.specs.declared.value.Value.{Value}
-use Rattle.event_tree.specs.declared.within.How.{How}
-use Rattle.event_tree.specs.declared.within.How.TheVariants as how
+use Rattle.event_tree.specs.declared.within.WriteKind.{WriteKind}
+use Rattle.event_tree.specs.declared.within.WriteKind.TheVariants as how
 use Rattle.event_tree.specs.declared.fault.PutFault.{PutFault}
 use Rattle.event_tree.specs.declared.fault.PutFault.TheVariants.{ThroughScalar, Deep, Large, Memory}
 
@@ -79,12 +79,12 @@ Takes None said old new = (said ≡ None) × (new ≡ old)
 Takes (Some x) said old new = said ≡ Some (x, new)
 
 -- what stands at the end of these parts could be taken, and the encoding would be so many bytes shorter
-abbrev pub Finds : Option Found → Option (Value × Value) → Value → Type 0
+abbrev pub Finds : Option FoundValue → Option (Value × Value) → Value → Type 0
 Finds None said old = said ≡ None
 Finds (Some found) said old = (left : Value) × (said ≡ Some (found.value.now, left)) × (size left + found.bytes ≡ size old)
 
 -- the same of what a path leads to
-abbrev pub FindsAt : Option Found → Option (Value × Ev) → Ev → Type 0
+abbrev pub FindsAt : Option FoundValue → Option (Value × Ev) → Ev → Type 0
 FindsAt None said old = said ≡ None
 FindsAt (Some found) said old = (left : Ev) × (said ≡ Some (found.value.now, left)) × (event_size left + found.bytes ≡ event_size old)
 
@@ -114,7 +114,7 @@ pub record Passes (found : Option (Option ℕ)) (ps : List (List ℕ)) (d : Valu
   pub sound_is : sound d ≡ true
 
 -- what becomes of the object, by how the value is put there
-abbrev pub changed : How → List (List ℕ) → Value → Value → Option Value
+abbrev pub changed : WriteKind → List (List ℕ) → Value → Value → Option Value
 changed how.Put ps d old = object_put ps d old
 changed how.Append ps d old = object_append ps d old
 

@@ -1,3 +1,4 @@
+// An event: its two objects and the size of its encoding.
 ghost use Rattle.std.specs.Prelude.{◌≡◌, ◌≤◌, ◌+◌, ◌==◌, ◌&&◌, length, [], Some, IfOk, IsTrue, ◌↔◌};
 ghost use Rattle.event_tree.specs.Growth.{room_at_end};
 ghost use Rattle.event_tree.specs.declared.value.Value.{Value as Tree};
@@ -10,10 +11,10 @@ use crate::change::get_in;
 use crate::cut::take_in;
 use crate::fault::PutFault;
 use crate::measure::{room_at, size_of, size_without};
-use crate::moving::{Found, find, room_behind};
+use crate::moving::{FoundValue, find, room_behind};
 use crate::path::Path;
 use crate::value::Value;
-use crate::within::{How, change_within, room_left};
+use crate::within::{WriteKind, change_within, room_left};
 use plain_data::{Fields, Text};
 use std::alloc::{AllocError, Global};
 use std::marker::Model;
@@ -142,9 +143,9 @@ impl Event {
         ensures { PutEventAt result path.now value self.old self.new }
     {
         if path.is_meta() {
-            self.change_meta(path.parts(), value, How::Put)
+            self.change_meta(path.parts(), value, WriteKind::Put)
         } else {
-            self.change_fields(path.parts(), value, How::Put)
+            self.change_fields(path.parts(), value, WriteKind::Put)
         }
     }
 
@@ -158,13 +159,18 @@ impl Event {
         ensures { AppendEventAt result path.now value self.old self.new }
     {
         if path.is_meta() {
-            self.change_meta(path.parts(), value, How::Append)
+            self.change_meta(path.parts(), value, WriteKind::Append)
         } else {
-            self.change_fields(path.parts(), value, How::Append)
+            self.change_fields(path.parts(), value, WriteKind::Append)
         }
     }
 
-    fn change_fields(&mut self, parts: &[Text], value: Value, how: How) -> Result<(), PutFault>
+    fn change_fields(
+        &mut self,
+        parts: &[Text],
+        value: Value,
+        how: WriteKind,
+    ) -> Result<(), PutFault>
         ensures { ChangesEvent result with_fields (changed how parts.now value self.old.fields)
             self.old self.new }
     {
@@ -178,7 +184,7 @@ impl Event {
         }
     }
 
-    fn change_meta(&mut self, parts: &[Text], value: Value, how: How) -> Result<(), PutFault>
+    fn change_meta(&mut self, parts: &[Text], value: Value, how: WriteKind) -> Result<(), PutFault>
         ensures { ChangesEvent result with_meta (changed how parts.now value self.old.meta) self.old
             self.new }
     {
@@ -217,7 +223,7 @@ impl Event {
     pub fn rename(&mut self, from: &Path, to: &Path) -> Result<bool, PutFault>
         ensures { MovesEvent result from.now to.now self.old self.new }
     {
-        match self.foretell_move(from, to) {
+        match self.check_move(from, to) {
             None => return Ok(false),
             Some(Err(fault)) => return Err(fault),
             Some(Ok(())) => {}
@@ -233,7 +239,7 @@ impl Event {
 
     // What a move from one path to another would answer, but for want of memory. `None` where
     // nothing stands there.
-    fn foretell_move(&self, from: &Path, to: &Path) -> Option<Result<(), PutFault>>
+    fn check_move(&self, from: &Path, to: &Path) -> Option<Result<(), PutFault>>
         ensures { Foretells result (event_move from.now to.now self.now) }
     {
         let found = self.find(from)?;
@@ -245,12 +251,12 @@ impl Event {
         }
     }
 
-    fn find(&self, path: &Path) -> Option<Found<'_>>
+    fn find(&self, path: &Path) -> Option<FoundValue<'_>>
         ensures { FindsAt result (event_take path.now self.now) self.now }
     {
         if is_whole_meta(path) {
             let bytes = size_of(&self.meta) - 5;
-            return Some(Found {
+            return Some(FoundValue {
                 value: &self.meta,
                 bytes,
             });

@@ -1,3 +1,4 @@
+// The errors of reading a path and of putting a value.
 use std::alloc::AllocError;
 use thiserror::Error;
 

@@ -1,3 +1,4 @@
+// Lists of events and of pairs of texts, and the events that were not delivered.
 ghost use Rattle.std.specs.Prelude.{◌≡◌, IfOk};
 
 use crate::event::Event;

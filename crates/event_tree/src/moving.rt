@@ -14,14 +14,14 @@ use plain_data::{Fields, Items, Text};
 /// A value that could be taken, and by how many bytes the encoding would be shorter without it and
 /// its key.
 #[derive(Clone, Copy)]
-pub(crate) struct Found<'v> {
+pub(crate) struct FoundValue<'v> {
     pub(crate) value: &'v Value,
     pub(crate) bytes: u64,
 }
 
 /// What a `take` at the end of the parts would take.
 #[cycle(find)]
-pub(crate) fn find<'v>(target: &'v Value, parts: &[Text]) -> Option<Found<'v>>
+pub(crate) fn find<'v>(target: &'v Value, parts: &[Text]) -> Option<FoundValue<'v>>
     requires { size target.now ≤ 16777220 }
     ensures { Finds result (take parts.now target.now) target.now }
 {
@@ -34,7 +34,7 @@ pub(crate) fn find<'v>(target: &'v Value, parts: &[Text]) -> Option<Found<'v>>
 }
 
 #[cycle(find)]
-fn find_field<'v>(fields: &'v Fields<Value>, part: &Text, rest: &[Text]) -> Option<Found<'v>>
+fn find_field<'v>(fields: &'v Fields<Value>, part: &Text, rest: &[Text]) -> Option<FoundValue<'v>>
     requires { size (v.Object fields.now) ≤ 16777220 }
     ensures { Finds result (take (part.now ∷ rest.now) (v.Object fields.now))
         (v.Object fields.now) }
@@ -42,20 +42,20 @@ fn find_field<'v>(fields: &'v Fields<Value>, part: &Text, rest: &[Text]) -> Opti
     let value = fields.get(part.as_str())?;
     if rest.is_empty() {
         let bytes = size_of(value) + 4 + part.len() as u64;
-        return Some(Found { value, bytes });
+        return Some(FoundValue { value, bytes });
     }
     find(value, rest)
 }
 
 #[cycle(find)]
-fn find_item<'v>(items: &'v Items<Value>, part: &Text, rest: &[Text]) -> Option<Found<'v>>
+fn find_item<'v>(items: &'v Items<Value>, part: &Text, rest: &[Text]) -> Option<FoundValue<'v>>
     requires { size (v.List items.now) ≤ 16777220 }
     ensures { Finds result (take (part.now ∷ rest.now) (v.List items.now)) (v.List items.now) }
 {
     let value = items.get(place_in(part.as_str(), items.len())?)?;
     if rest.is_empty() {
         let bytes = size_of(value);
-        return Some(Found { value, bytes });
+        return Some(FoundValue { value, bytes });
     }
     find(value, rest)
 }

@@ -1,3 +1,4 @@
+// Decimal numbers in least form: a mantissa and a scale.
 ghost use Rattle.std.specs.Prelude.{◌≡◌, ◌≢◌, ◌<◌, ◌≤◌, ◌%◌, ◌^◌, length, if◌then◌else◌};
 ghost use Rattle.event_tree.specs.Number.{Num, IsLeast, least};
 ghost use Rattle.event_tree.specs.NumberTexts.{AreDigits, NumberReads, ValueReads, Shifts, digit_count, numeral, signed, most};

@@ -1,3 +1,4 @@
+// Paths into an event, read from a text.
 ghost use Rattle.std.specs.Prelude.{◌≡◌, ◌≢◌, ◌<◌, ◌≤◌, ◌-◌, [], ◌∷◌, false, true, take, drop, length, slice_index, IfOk, IfErr, IsTrue, ◌↔◌};
 ghost use Rattle.event_tree.specs.Characters.{opening_bracket};
 ghost use Rattle.event_tree.specs.Events.{Way};

@@ -1,3 +1,4 @@
+// The index that a part of a path names in a list.
 ghost use Rattle.std.specs.Prelude.{◌≡◌, ◌≤◌, IfSome};
 ghost use Rattle.event_tree.specs.Paths.{digits, at_most, list_place};
 

@@ -1,3 +1,4 @@
+// The values of an event, and copying and comparing them.
 ghost use Rattle.std.specs.Prelude.{◌≡◌, ◌↔◌, [], IfOk, IsTrue};
 ghost use Rattle.plain_data.specs.Members.{Rises};
 

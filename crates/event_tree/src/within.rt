@@ -21,7 +21,7 @@ use std::alloc::Global;
 
 /// How a value is put at the end of the parts of a path.
 #[derive(Clone, Copy, PartialEq, Eq, Drop)]
-pub(crate) enum How {
+pub(crate) enum WriteKind {
     /// In place of what stands there.
     Put,
     /// At the end of the list that stands there.
@@ -35,7 +35,7 @@ pub(crate) fn change_within(
     target: &mut Value,
     parts: &[Text],
     value: Value,
-    how: How,
+    how: WriteKind,
     room: u64,
 ) -> Result<u64, PutFault>
     requires room { room + size target.old < 2 ^ 64 }
@@ -46,8 +46,8 @@ pub(crate) fn change_within(
         target.new }
 {
     match how {
-        How::Put => put_within(alloc, target, parts, value, room),
-        How::Append => append_within(target, parts, value, room),
+        WriteKind::Put => put_within(alloc, target, parts, value, room),
+        WriteKind::Append => append_within(target, parts, value, room),
     }
 }
 

@@ -12,8 +12,8 @@ use Rattle.event_text.specs.Options.{each_in, items}
 use Rattle.event_text.specs.Shown.{shown}
 use Rattle.filter_settings.specs.declared.conversion.Conversion.{Conversion}
 use Rattle.filter_settings.specs.declared.conversion.Conversion.TheVariants as to
-use Rattle.filter_settings.specs.declared.trying.Change.{Change}
-use Rattle.filter_settings.specs.declared.trying.Change.TheVariants as c
+use Rattle.filter_settings.specs.declared.field_changes.Change.{Change}
+use Rattle.filter_settings.specs.declared.field_changes.Change.TheVariants as c
 
 abbrev pub is_no_comma : ℕ → Bool
 is_no_comma b = not (b == 44)

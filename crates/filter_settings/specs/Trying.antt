@@ -6,8 +6,8 @@ use Rattle.event_tree.specs.declared.value.Value.{Value}
 use Rattle.event_text.specs.Options.{with_options, tagged}
 use Rattle.event_text.specs.declared.applied.Applied.{Applied}
 use Rattle.event_text.specs.declared.options.Options.{Options}
-use Rattle.filter_settings.specs.declared.trying.Change.{Change}
-use Rattle.filter_settings.specs.declared.trying.Change.TheVariants as c
+use Rattle.filter_settings.specs.declared.field_changes.Change.{Change}
+use Rattle.filter_settings.specs.declared.field_changes.Change.TheVariants as c
 
 -- the event, where all went well, and else what is left where something failed
 abbrev pub Tried : Type 0

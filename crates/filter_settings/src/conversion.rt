@@ -1,9 +1,10 @@
+// Converting values to integers, floats, texts and booleans.
 ghost use Rattle.std.specs.Prelude.{◌≡◌, Some, IfOk};
 ghost use Rattle.event_tree.specs.declared.value.Value.{out-Value};
 ghost use Rattle.event_text.specs.Options.{each_in};
 ghost use Rattle.filter_settings.specs.Convert as spec;
 
-use crate::trying::Change;
+use crate::field_changes::Change;
 use event_text::{number_of, value_text};
 use event_tree::{Items, Number, Text, Value};
 use std::alloc::{AllocError, Global};

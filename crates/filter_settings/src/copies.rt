@@ -1,3 +1,4 @@
+// Copying values to the end of a list.
 ghost use Rattle.std.specs.Prelude.{◌≡◌, ◌++◌, OnOk};
 
 use event_tree::Value;

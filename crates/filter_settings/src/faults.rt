@@ -1,3 +1,4 @@
+// The faults of settings: wrong kinds and bad patterns.
 ghost use Rattle.std.specs.Prelude.{◌≡◌};
 ghost use Rattle.config_tree.specs.declared.fault.SettingFault.TheVariants as setting;
 ghost use Rattle.filter_settings.specs.Settings as spec;

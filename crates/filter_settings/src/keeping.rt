@@ -1,3 +1,4 @@
+// Keeping what was read of a setting, or handing its fault on.
 ghost use Rattle.std.specs.Prelude.{◌≡◌, ℕ, List, Option, Some, IfOk, OnErr};
 ghost use Rattle.filter_settings.specs.Settings.{Assigned, Gives, read_as, wanted};
 

@@ -8,6 +8,7 @@
 mod conversion;
 mod copies;
 mod faults;
+mod field_changes;
 mod hashes;
 mod items;
 mod keeping;
@@ -16,7 +17,6 @@ mod options;
 mod paths;
 mod pieces;
 mod reading;
-mod trying;
 mod values;
 
 pub use config_tree::{FromFault, SettingFault, SettingValue, Settings};
@@ -24,6 +24,7 @@ pub use conversion::{Conversion, convert};
 pub use copies::add_copies;
 pub use event_text::{Applied, Options, add_tag, try_put};
 pub use faults::{bad_pattern, wanted};
+pub use field_changes::{Change, change_at, finish, one_applied, one_event, put_at};
 pub use hashes::{
     hash_of, read_field_conversions, read_field_lists, read_field_paths, read_field_templates,
     read_field_texts,
@@ -35,5 +36,4 @@ pub use options::set_option;
 pub use paths::{field_named, is_same, path_under, written};
 pub use pieces::split_text;
 pub use reading::{SetByName, read_settings, require};
-pub use trying::{Change, change_at, finish, one_applied, one_event, put_at};
 pub use values::{read_flag, read_id, read_path, read_template, read_text};

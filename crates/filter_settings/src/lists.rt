@@ -1,3 +1,4 @@
+// Settings that are lists of texts, paths or templates.
 ghost use Rattle.std.specs.Prelude.{◌≡◌, IfOk, option_and_then};
 ghost use Rattle.std.specs.Option.{option_copied};
 ghost use Rattle.event_text.specs.Options.{each_in};

@@ -1,3 +1,4 @@
+// The settings that every filter has.
 ghost use Rattle.filter_settings.specs.Options as spec;
 ghost use Rattle.filter_settings.specs.Settings.{Leaves};
 

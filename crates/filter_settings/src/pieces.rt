@@ -1,3 +1,4 @@
+// Splitting a text around a separator.
 ghost use Rattle.std.specs.Prelude.{◌≡◌, ◌<◌, ◌++◌, ◌∷◌, [], length, IfOk, OnOk};
 ghost use Rattle.std.specs.Prelude.{encode_utf8};
 ghost use Rattle.filter_settings.specs.Pieces as spec;

@@ -1,3 +1,4 @@
+// Reading the settings of a filter, one by one, by name.
 ghost use Rattle.std.specs.Prelude.{◌≡◌};
 ghost use Rattle.config_tree.specs.Joining.{has};
 ghost use Rattle.filter_settings.specs.Settings as spec;

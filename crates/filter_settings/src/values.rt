@@ -1,3 +1,4 @@
+// Settings that are one text, flag, path or template.
 ghost use Rattle.std.specs.Prelude.{◌≡◌, IfOk};
 ghost use Rattle.std.specs.Option.{option_copied};
 ghost use Rattle.filter_settings.specs.Readers as spec;

@@ -24,9 +24,9 @@ use Rattle.filters_text.proofs.json_filter.Json.TheSendSync as json
 use Rattle.filters_text.proofs.kv_filter.Kv.TheSendSync as kv
 use Rattle.filters_text.proofs.csv_filter.Csv.TheSendSync as csv
 use Rattle.filters_date.proofs.date_filter.DateFilter.TheSendSync as date_filter
-use Rattle.grok_patterns.proofs.expansion.Rules.TheSendSync as rules
+use Rattle.grok_patterns.proofs.expansion.ExpansionRules.TheSendSync as rules
 use Rattle.built_plugins.proofs.boxed.BoxedFilter.TheSendSync as boxed_filter
-use Rattle.built_plugins.proofs.output.Output.TheSendSync as output
+use Rattle.built_plugins.proofs.output.OutputTargets.TheSendSync as output
 use Rattle.built_plugins.proofs.output.Target.TheSendSync as target
 use Rattle.plain_data.proofs.items.Items.TheSendSync as items
 use Rattle.plain_data.proofs.text.Text.TheSendSync as text

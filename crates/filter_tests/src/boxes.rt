@@ -1,3 +1,4 @@
+// Boxes for the rack that refuse a setting by its name.
 ghost use Rattle.foreign_parts.specs.Configuring.{Answers};
 ghost use Rattle.filter_tests.specs.Boxes.{refused};
 

@@ -5,7 +5,7 @@ use crate::plans::add_run;
 use config_parse::parse;
 use config_tree::Config;
 use foreign_parts::{LinkTaker, Rack};
-use graph_checks::{GraphFault, Stockroom, check, compile, give_back};
+use graph_checks::{BoxPool, GraphFault, check, compile, give_back};
 use pipeline_bus::Link;
 use std::alloc::{AllocError, Global};
 
@@ -62,7 +62,7 @@ fn add_checked(
 }
 
 /// Makes a plan and gives it back.
-fn make_and_give_back<B: Stockroom>(
+fn make_and_give_back<B: BoxPool>(
     alloc: Global,
     config: Config,
     rack: &mut B,
@@ -79,7 +79,7 @@ fn taker_of_link(alloc: Global) -> Result<LinkTaker, AllocError> {
     Ok(taker)
 }
 
-fn add_links_that_lie<B: Stockroom>(
+fn add_links_that_lie<B: BoxPool>(
     to: &mut String,
     boxes: &str,
     rack: &mut B,

@@ -1,3 +1,4 @@
+// Events written as JSON with further values.
 use event_json::{JsonFault, read_json, write_json};
 use event_text::{path_in, try_put};
 use event_tree::{Event, Instant, Items, Path, Text, Value};

@@ -80,7 +80,7 @@ const CHECKS: [&str; 5] = ["worked_checks", "inputs", "statements", "boxes", "or
 
 /// What the rows of a table are.
 #[derive(Clone, Copy)]
-enum Table {
+enum FilterTable {
     Filters,
     Checks,
     Plans,
@@ -108,19 +108,19 @@ fn print_timed(rt: &HostRuntime, words: &[String]) -> io::Result<()> {
 
 fn print_tables(rt: &HostRuntime) -> io::Result<()> {
     for name in &FILTERS {
-        print_table(rt, name, Table::Filters)?;
+        print_table(rt, name, FilterTable::Filters)?;
     }
     for name in &CHECKS {
-        print_table(rt, name, Table::Checks)?;
+        print_table(rt, name, FilterTable::Checks)?;
     }
-    print_table(rt, "plans", Table::Plans)?;
-    print_table(rt, "passages", Table::Passages)?;
-    print_table(rt, "walks", Table::Walks)?;
+    print_table(rt, "plans", FilterTable::Plans)?;
+    print_table(rt, "passages", FilterTable::Passages)?;
+    print_table(rt, "walks", FilterTable::Walks)?;
     let answer = racks::answer(rt.alloc())?;
     println!(rt; "# rack\n{answer}")
 }
 
-fn print_table(rt: &HostRuntime, name: &str, of: Table) -> io::Result<()> {
+fn print_table(rt: &HostRuntime, name: &str, of: FilterTable) -> io::Result<()> {
     let table = fs::read_to_string(rt, name)?;
     println!(rt; "# {name}")?;
     for row in table.lines() {
@@ -130,14 +130,14 @@ fn print_table(rt: &HostRuntime, name: &str, of: Table) -> io::Result<()> {
     Ok(())
 }
 
-fn answer(alloc: Global, row: &str, of: Table) -> Result<String, AllocError> {
+fn answer(alloc: Global, row: &str, of: FilterTable) -> Result<String, AllocError> {
     let mut answer = String::new(alloc);
     match of {
-        Table::Filters => rows::add_answer(&mut answer, row)?,
-        Table::Checks => checks::add_answer(&mut answer, row, false)?,
-        Table::Plans => checks::add_answer(&mut answer, row, true)?,
-        Table::Passages => passages::add_answer(&mut answer, row)?,
-        Table::Walks => walks::add_answer(&mut answer, row)?,
+        FilterTable::Filters => rows::add_answer(&mut answer, row)?,
+        FilterTable::Checks => checks::add_answer(&mut answer, row, false)?,
+        FilterTable::Plans => checks::add_answer(&mut answer, row, true)?,
+        FilterTable::Passages => passages::add_answer(&mut answer, row)?,
+        FilterTable::Walks => walks::add_answer(&mut answer, row)?,
     }
     Ok(answer)
 }

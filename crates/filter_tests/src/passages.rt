@@ -4,7 +4,7 @@ use crate::events::{add_event, event_of};
 use config_parse::parse;
 use config_tree::{Config, FromFault};
 use event_tree::{DeadPart, Event, Events};
-use foreign_parts::{Asked, Place, Verdict};
+use foreign_parts::{FilterCall, Place, Verdict};
 use plugin_graph::{Graph, Kit, Passage, Sent, run};
 use std::alloc::{AllocError, Global};
 
@@ -97,7 +97,7 @@ fn add_told(to: &mut String, event: &Event) -> Result<(), AllocError> {
 #[derive(Drop)]
 pub struct NoBox;
 
-impl Asked for NoBox {
+impl FilterCall for NoBox {
     ghost use Rattle.std.specs.Prelude.{⊤};
 
     ghost may = { λ _ _ _. ⊤ };

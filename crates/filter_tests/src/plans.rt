@@ -2,13 +2,16 @@
 
 use crate::events::event_of;
 use event_tree::Events;
-use foreign_parts::Asked;
+use foreign_parts::FilterCall;
 use graph_checks::{Drawn, Plan};
 use plugin_graph::{Graph, Kit, run};
 use std::alloc::AllocError;
 
 /// Adds what comes of an event in each kit of a plan, and the addresses of its links.
-pub fn add_run<F: Asked, O: Drop>(to: &mut String, plan: Plan<F, O>) -> Result<(), AllocError> {
+pub fn add_run<F: FilterCall, O: Drop>(
+    to: &mut String,
+    plan: Plan<F, O>,
+) -> Result<(), AllocError> {
     let Plan {
         graph,
         kits,
@@ -24,7 +27,7 @@ pub fn add_run<F: Asked, O: Drop>(to: &mut String, plan: Plan<F, O>) -> Result<(
     Ok(())
 }
 
-fn add_passage<F: Asked>(
+fn add_passage<F: FilterCall>(
     to: &mut String,
     graph: &Graph,
     kit: Kit<Drawn<F>>,

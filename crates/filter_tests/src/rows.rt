@@ -1,3 +1,4 @@
+// A filter, made of a row's settings and applied to its event.
 use crate::events::{add_event, event_of};
 use built_plugins::BuiltFilter;
 use config_parse::parse;

@@ -1,3 +1,4 @@
+// The filter `date`: its settings, and its application to an event.
 ghost use Rattle.std.specs.Prelude.{◌≡◌, ◌∷◌, [], IfOk, option_map, option_and_then};
 ghost use Rattle.filter_settings.specs.Readers as readers;
 ghost use Rattle.filter_settings.specs.Settings.{Gives, Leaves, wanted};

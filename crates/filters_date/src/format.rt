@@ -1,3 +1,4 @@
+// The formats of the filter `date`: named ones, and letters with quoted texts.
 ghost use Rattle.std.specs.Prelude.{◌≡◌, ◌≤◌, length, IfOk, false};
 ghost use Rattle.filters_date.specs.Formats as spec;
 

@@ -1,3 +1,4 @@
+// Moments written as numbers of units of time since 1970.
 ghost use Rattle.std.specs.Prelude.{◌≡◌, ◌≤◌, ◌^◌, ◌*ℤ◌, pos};
 ghost use Rattle.filters_date.specs.Dates as spec;
 

@@ -11,7 +11,7 @@ use Rattle.filters_grok.specs.declared.grok.Searched.TheVariants as x
 use Rattle.filters_grok.specs.Searching.{put_in}
 use Rattle.grok_patterns.specs.declared.expansion.Expanded.{Expanded}
 use Rattle.filters_grok.specs.declared.grok_pattern.Put.{Put}
-use Rattle.filters_grok.specs.declared.searching.How.{How}
+use Rattle.filters_grok.specs.declared.searching.SearchOptions.{SearchOptions}
 
 abbrev Field : Type 0
 Field = Way × List Expanded
@@ -41,17 +41,17 @@ goes_on_there t x.Failed m next e e' is same = absurd (true≢false is)
 goes_on_there true x.Matched m next e e' is same = absurd (true≢false is)
 goes_on_there false x.Matched m next e e' is same = refl
 
-test_same : (how : How) (r : Searched) → ends_if how.ends r ≡ ends how r
+test_same : (how : SearchOptions) (r : Searched) → ends_if how.ends r ≡ ends how r
 test_same how x.Missed = refl
 test_same how x.Failed = refl
 test_same how x.Matched = refl
 
-behind_same : (how : How) (r : Searched) (more : Ev → Tried) (missed : Tried) (e' : Ev) → over (behind_if how.ends more) missed (found_in r e') ≡ over (behind_match how more) missed (found_in r e')
+behind_same : (how : SearchOptions) (r : Searched) (more : Ev → Tried) (missed : Tried) (e' : Ev) → over (behind_if how.ends more) missed (found_in r e') ≡ over (behind_match how more) missed (found_in r e')
 behind_same how x.Missed more missed e' = refl
 behind_same how x.Failed more missed e' = refl
 behind_same how x.Matched more missed e' = refl
 
-module _ (how : How) (fs : List Field) (i : ℕ) (m : Bool) (e e' e0 : Ev) (found : Searched) (below : i < length fs)
+module _ (how : SearchOptions) (fs : List Field) (i : ℕ) (m : Bool) (e e' e0 : Ev) (found : Searched) (below : i < length fs)
     (so_far : searched how (drop i fs) m e ≡ searched how fs false e0) (done : (f : Field) → slice_get fs i ≡ Some f → found_in found e' ≡ field_searched how f e) where
   abbrev after : Option Tried → Tried
   after r = over (behind_match how (searched how (drop (i + 1) fs) true)) (searched how (drop (i + 1) fs) m e) r
@@ -69,7 +69,7 @@ module _ (how : How) (fs : List Field) (i : ℕ) (m : Bool) (e e' e0 : Ev) (foun
   pub field_goes_on : ends how found ≡ false → (found ≡ x.Missed → e' ≡ e) → searched how (drop (i + 1) fs) (matched_by_now m found) e' ≡ searched how fs false e0
   field_goes_on is same = goes_on_there how.ends found m (searched how (drop (i + 1) fs)) e e' (test_same how found ∙ is) same ∙ behind_same how found (searched how (drop (i + 1) fs) true) (searched how (drop (i + 1) fs) m e) e' ∙ here
 
-pub fields_end : (how : How) (fs : List Field) (i : ℕ) (m : Bool) (e e0 : Ev) → length fs ≤ i → searched how (drop i fs) m e ≡ searched how fs false e0 → tried m e ≡ searched how fs false e0
+pub fields_end : (how : SearchOptions) (fs : List Field) (i : ℕ) (m : Bool) (e e0 : Ev) → length fs ≤ i → searched how (drop i fs) m e ≡ searched how fs false e0 → tried m e ≡ searched how fs false e0
 fields_end how fs i m e e0 end so_far = ap (λ ys. searched how ys m e) (sym (behind_end fs i end)) ∙ so_far
 
 module _ (ps : List Expanded) (left : List Put) (e : Ev) (whole : Tried) (so_far : all_tried (put_in ps) left e ≡ whole) where

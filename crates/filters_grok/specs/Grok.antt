@@ -13,12 +13,12 @@ use Rattle.filter_settings.specs.Options.{option_set}
 use Rattle.filters_grok.specs.Searching.{none, value_finds, put_in}
 use Rattle.filters_grok.specs.Settings.{rules_of, definitions_of, match_of}
 use Rattle.grok_patterns.specs.declared.expansion.Expanded.{Expanded}
-use Rattle.grok_patterns.specs.declared.expansion.Rules.{Rules}
+use Rattle.grok_patterns.specs.declared.expansion.ExpansionRules.{ExpansionRules}
 use Rattle.filters_grok.specs.declared.grok.Grok.{Grok}
 use Rattle.filters_grok.specs.declared.grok.Searched.{Searched}
 use Rattle.filters_grok.specs.declared.grok.Searched.TheVariants as x
 use Rattle.filters_grok.specs.declared.searching.Finds.{Finds}
-use Rattle.filters_grok.specs.declared.searching.How.{How}
+use Rattle.filters_grok.specs.declared.searching.SearchOptions.{SearchOptions}
 
 -- a setting of which the rules were made already, or one that every filter has
 abbrev pub further_set : List ℕ → SettingValue → Grok → Made Grok
@@ -39,7 +39,7 @@ grok_set k x g =
     else further_set k x g)))
 
 -- before any setting
-abbrev pub grok_start : Rules → Grok
+abbrev pub grok_start : ExpansionRules → Grok
 grok_start rules = record {
   rules = rules;
   fields = [];
@@ -53,18 +53,18 @@ grok_start rules = record {
 abbrev pub grok_of : Entries → Made Grok
 grok_of es = next (needed (codes "match") es) (all_set grok_set es (grok_start (rules_of es)))
 
-abbrev pub how : Grok → How
+abbrev pub how : Grok → SearchOptions
 how g = record { ends = g.break_on_match; keep_empty = g.keep_empty_captures }
 
 -- what the patterns of a field find in it
-abbrev pub finds_in : How → Way × List Expanded → Ev → Finds
+abbrev pub finds_in : SearchOptions → Way × List Expanded → Ev → Finds
 finds_in how f e = over (value_finds how f.1) none (event_at f.0 e)
 
 -- what was found is put into the event; none where nothing matched
 abbrev pub found_put : List Expanded → Finds → Ev → Option Tried
 found_put ps found e = if found.matched then Some (all_tried (put_in ps) found.puts e) else None
 
-abbrev pub field_searched : How → Way × List Expanded → Ev → Option Tried
+abbrev pub field_searched : SearchOptions → Way × List Expanded → Ev → Option Tried
 field_searched how f e = found_put f.1 (finds_in how f e) e
 
 -- what became of an event in which something matched
@@ -74,7 +74,7 @@ found_in x.Failed e = Some (Err e)
 found_in x.Matched e = Some (Ok e)
 
 -- the search ends with a refused put, and with the first match where that is wanted
-abbrev pub ends : How → Searched → Bool
+abbrev pub ends : SearchOptions → Searched → Bool
 ends how x.Missed = false
 ends how x.Failed = true
 ends how x.Matched = how.ends
@@ -85,12 +85,12 @@ matched_by_now before x.Failed = before
 matched_by_now before x.Matched = true
 
 -- where something matched: what a refused put leaves fails, and the first match may end the filter
-abbrev pub behind_match : How → (Ev → Tried) → Tried → Tried
+abbrev pub behind_match : SearchOptions → (Ev → Tried) → Tried → Tried
 behind_match how more (Ok e) = if how.ends then Ok e else more e
 behind_match how more (Err e) = Err e
 
 -- one field after another; whether something matched so far
-abbrev pub searched : How → List (Way × List Expanded) → Bool → Ev → Tried
+abbrev pub searched : SearchOptions → List (Way × List Expanded) → Bool → Ev → Tried
 searched how [] matched e = tried matched e
 searched how (f ∷ fs) matched e = over (behind_match how (searched how fs true)) (searched how fs matched e) (field_searched how f e)
 

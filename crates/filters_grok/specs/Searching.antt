@@ -11,7 +11,7 @@ use Rattle.grok_patterns.specs.declared.expansion.Capture.{Capture}
 use Rattle.grok_patterns.specs.declared.expansion.Expanded.{Expanded}
 use Rattle.filters_grok.specs.declared.grok_pattern.Put.{Put}
 use Rattle.filters_grok.specs.declared.searching.Finds.{Finds}
-use Rattle.filters_grok.specs.declared.searching.How.{How}
+use Rattle.filters_grok.specs.declared.searching.SearchOptions.{SearchOptions}
 
 abbrev pub none : Finds
 none = record { matched = false; puts = [] }
@@ -21,22 +21,22 @@ abbrev pub and_finds : Finds → Finds → Finds
 and_finds a b = record { matched = a.matched || b.matched; puts = a.puts ++ b.puts }
 
 -- the same, where the first match may end the search
-abbrev pub both : How → Finds → Finds → Finds
+abbrev pub both : SearchOptions → Finds → Finds → Finds
 both how a b = if how.ends && a.matched then a else and_finds a b
 
 abbrev pub with_puts : Finds → List Put → Finds
 with_puts a puts = record { matched = true; puts = a.puts ++ puts }
 
 -- by one pattern in a text
-abbrev pub pattern_finds : How → ℕ → Expanded → List ℕ → Finds
+abbrev pub pattern_finds : SearchOptions → ℕ → Expanded → List ℕ → Finds
 pattern_finds how n p s = over (λ puts. record { matched = true; puts = puts }) none (puts_in how.keep_empty n p s)
 
 -- by the patterns from a number on, in their order
-abbrev pub text_finds : How → ℕ → List Expanded → List ℕ → Finds
+abbrev pub text_finds : SearchOptions → ℕ → List Expanded → List ℕ → Finds
 text_finds how n [] s = none
 text_finds how n (p ∷ ps) s = both how (pattern_finds how n p s) (text_finds how (suc n) ps s)
 
-abbrev item_in : How → List Expanded → Value-F Value → Finds
+abbrev item_in : SearchOptions → List Expanded → Value-F Value → Finds
 item_in how ps Value-F.Null = none
 item_in how ps (Value-F.Bool b) = none
 item_in how ps (Value-F.Num n) = none
@@ -46,15 +46,15 @@ item_in how ps (Value-F.List xs) = none
 item_in how ps (Value-F.Object ms) = none
 
 -- in a value that is a text
-abbrev pub item_finds : How → List Expanded → Value → Finds
+abbrev pub item_finds : SearchOptions → List Expanded → Value → Finds
 item_finds how ps x = item_in how ps (out-Value x)
 
-abbrev pub values_finds : How → List Expanded → List Value → Finds
+abbrev pub values_finds : SearchOptions → List Expanded → List Value → Finds
 values_finds how ps [] = none
 values_finds how ps (x ∷ xs) = both how (item_finds how ps x) (values_finds how ps xs)
 
 -- in the value of a field: a list is searched item by item
-abbrev pub value_finds : How → List Expanded → Value → Finds
+abbrev pub value_finds : SearchOptions → List Expanded → Value → Finds
 value_finds how ps x = values_finds how ps (values x)
 
 abbrev pub value_and : Value → Option Value → Value

@@ -13,7 +13,7 @@ use Rattle.filter_settings.specs.Readers.{text_item, flag_of, path_of, paths_of,
 use Rattle.grok_patterns.specs.Pieces.{pieces_of}
 use Rattle.grok_patterns.specs.Expansions.{known_patterns, expanded}
 use Rattle.grok_patterns.specs.declared.expansion.Expanded.{Expanded}
-use Rattle.grok_patterns.specs.declared.expansion.Rules.{Rules}
+use Rattle.grok_patterns.specs.declared.expansion.ExpansionRules.{ExpansionRules}
 
 -- a name with its pattern
 abbrev pub definition : List ℕ × SettingValue → Option (List ℕ × List ℕ)
@@ -39,7 +39,7 @@ abbrev pub definitions_in : Entries → List (List ℕ × List ℕ)
 definitions_in es = over (λ ds. ds) [] (said_at definitions_of (codes "pattern_definitions") es)
 
 -- what patterns are expanded by
-abbrev pub rules_of : Entries → Rules
+abbrev pub rules_of : Entries → ExpansionRules
 rules_of es = record {
   known = known_patterns (all_kept es) (definitions_in es);
   all_kept = all_kept es;
@@ -51,11 +51,11 @@ abbrev pub if_pattern : Expanded → Option Expanded
 if_pattern x = if is_pattern x.text then Some x else None
 
 -- the pattern that a text is: what it stands for is a regular expression
-abbrev pub pattern_of : Rules → List ℕ → Option Expanded
+abbrev pub pattern_of : ExpansionRules → List ℕ → Option Expanded
 pattern_of r s = option_and_then if_pattern (expanded r (pieces_of r.all_kept s))
 
 -- a field with its patterns
-abbrev pub field_patterns : Rules → Way × List (List ℕ) → Option (Way × List Expanded)
+abbrev pub field_patterns : ExpansionRules → Way × List (List ℕ) → Option (Way × List Expanded)
 field_patterns r f = option_map (λ ps. (f.0, ps)) (each_in (pattern_of r) f.1)
 
 -- what was read of a setting; a text that is no pattern is a fault
@@ -63,5 +63,5 @@ abbrev pub readable : {A : Type 0} → List ℕ → Option A → Made A
 readable k None = Err (fault.BadPattern k)
 readable k (Some x) = Ok x
 
-abbrev pub match_of : Rules → List ℕ → SettingValue → Made (List (Way × List Expanded))
+abbrev pub match_of : ExpansionRules → List ℕ → SettingValue → Made (List (Way × List Expanded))
 match_of r k x = next (λ fs. readable k (each_in (field_patterns r) fs)) (wanted k (field_lists_of x))

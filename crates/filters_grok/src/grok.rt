@@ -1,3 +1,4 @@
+// The filter `grok`: its settings, and its application to an event.
 ghost use Rattle.std.specs.Prelude.{◌≡◌, ◌<◌, List, length, slice_get, Some, None, false, IfOk};
 ghost use Rattle.event_tree.specs.Events.{Way};
 ghost use Rattle.filter_settings.specs.Settings.{Gives, Leaves};
@@ -5,20 +6,20 @@ ghost use Rattle.filter_settings.specs.Trying.{tried};
 ghost use Rattle.filters_grok.specs.Grok as spec;
 ghost use Rattle.grok_patterns.specs.declared.expansion.Expanded.{Expanded as Said};
 
-use crate::searching::{Finds, How, put_all, search_value};
+use crate::searching::{Finds, SearchOptions, put_all, search_value};
 use crate::settings::{FieldPatterns, read_definitions, read_match, rules_of};
 use event_tree::{Event, Items, Text};
 use filter_settings::{
     Applied, FromFault, Options, SetByName, SettingValue, Settings, assign, finish, not_kept,
     read_flag, read_path, read_paths, read_settings, read_text, require, set_option,
 };
-use grok_patterns::Rules;
+use grok_patterns::ExpansionRules;
 use std::alloc::{AllocError, Global};
 
 /// The filter `grok`: patterns find fields in texts.
 pub struct Grok {
     /// By what patterns are expanded.
-    pub rules: Rules,
+    pub rules: ExpansionRules,
     /// The fields with their patterns, in the order of the text.
     pub fields: Items<FieldPatterns>,
     /// Whether the first match ends the filter.
@@ -79,7 +80,7 @@ impl Grok {
         require(settings, "match", filter)
     }
 
-    fn new(alloc: Global, rules: Rules) -> Result<Grok, AllocError>
+    fn new(alloc: Global, rules: ExpansionRules) -> Result<Grok, AllocError>
         ensures { IfOk result (λ filter. filter ≡ spec.grok_start rules) }
     {
         let tag_on_failure = Text::of(alloc, "_grokparsefailure")?;
@@ -125,10 +126,10 @@ impl Grok {
         finish(event, fine, &self.options, &self.tag_on_failure)
     }
 
-    fn how(&self) -> How
+    fn how(&self) -> SearchOptions
         ensures { result ≡ spec.how self.now }
     {
-        How {
+        SearchOptions {
             ends: self.break_on_match,
             keep_empty: self.keep_empty_captures,
         }
@@ -148,7 +149,7 @@ pub enum Searched {
 
 impl Searched {
     // Whether the search ends with it.
-    fn ends(self, how: How) -> bool
+    fn ends(self, how: SearchOptions) -> bool
         ensures { result ≡ spec.ends how self }
     {
         match self {
@@ -172,7 +173,7 @@ impl Searched {
 // Whether something matched, and the event could hold what was found.
 fn search_fields(
     fields: &mut Items<FieldPatterns>,
-    how: How,
+    how: SearchOptions,
     event: &mut Event,
 ) -> Result<bool, AllocError>
     ensures done { IfOk result (λ fine. tried fine event.new ≡ spec.searched how fields.old false
@@ -193,7 +194,7 @@ fn search_fields(
 fn search_at(
     fields: &mut Items<FieldPatterns>,
     index: usize,
-    how: How,
+    how: SearchOptions,
     event: &mut Event,
 ) -> Result<Searched, AllocError>
     requires { index < length fields.old }
@@ -210,7 +211,7 @@ fn search_at(
 
 fn search_field(
     field: &mut FieldPatterns,
-    how: How,
+    how: SearchOptions,
     event: &mut Event,
 ) -> Result<Searched, AllocError>
     ensures done { IfOk result (λ found. spec.found_in found event.new ≡ spec.field_searched how
@@ -230,7 +231,11 @@ fn search_field(
     }
 }
 
-fn finds_in(field: &mut FieldPatterns, how: How, event: &Event) -> Result<Finds, AllocError>
+fn finds_in(
+    field: &mut FieldPatterns,
+    how: SearchOptions,
+    event: &Event,
+) -> Result<Finds, AllocError>
     ensures found { IfOk result (λ finds. finds ≡ spec.finds_in how field.old event.now) }
     ensures same { field.new ≡ field.old }
 {

@@ -14,7 +14,7 @@ use std::alloc::{AllocError, Global};
 
 /// How fields are searched.
 #[derive(Clone, Copy)]
-pub struct How {
+pub struct SearchOptions {
     /// The first match ends it.
     pub ends: bool,
     /// Captures of the empty text are kept.
@@ -52,7 +52,7 @@ impl Finds {
 pub(crate) fn search_value(
     alloc: Global,
     patterns: &mut Items<GrokPattern>,
-    how: How,
+    how: SearchOptions,
     value: &Value,
 ) -> Result<Finds, AllocError>
     ensures found { IfOk result (λ finds. finds ≡ spec.value_finds how patterns.old value.now) }
@@ -67,7 +67,7 @@ pub(crate) fn search_value(
 fn search_values(
     alloc: Global,
     patterns: &mut Items<GrokPattern>,
-    how: How,
+    how: SearchOptions,
     values: &[Value],
     finds: &mut Finds,
 ) -> Result<(), AllocError>
@@ -85,7 +85,7 @@ fn search_values(
 fn search_item(
     alloc: Global,
     patterns: &mut Items<GrokPattern>,
-    how: How,
+    how: SearchOptions,
     value: &Value,
     finds: &mut Finds,
 ) -> Result<(), AllocError>
@@ -110,7 +110,7 @@ fn search_item(
 fn search_text(
     alloc: Global,
     patterns: &mut Items<GrokPattern>,
-    how: How,
+    how: SearchOptions,
     text: &str,
     finds: &mut Finds,
 ) -> Result<(), AllocError>
@@ -129,7 +129,7 @@ fn search_by(
     alloc: Global,
     patterns: &mut Items<GrokPattern>,
     number: usize,
-    how: How,
+    how: SearchOptions,
     text: &str,
     finds: &mut Finds,
 ) -> Result<(), AllocError>
@@ -151,7 +151,7 @@ fn find(
     alloc: Global,
     pattern: &mut GrokPattern,
     number: usize,
-    how: How,
+    how: SearchOptions,
     text: &str,
     finds: &mut Finds,
 ) -> Result<(), AllocError>

@@ -11,7 +11,9 @@ use filter_settings::{
     FromFault, SettingValue, Settings, bad_pattern, hash_of, read_field_lists, read_flag,
     read_path, read_paths, text_item, unless_refused, wanted,
 };
-use grok_patterns::{Expanded, Known, Rules, expand, known_patterns, read_pieces};
+use grok_patterns::{
+    Expanded, ExpansionRules, PatternLibrary, expand, known_patterns, read_pieces,
+};
 use pattern_box::PatternFault;
 use std::alloc::{AllocError, Global};
 
@@ -19,7 +21,7 @@ use std::alloc::{AllocError, Global};
 pub type FieldPatterns = (Path, Items<GrokPattern>);
 
 /// What patterns are expanded by: the settings that stand anywhere, where they can be read.
-pub(crate) fn rules_of(settings: &Settings) -> Result<Rules, AllocError>
+pub(crate) fn rules_of(settings: &Settings) -> Result<ExpansionRules, AllocError>
     ensures { IfOk result (λ rules. rules ≡ spec.rules_of settings.now.list) }
 {
     let alloc = settings.list.allocator();
@@ -27,7 +29,7 @@ pub(crate) fn rules_of(settings: &Settings) -> Result<Rules, AllocError>
     let known = known_in(alloc, all_kept, settings)?;
     let target = target_in(alloc, settings)?;
     let overwrite = overwrite_in(alloc, settings)?;
-    Ok(Rules {
+    Ok(ExpansionRules {
         known,
         all_kept,
         target,
@@ -35,7 +37,11 @@ pub(crate) fn rules_of(settings: &Settings) -> Result<Rules, AllocError>
     })
 }
 
-fn known_in(alloc: Global, all_kept: bool, settings: &Settings) -> Result<Known, AllocError>
+fn known_in(
+    alloc: Global,
+    all_kept: bool,
+    settings: &Settings,
+) -> Result<PatternLibrary, AllocError>
     ensures { IfOk result (λ known. known
         ≡ known_patterns all_kept (spec.definitions_in settings.now.list)) }
 {
@@ -139,7 +145,7 @@ fn definition(
 /// The fields with their patterns.
 pub(crate) fn read_match(
     alloc: Global,
-    rules: &Rules,
+    rules: &ExpansionRules,
     name: &str,
     value: &SettingValue,
 ) -> Result<Items<FieldPatterns>, FromFault>
@@ -155,7 +161,7 @@ pub(crate) fn read_match(
 #[tactic(auto, using(filter_settings::proofs::Steps::each))]
 fn compiled(
     alloc: Global,
-    rules: &Rules,
+    rules: &ExpansionRules,
     fields: &[(Path, Names)],
 ) -> Result<Option<Items<FieldPatterns>>, AllocError>
     ensures { IfOk result (λ found. found ≡ each_in (spec.field_patterns rules.now) fields.now) }
@@ -172,7 +178,7 @@ fn compiled(
 
 fn field_patterns(
     alloc: Global,
-    rules: &Rules,
+    rules: &ExpansionRules,
     field: &Path,
     texts: &[Text],
 ) -> Result<Option<FieldPatterns>, AllocError>
@@ -187,7 +193,7 @@ fn field_patterns(
 #[tactic(auto, using(filter_settings::proofs::Steps::each))]
 fn patterns(
     alloc: Global,
-    rules: &Rules,
+    rules: &ExpansionRules,
     texts: &[Text],
 ) -> Result<Option<Items<GrokPattern>>, AllocError>
     ensures { IfOk result (λ found. found ≡ each_in (spec.pattern_of rules.now) texts.now) }
@@ -206,7 +212,7 @@ fn patterns(
 /// expression.
 pub fn pattern_of(
     alloc: Global,
-    rules: &Rules,
+    rules: &ExpansionRules,
     text: &str,
 ) -> Result<Option<GrokPattern>, AllocError>
     ensures { IfOk result (λ found. found ≡ spec.pattern_of rules.now text.now) }

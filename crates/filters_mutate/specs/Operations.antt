@@ -18,16 +18,16 @@ use Rattle.filter_settings.specs.Convert.{converted}
 use Rattle.filter_settings.specs.Pieces.{split_text}
 use Rattle.filter_settings.specs.Trying.{Tried, all_tried, put_at, change_at, unless_refused, finished}
 use Rattle.filter_settings.specs.declared.conversion.Conversion.{Conversion}
-use Rattle.filter_settings.specs.declared.trying.Change.{Change}
-use Rattle.filter_settings.specs.declared.trying.Change.TheVariants as c
+use Rattle.filter_settings.specs.declared.field_changes.Change.{Change}
+use Rattle.filter_settings.specs.declared.field_changes.Change.TheVariants as c
 use Rattle.filters_mutate.specs.Texts.{in_case, stripped, joined_by}
 use Rattle.filters_mutate.specs.declared.cases.Case.{Case}
 use Rattle.filters_mutate.specs.declared.cases.Case.TheVariants as case
 use Rattle.filters_mutate.specs.declared.fills.Fill.{Fill}
 use Rattle.filters_mutate.specs.declared.fills.Fill.TheVariants as fill
 use Rattle.filters_mutate.specs.declared.gsub.Substitution.{Substitution}
-use Rattle.filters_mutate.specs.declared.lists.Listing.{Listing}
-use Rattle.filters_mutate.specs.declared.lists.Listing.TheVariants as list
+use Rattle.filters_mutate.specs.declared.lists.ListConversion.{ListConversion}
+use Rattle.filters_mutate.specs.declared.lists.ListConversion.TheVariants as list
 use Rattle.filters_mutate.specs.declared.moves.Move.{Move}
 use Rattle.filters_mutate.specs.declared.moves.Move.TheVariants as move
 use Rattle.filters_mutate.specs.declared.mutate.Mutate.{Mutate}
@@ -153,7 +153,7 @@ abbrev pub join_by : List ℕ → Value → Change
 join_by separator x = on_list (λ xs. v.Text (joined_by separator (map shown xs))) (out-Value x)
 
 -- split and join
-abbrev pub listed : Listing → Way × List ℕ → Ev → Tried
+abbrev pub listed : ListConversion → Way × List ℕ → Ev → Tried
 listed list.Split p e = changed_at (split_by p.1) p.0 e
 listed list.Join p e = changed_at (join_by p.1) p.0 e
 

@@ -3,7 +3,7 @@ ghost use Rattle.std.specs.Prelude.{◌≡◌, ◌-◌, ◌<◌, ◌≤◌, true
 ghost use Rattle.std.specs.Option.{option_copied};
 ghost use Rattle.event_tree.specs.Paths.{over};
 ghost use Rattle.event_tree.specs.declared.value.Value.TheVariants as v;
-ghost use Rattle.filter_settings.specs.declared.trying.Change.TheVariants as c;
+ghost use Rattle.filter_settings.specs.declared.field_changes.Change.TheVariants as c;
 ghost use Rattle.filter_settings.specs.Trying.{tried, all_tried};
 ghost use Rattle.filters_mutate.specs.Operations as spec;
 ghost use Rattle.filters_mutate.specs.Texts as texts;

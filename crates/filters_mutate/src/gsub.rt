@@ -4,7 +4,7 @@ ghost use Rattle.std.specs.Option.{option_copied};
 ghost use Rattle.event_tree.specs.Paths.{over};
 ghost use Rattle.pattern_box.specs.Patterns.{IsRefusal, is_pattern};
 ghost use Rattle.pattern_box.specs.Replacements.{substituted};
-ghost use Rattle.filter_settings.specs.declared.trying.Change.TheVariants as c;
+ghost use Rattle.filter_settings.specs.declared.field_changes.Change.TheVariants as c;
 ghost use Rattle.filter_settings.specs.Settings.{Gives};
 ghost use Rattle.filter_settings.specs.Trying.{tried, all_tried};
 ghost use Rattle.filters_mutate.specs.Gsub as spec;

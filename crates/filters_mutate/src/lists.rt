@@ -4,7 +4,7 @@ ghost use Rattle.std.specs.Option.{option_copied};
 ghost use Rattle.event_text.specs.Shown.{shown};
 ghost use Rattle.event_tree.specs.Paths.{over};
 ghost use Rattle.event_tree.specs.declared.value.Value.TheVariants as v;
-ghost use Rattle.filter_settings.specs.declared.trying.Change.TheVariants as c;
+ghost use Rattle.filter_settings.specs.declared.field_changes.Change.TheVariants as c;
 ghost use Rattle.filter_settings.specs.Trying.{tried, all_tried};
 ghost use Rattle.filters_mutate.specs.Operations as spec;
 ghost use Rattle.filters_mutate.specs.Texts.{behind_separator, joined_by};
@@ -16,7 +16,7 @@ use std::alloc::{AllocError, Global};
 
 /// From which to which.
 #[derive(Clone, Copy)]
-pub enum Listing {
+pub enum ListConversion {
     /// From a text to the list of its pieces.
     Split,
     /// From a list to the text of its items.
@@ -26,7 +26,7 @@ pub enum Listing {
 #[tactic(auto, using(filter_settings::proofs::Steps::trying))]
 pub(crate) fn list_all(
     alloc: Global,
-    how: Listing,
+    how: ListConversion,
     fields: &[(Path, Text)],
     event: &mut Event,
 ) -> Result<bool, AllocError>
@@ -43,7 +43,7 @@ pub(crate) fn list_all(
 
 fn list_one(
     alloc: Global,
-    how: Listing,
+    how: ListConversion,
     field: &(Path, Text),
     event: &mut Event,
 ) -> Result<bool, AllocError>
@@ -52,8 +52,8 @@ fn list_one(
     let separator = field.1.as_str();
     let value = event.get(&field.0);
     let change = match how {
-        Listing::Split => split(alloc, value, separator)?,
-        Listing::Join => join(alloc, value, separator)?,
+        ListConversion::Split => split(alloc, value, separator)?,
+        ListConversion::Join => join(alloc, value, separator)?,
     };
     change_at(event, &field.0, change)
 }

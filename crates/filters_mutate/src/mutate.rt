@@ -1,3 +1,4 @@
+// The filter `mutate`: its settings, and its operations in their fixed order.
 ghost use Rattle.std.specs.Prelude.{◌≡◌, IfOk};
 ghost use Rattle.filter_settings.specs.Settings.{Gives, Leaves};
 ghost use Rattle.filter_settings.specs.Trying.{tried, all_tried};
@@ -8,7 +9,7 @@ use crate::cases::{Case, change_cases, strip_all};
 use crate::conversions::convert_all;
 use crate::fills::{Fill, fill_all};
 use crate::gsub::{Gsub, read_gsub, substitute_all};
-use crate::lists::{Listing, list_all};
+use crate::lists::{ListConversion, list_all};
 use crate::moves::{Move, move_all};
 use crate::operation::{ORDER, Operation};
 use event_text::Template;
@@ -212,8 +213,13 @@ impl Mutate {
                 change_cases(alloc, Case::Lower, self.lowercase.as_slice(), event)
             }
             Operation::Strip => strip_all(alloc, self.strip.as_slice(), event),
-            Operation::Split => list_all(alloc, Listing::Split, self.split.as_slice(), event),
-            Operation::Join => list_all(alloc, Listing::Join, self.join.as_slice(), event),
+            Operation::Split => list_all(
+                alloc,
+                ListConversion::Split,
+                self.split.as_slice(),
+                event,
+            ),
+            Operation::Join => list_all(alloc, ListConversion::Join, self.join.as_slice(), event),
             Operation::Merge => move_all(alloc, Move::Merge, self.merge.as_slice(), event),
             Operation::Copy => move_all(alloc, Move::Copy, self.copy.as_slice(), event),
         }

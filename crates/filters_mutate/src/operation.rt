@@ -1,3 +1,4 @@
+// The operations of `mutate`, and the order in which they are done.
 /// An operation of the filter `mutate`.
 #[derive(Clone, Copy)]
 pub enum Operation {

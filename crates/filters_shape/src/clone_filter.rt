@@ -1,3 +1,4 @@
+// The filter `clone`: copies an event, one copy for each name.
 ghost use Rattle.std.specs.Prelude.{◌≡◌, map, IfOk};
 ghost use Rattle.filter_settings.specs.Settings.{Gives};
 ghost use Rattle.filters_shape.specs.Clone as spec;

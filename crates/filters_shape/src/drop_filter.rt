@@ -1,3 +1,4 @@
+// The filter `drop`: gives no event.
 ghost use Rattle.std.specs.Prelude.{◌≡◌, IfOk};
 ghost use Rattle.filter_settings.specs.Settings.{Gives};
 ghost use Rattle.filters_shape.specs.Drops as spec;

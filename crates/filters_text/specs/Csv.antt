@@ -16,8 +16,8 @@ use Rattle.filter_settings.specs.Convert.{converted}
 use Rattle.filter_settings.specs.Readers.{text_of as setting_text, flag_of, path_of, paths_of, field_conversions_of}
 use Rattle.filter_settings.specs.Options.{option_set}
 use Rattle.filter_settings.specs.declared.conversion.Conversion.{Conversion}
-use Rattle.filter_settings.specs.declared.trying.Change.{Change}
-use Rattle.filter_settings.specs.declared.trying.Change.TheVariants as c
+use Rattle.filter_settings.specs.declared.field_changes.Change.{Change}
+use Rattle.filter_settings.specs.declared.field_changes.Change.TheVariants as c
 use Rattle.filter_settings.specs.Paths.{path_under, same_path}
 use Rattle.filters_text.specs.declared.csv_filter.Csv.{Csv}
 use Rattle.filters_text.specs.declared.csv_filter.Column.{Column}

@@ -1,3 +1,4 @@
+// The filter `csv`: its settings, and its application to an event.
 ghost use Rattle.std.specs.Prelude.{◌≡◌, ◌≤◌, ◌+◌, ◌-◌, ◌^◌, IfOk, OnOk, map};
 ghost use Rattle.filter_settings.specs.Settings.{Gives, Leaves, wanted};
 ghost use Rattle.filter_settings.specs.Trying.{tried};

@@ -1,3 +1,4 @@
+// The filter `json`: its settings, and its application to an event.
 ghost use Rattle.std.specs.Prelude.{◌≡◌, IfOk, OnOk};
 ghost use Rattle.event_text.specs.Options.{each_done, tagged};
 ghost use Rattle.filter_settings.specs.Settings.{Gives};

@@ -1,3 +1,4 @@
+// The path of a decoded field, at the root or under a target.
 ghost use Rattle.std.specs.Prelude.{◌≡◌, ◌++◌, ◌∷◌, [], IfOk};
 ghost use Rattle.std.specs.Option.{option_copied};
 ghost use Rattle.event_tree.specs.PathTexts.{way_of};

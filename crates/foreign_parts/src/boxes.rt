@@ -1,9 +1,10 @@
+// What checks ask of a rack without taking a box.
 use crate::rack::Rack;
 use config_tree::{FromFault, Settings};
 
 /// What is handed in as boxes.
 #[derive(Clone, Copy)]
-pub enum Kind {
+pub enum BoxKind {
     Filter,
     Output,
 }
@@ -15,27 +16,27 @@ pub trait Boxes {
     ghost use Rattle.foreign_parts.specs.Stocks.{AnswersAt, is_known, left_of, refusals_of};
     ghost use Rattle.foreign_parts.specs.Boxes.{Keeps, Stand};
     ghost use Rattle.foreign_parts.specs.Links.{addresses_of};
-    ghost use Rattle.foreign_parts.specs.declared.boxes.Kind.{Kind};
+    ghost use Rattle.foreign_parts.specs.declared.boxes.BoxKind.{BoxKind};
     ghost use Rattle.foreign_parts.specs.declared.links.LinkPlace.{LinkPlace};
 
     /// What stands there of a kind.
-    ghost stand: { Self → Kind → Stand };
+    ghost stand: { Self → BoxKind → Stand };
 
     /// The places of the links that were handed in, each with the link that lies there.
     ghost links: { Self → List LinkPlace };
 
     /// Whether a box of the name was ever handed in.
-    fn knows(&self, kind: Kind, name: &str) -> bool
+    fn knows(&self, kind: BoxKind, name: &str) -> bool
         ensures { result ≡ is_known name.now (stand self.now kind).stocks };
 
     /// How many boxes of the name are left.
-    fn left(&self, kind: Kind, name: &str) -> usize
+    fn left(&self, kind: BoxKind, name: &str) -> usize
         ensures { result ≡ length (left_of name.now (stand self.now kind).stocks) };
 
     /// Has a box of the name that is left read settings.
     fn ask(
         &mut self,
-        kind: Kind,
+        kind: BoxKind,
         name: &str,
         at: usize,
         settings: &Settings,
@@ -62,30 +63,30 @@ impl Boxes for Rack {
 
     ghost links = { λ rack. links_of rack };
 
-    fn knows(&self, kind: Kind, name: &str) -> bool {
+    fn knows(&self, kind: BoxKind, name: &str) -> bool {
         match kind {
-            Kind::Filter => self.knows_filter(name),
-            Kind::Output => self.knows_output(name),
+            BoxKind::Filter => self.knows_filter(name),
+            BoxKind::Output => self.knows_output(name),
         }
     }
 
-    fn left(&self, kind: Kind, name: &str) -> usize {
+    fn left(&self, kind: BoxKind, name: &str) -> usize {
         match kind {
-            Kind::Filter => self.filters_left(name),
-            Kind::Output => self.outputs_left(name),
+            BoxKind::Filter => self.filters_left(name),
+            BoxKind::Output => self.outputs_left(name),
         }
     }
 
     fn ask(
         &mut self,
-        kind: Kind,
+        kind: BoxKind,
         name: &str,
         at: usize,
         settings: &Settings,
     ) -> Result<(), FromFault> {
         match kind {
-            Kind::Filter => self.configure_filter(name, at, settings),
-            Kind::Output => self.configure_output(name, at, settings),
+            BoxKind::Filter => self.configure_filter(name, at, settings),
+            BoxKind::Output => self.configure_output(name, at, settings),
         }
     }
 

@@ -1,3 +1,4 @@
+// The trait of filters that are handed in as boxes, and their verdicts.
 ghost use Rattle.std.specs.Prelude.{◌≡◌, ℕ, Option, IfOk};
 ghost use Rattle.io_traits.specs.Counts.{one_more};
 ghost use Rattle.config_tree.specs.Joining.{Entries};

@@ -2,24 +2,24 @@
 //! stand until a configuration takes them, and the places to which events are delivered.
 #![tactic(auto)]
 
+mod box_pool;
 mod boxes;
 mod filter;
 mod links;
+mod named_boxes;
 mod output;
 mod place;
 mod plugged;
 mod rack;
-mod shelf;
 mod shelves;
-mod stockroom;
 
-pub use boxes::{Boxes, Kind};
+pub use box_pool::BoxPool;
+pub use boxes::{BoxKind, Boxes};
 pub use config_tree::{FromFault, SettingFault, Settings};
 pub use filter::{ForeignFilter, Verdict};
 pub use links::LinkPlace;
 pub use output::{DeliverFault, Delivery, Fate, Fates, ForeignOutput};
 pub use pipeline_bus::LinkTaker;
 pub use place::Place;
-pub use plugged::{Asked, Plugged, PluggedFilter, PluggedOutput};
+pub use plugged::{FilterCall, Plugged, PluggedFilter, PluggedOutput};
 pub use rack::Rack;
-pub use stockroom::Stockroom;

@@ -1,3 +1,4 @@
+// Places for the links on which something outside of the pipelines sends.
 ghost use Rattle.std.specs.Prelude.{◌≡◌, None, Some, true, bytes_eq};
 ghost use Rattle.std.specs.List.{list_any};
 ghost use Rattle.foreign_parts.specs.Links as spec;

@@ -1,3 +1,4 @@
+// The trait of outputs that are handed in as boxes, and the fates of events.
 ghost use Rattle.std.specs.Prelude.{◌≡◌, ◌<◌, ℕ, List, [], Option, length};
 ghost use Rattle.io_traits.specs.Counts.{HasCause, one_more};
 ghost use Rattle.io_traits.specs.Telling.{Grows};

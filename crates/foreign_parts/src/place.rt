@@ -1,3 +1,4 @@
+// The places where an output delivers events.
 ghost use Rattle.std.specs.Prelude.{◌≡◌, IfOk};
 
 use event_tree::Text;

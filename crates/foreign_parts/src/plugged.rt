@@ -1,3 +1,4 @@
+// Boxes with the numbers that a rack gave them.
 ghost use Rattle.std.specs.Prelude.{IfOk};
 
 use crate::filter::{ForeignFilter, Verdict};
@@ -30,7 +31,7 @@ pub trait Plugged: Drop {
 }
 
 /// What a boxed filter is to a kit: it answers to an event with a verdict.
-pub trait Asked: Drop {
+pub trait FilterCall: Drop {
     ghost use Rattle.event_tree.specs.Events.{Ev};
     ghost use Rattle.foreign_parts.specs.declared.filter.Verdict.{Verdict};
 
@@ -70,7 +71,7 @@ impl Plugged for PluggedFilter {
     }
 }
 
-impl Asked for PluggedFilter {
+impl FilterCall for PluggedFilter {
     ghost may = { λ p. (ForeignFilter-box p.filter).may p.filter.value };
 
     fn ask(&self, event: &Event) -> Result<Verdict, AllocError> {

@@ -1,3 +1,4 @@
+// The rack: all boxes and links that were handed in.
 ghost use Rattle.std.specs.Prelude.{◌≡◌, ◌<◌, ◌≤◌, ◌+◌, ◌-◌, ◌^◌, [], ◌∷◌, ◌++◌, length, min, slice_get, true, false, bytes_eq, Some, None, IfOk, IfSome, IfNone, OnOk, OnErr};
 ghost use Rattle.std.specs.List.{list_any};
 ghost use Rattle.foreign_parts.specs.Stocks as spec;
@@ -7,9 +8,9 @@ ghost use Rattle.foreign_parts.specs.Links.{addresses_of, is_out, link_of, place
 
 use crate::filter::ForeignFilter;
 use crate::links::{self, LinkPlace};
+use crate::named_boxes::NamedBoxes;
 use crate::output::ForeignOutput;
 use crate::plugged::{PluggedFilter, PluggedOutput};
-use crate::shelf::Shelf;
 use crate::shelves::{add, configure, count_left, draw, give_back, is_known, number_at};
 use config_tree::{FromFault, Settings};
 use pipeline_bus::LinkTaker;
@@ -23,8 +24,8 @@ use std::alloc::{AllocError, Global};
 /// an address by a look at each one before it.
 #[derive(Drop)]
 pub struct Rack {
-    filters: Vec<Shelf<PluggedFilter>>,
-    outputs: Vec<Shelf<PluggedOutput>>,
+    filters: Vec<NamedBoxes<PluggedFilter>>,
+    outputs: Vec<NamedBoxes<PluggedOutput>>,
     /// The links from outside, each in the place of its address.
     links: Vec<LinkPlace>,
     /// How many boxes were added so far, which is the number of the next.

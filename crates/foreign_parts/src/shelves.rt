@@ -1,15 +1,16 @@
+// The boxes of all names, found by name.
 ghost use Rattle.std.specs.Prelude.{◌≡◌, ◌<◌, [], length, slice_get, Some, IfSome, IfNone, OnOk, OnErr};
 ghost use Rattle.foreign_parts.specs.Stocks as spec;
 ghost use Rattle.foreign_parts.specs.Stocks.{AnswersAt, IsLast, place, refusals_of};
 ghost use Rattle.foreign_parts.specs.Shelves.{stocks, refusals};
 
+use crate::named_boxes::NamedBoxes;
 use crate::plugged::Plugged;
-use crate::shelf::Shelf;
 use config_tree::{FromFault, Settings};
 use std::alloc::{AllocError, Global};
 
-// The place of the shelf of a name, or the number of shelves.
-fn place_of<T: Plugged>(shelves: &[Shelf<T>], name: &str) -> usize
+// The place of the boxes of a name, or the number of names.
+fn place_of<T: Plugged>(shelves: &[NamedBoxes<T>], name: &str) -> usize
     ensures { result ≡ place name.now (stocks T.number shelves.now) }
 {
     for at in 0..shelves.len() {
@@ -20,14 +21,14 @@ fn place_of<T: Plugged>(shelves: &[Shelf<T>], name: &str) -> usize
     shelves.len()
 }
 
-pub(crate) fn is_known<T: Plugged>(shelves: &[Shelf<T>], name: &str) -> bool
+pub(crate) fn is_known<T: Plugged>(shelves: &[NamedBoxes<T>], name: &str) -> bool
     ensures { result ≡ spec.is_known name.now (stocks T.number shelves.now) }
 {
     place_of(shelves, name) < shelves.len()
 }
 
 /// How many boxes of a name are left.
-pub(crate) fn count_left<T: Plugged>(shelves: &[Shelf<T>], name: &str) -> usize
+pub(crate) fn count_left<T: Plugged>(shelves: &[NamedBoxes<T>], name: &str) -> usize
     ensures { result ≡ length (spec.left_of name.now (stocks T.number shelves.now)) }
 {
     let at = place_of(shelves, name);
@@ -39,7 +40,7 @@ pub(crate) fn count_left<T: Plugged>(shelves: &[Shelf<T>], name: &str) -> usize
 }
 
 /// The number of a box of a name that is left, by its place.
-pub(crate) fn number_at<T: Plugged>(shelves: &[Shelf<T>], name: &str, at: usize) -> u64
+pub(crate) fn number_at<T: Plugged>(shelves: &[NamedBoxes<T>], name: &str, at: usize) -> u64
     requires { at < length (spec.left_of name.now (stocks T.number shelves.now)) }
     ensures { slice_get (spec.left_of name.now (stocks T.number shelves.now)) at ≡ Some result }
 {
@@ -54,7 +55,7 @@ pub(crate) fn number_at<T: Plugged>(shelves: &[Shelf<T>], name: &str, at: usize)
 /// Adds a box under a name.
 pub(crate) fn add<T: Plugged>(
     alloc: Global,
-    shelves: &mut Vec<Shelf<T>>,
+    shelves: &mut Vec<NamedBoxes<T>>,
     name: &str,
     item: T,
 ) -> Result<(), AllocError>
@@ -67,13 +68,13 @@ pub(crate) fn add<T: Plugged>(
     if at < shelves.len() {
         return shelves[at].add(item);
     }
-    let shelf = Shelf::with(alloc, name, item)?;
+    let shelf = NamedBoxes::with(alloc, name, item)?;
     shelves.push(shelf)?;
     Ok(())
 }
 
 /// Takes the last box of a name.
-pub(crate) fn draw<T: Plugged>(shelves: &mut Vec<Shelf<T>>, name: &str) -> Option<T>
+pub(crate) fn draw<T: Plugged>(shelves: &mut Vec<NamedBoxes<T>>, name: &str) -> Option<T>
     ensures some { IfSome result (λ _. stocks T.number shelves.new.items
         ≡ spec.drawn name.now (stocks T.number shelves.old.items)) }
     ensures last { IfSome result
@@ -93,7 +94,7 @@ pub(crate) fn draw<T: Plugged>(shelves: &mut Vec<Shelf<T>>, name: &str) -> Optio
 }
 
 /// Puts a box back under the name under which it was drawn. It takes no memory.
-pub(crate) fn give_back<T: Plugged>(shelves: &mut Vec<Shelf<T>>, name: &str, item: T)
+pub(crate) fn give_back<T: Plugged>(shelves: &mut Vec<NamedBoxes<T>>, name: &str, item: T)
     requires { 0 < spec.out_of name.now (stocks T.number shelves.old.items) }
     ensures { stocks T.number shelves.new.items
         ≡ spec.given_back name.now (T.number item) (stocks T.number shelves.old.items) }
@@ -106,7 +107,7 @@ pub(crate) fn give_back<T: Plugged>(shelves: &mut Vec<Shelf<T>>, name: &str, ite
 
 /// Has the box of a name at a place read settings.
 pub(crate) fn configure<T: Plugged>(
-    shelves: &mut Vec<Shelf<T>>,
+    shelves: &mut Vec<NamedBoxes<T>>,
     name: &str,
     at: usize,
     settings: &Settings,

@@ -4,8 +4,8 @@ use Rattle.config_tree.specs.declared.tree.Config.{Config}
 use Rattle.config_tree.specs.declared.tree.Statement.{Statement}
 use Rattle.event_flow.specs.Parts.{parts_of}
 use Rattle.foreign_parts.specs.Stocks.{left_of}
-use Rattle.foreign_parts.specs.declared.boxes.Kind.{Kind}
-use Rattle.foreign_parts.specs.declared.boxes.Kind.TheVariants as kind
+use Rattle.foreign_parts.specs.declared.boxes.BoxKind.{BoxKind}
+use Rattle.foreign_parts.specs.declared.boxes.BoxKind.TheVariants as kind
 use Rattle.graph_checks.specs.Boxes.{Stand, Counts, count_of}
 use Rattle.graph_checks.specs.Plugins.{section_checked, section_start}
 use Rattle.graph_checks.specs.Points.{points_of}
@@ -23,13 +23,13 @@ use Rattle.graph_checks.proofs.Passing.{passes, went}
 use Rattle.graph_checks.proofs.Sparing.{never_short, times_each}
 
 -- what is known of a section that passed
-pub record SectionPassed (which : Kind) (each : ℕ) (ss : List Statement) (w : Walk) : Type 0 where
+pub record SectionPassed (which : BoxKind) (each : ℕ) (ss : List Statement) (w : Walk) : Type 0 where
   pub wants : w.wants ≡ wants_of which (parts_of ss).plugins
   pub counted : (k : List ℕ) → count_of k w.boxes ≡ times_of k (names_of w.wants)
   pub read : AllRead which (parts_of ss).plugins
   pub compiled : AllCompiled which 1 (parts_of ss).conditions
 
-pub section_passes : (which : Kind) (stand : Stand) (each : ℕ) (ss : List Statement) (ids : List (List ℕ)) (w : Walk) → section_checked which stand each ss ids ≡ Ok w → SectionPassed which each ss w
+pub section_passes : (which : BoxKind) (stand : Stand) (each : ℕ) (ss : List Statement) (ids : List (List ℕ)) (w : Walk) → section_checked which stand each ss ids ≡ Ok w → SectionPassed which each ss w
 unfolding section_checked
 section_passes which stand each ss ids w said =
     let h = passes which stand (points_of ss) (section_start each ids) w said in

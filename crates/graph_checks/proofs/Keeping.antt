@@ -1,10 +1,10 @@
 -- What stands in a rack is left as it was by calls one after another.
 use Rattle.std.proofs.Common.{List, refl, ◌∙◌}
 use Rattle.graph_checks.specs.Boxes.{Stand, Keeps}
-use Rattle.foreign_parts.specs.declared.boxes.Kind.{Kind}
+use Rattle.foreign_parts.specs.declared.boxes.BoxKind.{BoxKind}
 use Rattle.foreign_parts.specs.declared.links.LinkPlace.{LinkPlace}
 
-module _ {S : Type 0} (stand : S → Kind → Stand) (links : S → List LinkPlace) where
+module _ {S : Type 0} (stand : S → BoxKind → Stand) (links : S → List LinkPlace) where
   pub keeps_same : (s : S) → Keeps stand links s s
   keeps_same s = record { stands = λ k. refl; links_stand = refl }
 

@@ -13,8 +13,8 @@ use Rattle.filter_settings.specs.Settings.{Made}
 use Rattle.filter_settings.specs.Settings as settings
 use Rattle.event_flow.specs.Ids as ids
 use Rattle.foreign_parts.specs.Stocks.{is_known}
-use Rattle.foreign_parts.specs.declared.boxes.Kind.{Kind}
-use Rattle.foreign_parts.specs.declared.boxes.Kind.TheVariants as kind
+use Rattle.foreign_parts.specs.declared.boxes.BoxKind.{BoxKind}
+use Rattle.foreign_parts.specs.declared.boxes.BoxKind.TheVariants as kind
 use Rattle.built_plugins.specs.Conditions.{compiled}
 use Rattle.built_plugins.specs.Each.{each_made, named}
 use Rattle.built_plugins.specs.Makes.{boxed_of, boxed_unless, built_of, filter_of}
@@ -68,19 +68,19 @@ abbrev pub Counted : Walk → Type 0
 Counted w = (k : List ℕ) → count_of k w.boxes ≡ times_of k (map (λ x. x.name) w.wants)
 
 -- a filter reads
-abbrev Reads : Kind → Plugin → Type 0
+abbrev Reads : BoxKind → Plugin → Type 0
 Reads kind.Filter p = (x : Filter) × (filter_of p ≡ Ok x)
 Reads kind.Output p = Unit {0}
 
-none_read : (which : Kind) → AllRead which []
+none_read : (which : BoxKind) → AllRead which []
 none_read kind.Filter = ([], refl)
 none_read kind.Output = tt
 
-first_read : (which : Kind) (p : Plugin) (ps : List Plugin) → Reads which p → AllRead which ps → AllRead which (p ∷ ps)
+first_read : (which : BoxKind) (p : Plugin) (ps : List Plugin) → Reads which p → AllRead which ps → AllRead which (p ∷ ps)
 first_read kind.Filter p ps (x, is) (xs, are) = (x ∷ xs, ap (settings.next (λ y. settings.with_made (λ ys. y ∷ ys) (each_made filter_of ps))) is ∙ ap (settings.with_made (λ ys. x ∷ ys)) are)
 first_read kind.Output p ps one others = tt
 
-first_compiled : (which : Kind) (k : ℕ) (c : Condition) (cs : List Condition) (n : NamedCondition) → compiled (record { condition = c; id = ids.condition_id (section_name which) k }) ≡ Ok n → AllCompiled which (k + 1) cs → AllCompiled which k (c ∷ cs)
+first_compiled : (which : BoxKind) (k : ℕ) (c : Condition) (cs : List Condition) (n : NamedCondition) → compiled (record { condition = c; id = ids.condition_id (section_name which) k }) ≡ Ok n → AllCompiled which (k + 1) cs → AllCompiled which k (c ∷ cs)
 first_compiled which k c cs n is (xs, are) = (n ∷ xs, ap (settings.next (λ y. settings.with_made (λ ys. y ∷ ys) (each_made compiled (named (section_name which) (k + 1) cs)))) is ∙ ap (settings.with_made (λ ys. n ∷ ys)) are)
 
 -- what is seen of a walk here
@@ -103,12 +103,12 @@ met_seen id path w u is =
     path_seen path a.value u a.later ∙ sym (ap seen (ok_same (record w { ids = b.value; plugins = w.plugins + 1 }) a.value b.later))
 
 -- a plugin that is a box
-pub record BoxWent (which : Kind) (stand : Stand) (id : List ℕ) (p : Plugin) (w v : Walk) : Type 0 where
+pub record BoxWent (which : BoxKind) (stand : Stand) (id : List ℕ) (p : Plugin) (w v : Walk) : Type 0 where
   pub new : with_want id p.name w ≡ v
   pub unit : Unit {0}
   pub read : box_read which stand w.each (count_of p.name w.boxes) p.name p.settings.list ≡ Ok unit
 
-box_went : (which : Kind) (stand : Stand) (id : List ℕ) (p : Plugin) (w v : Walk) → box_checked which stand id p w ≡ Ok v → BoxWent which stand id p w v
+box_went : (which : BoxKind) (stand : Stand) (id : List ℕ) (p : Plugin) (w v : Walk) → box_checked which stand id p w ≡ Ok v → BoxWent which stand id p w v
 box_went which stand id p w v said = by (is_known p.name stand.stocks) said
   where
     goes : Unit {0} → Checked Walk
@@ -132,7 +132,7 @@ boxed_read p stand each before (Ok b) u is said = (b, is)
 boxed_read p stand each before (Err e) u is said = absurd (subst Fails said tt)
 
 -- a filter that isn't refused reads: it is built in, or a box whose own settings read
-reads : (which : Kind) (p : Plugin) (o : Option BuiltIn) → built_in which p.name p.settings.list ≡ Ok o → (o ≡ None → (stand : Stand) × (each : ℕ) × (before : ℕ) × (u : Unit {0}) × (box_read which stand each before p.name p.settings.list ≡ Ok u)) → Reads which p
+reads : (which : BoxKind) (p : Plugin) (o : Option BuiltIn) → built_in which p.name p.settings.list ≡ Ok o → (o ≡ None → (stand : Stand) × (each : ℕ) × (before : ℕ) × (u : Unit {0}) × (box_read which stand each before p.name p.settings.list ≡ Ok u)) → Reads which p
 reads kind.Output p o is box = tt
 reads kind.Filter p o is box = by (built_of p.name p.settings.list) refl is
   where
@@ -145,7 +145,7 @@ reads kind.Filter p o is box = by (built_of p.name p.settings.list) refl is
     by (Err e) built said = absurd (subst Fails said tt)
 
 -- what is known behind a plugin that passed
-pub record PluginPassed (which : Kind) (p : Plugin) (w u : Walk) : Type 0 where
+pub record PluginPassed (which : BoxKind) (p : Plugin) (w u : Walk) : Type 0 where
   pub plugins : u.plugins ≡ w.plugins + 1
   pub conditions : u.conditions ≡ w.conditions
   pub each : u.each ≡ w.each
@@ -153,7 +153,7 @@ pub record PluginPassed (which : Kind) (p : Plugin) (w u : Walk) : Type 0 where
   pub counted : Counted w → Counted u
   pub reads : Reads which p
 
-plugin_passes : (which : Kind) (stand : Stand) (p : Plugin) (w u : Walk) → plugin_checked which stand p w ≡ Ok u → PluginPassed which p w u
+plugin_passes : (which : BoxKind) (stand : Stand) (p : Plugin) (w u : Walk) → plugin_checked which stand p w ≡ Ok u → PluginPassed which p w u
 unfolding plugin_checked
 plugin_passes which stand p w u said =
     let id = id_next which w p in
@@ -190,14 +190,14 @@ plugin_passes which stand p w u said =
         }
 
 -- what is known behind all that stands in a section
-pub record Passed (which : Kind) (ps : List Point) (w v : Walk) : Type 0 where
+pub record Passed (which : BoxKind) (ps : List Point) (w v : Walk) : Type 0 where
   pub each : v.each ≡ w.each
   pub wants : v.wants ≡ w.wants ++ wants_from which (w.plugins + 1) (plugins_in ps)
   pub counted : Counted w → Counted v
   pub read : AllRead which (plugins_in ps)
   pub compiled : AllCompiled which (w.conditions + 1) (conditions_in ps)
 
-plugin_then : (which : Kind) (p : Plugin) (ps : List Point) (w u v : Walk) → PluginPassed which p w u → Passed which ps u v → Passed which (Plugs p ∷ ps) w v
+plugin_then : (which : BoxKind) (p : Plugin) (ps : List Point) (w u v : Walk) → PluginPassed which p w u → Passed which ps u v → Passed which (Plugs p ∷ ps) w v
 plugin_then which p ps w u v one others = record {
   each = others.each ∙ one.each;
   wants = others.wants ∙ ap (λ n. u.wants ++ wants_from which (n + 1) (plugins_in ps)) one.plugins ∙ ap (λ ws. ws ++ wants_from which (w.plugins + 1 + 1) (plugins_in ps)) one.wants
@@ -212,7 +212,7 @@ compiled_as : (id : List ℕ) (c : Condition) (b : Bool) (u : Unit {0}) → list
 compiled_as id c true u is said = ap (λ t. if t then Ok (record { condition = c; id = id }) else Err (setting.BadPattern (codes "condition"))) is
 compiled_as id c false u is said = absurd (subst Fails said tt)
 
-condition_then : (which : Kind) (c : Condition) (ps : List Point) (w u v : Walk) → condition_checked which c w ≡ Ok u → Passed which ps u v → Passed which (Tests c ∷ ps) w v
+condition_then : (which : BoxKind) (c : Condition) (ps : List Point) (w u v : Walk) → condition_checked which c w ≡ Ok u → Passed which ps u v → Passed which (Tests c ∷ ps) w v
 condition_then which c ps w u v said others =
     let id = condition_id_next which w in
     let a = went (λ u. Ok (record w { conditions = w.conditions + 1 })) (of_plugin id (patterns_read c)) u said in
@@ -226,7 +226,7 @@ condition_then which c ps w u v said others =
       compiled = first_compiled which (w.conditions + 1) c (conditions_in ps) (record { condition = c; id = id }) made (subst (λ x. AllCompiled which (x.conditions + 1) (conditions_in ps)) new others.compiled);
     }
 
-pub passes : (which : Kind) (stand : Stand) (ps : List Point) (w v : Walk) → points_checked which stand ps w ≡ Ok v → Passed which ps w v
+pub passes : (which : BoxKind) (stand : Stand) (ps : List Point) (w v : Walk) → points_checked which stand ps w ≡ Ok v → Passed which ps w v
 passes which stand [] w v said =
     let new = sym (ok_same w v said) in
     record {

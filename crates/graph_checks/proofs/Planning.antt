@@ -13,7 +13,7 @@ use Rattle.event_flow.specs.Laying.{IsTableOf}
 use Rattle.event_flow.specs.Parts.{parts_of}
 use Rattle.event_flow.specs.Places.{Draws}
 use Rattle.filter_settings.specs.Settings.{Made, next, with_made}
-use Rattle.foreign_parts.specs.declared.boxes.Kind.TheVariants as kind
+use Rattle.foreign_parts.specs.declared.boxes.BoxKind.TheVariants as kind
 use Rattle.built_plugins.specs.Conditions.{compiled}
 use Rattle.plugin_graph.specs.Counts.{patterns_in}
 use Rattle.built_plugins.specs.Each.{each_made}

@@ -10,7 +10,7 @@ use Rattle.graph_checks.specs.Answers.{Checked, next, all_checked}
 use Rattle.graph_checks.specs.Boxes.{Stand}
 use Rattle.graph_checks.specs.Plugins.{plugin_checked, arm_checked, point_checked, points_checked}
 use Rattle.graph_checks.specs.Points.{Point, Plugs, joined, condition_points, statement_step, arm_step, points_in, points_in_arm, points_of, points_of_arms}
-use Rattle.foreign_parts.specs.declared.boxes.Kind.{Kind}
+use Rattle.foreign_parts.specs.declared.boxes.BoxKind.{BoxKind}
 use Rattle.graph_checks.specs.declared.walk.Walk.{Walk}
 use Rattle.graph_checks.proofs.Going.{next_ok, checked_join}
 
@@ -29,7 +29,7 @@ pub points_in_arm-is : (a : Arm) → points_in_arm a ≡ condition_points a.cond
 unfolding points_in points_in_arm
 points_in_arm-is a = fold_out-Arm Ps Ps statement_step arm_step a
 
-module _ (which : Kind) (stand : Stand) where
+module _ (which : BoxKind) (stand : Stand) where
   -- of items that have points each, one item after another
   pub each_checked : {X : Type 0} (f : X → List Point) (xs : List X) (w : Walk) → points_checked which stand (joined (map f xs)) w ≡ all_checked (λ x. points_checked which stand (f x)) xs w
   each_checked f [] w = refl

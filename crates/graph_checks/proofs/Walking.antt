@@ -4,7 +4,7 @@ use Rattle.graph_checks.specs.Answers.{Checked, Refuses, all_checked}
 use Rattle.graph_checks.specs.Boxes.{Stand, Keeps}
 use Rattle.graph_checks.specs.Plugins.{arm_checked, points_checked}
 use Rattle.graph_checks.specs.Points.{Point, joined, points_of, points_in_arm}
-use Rattle.foreign_parts.specs.declared.boxes.Kind.{Kind}
+use Rattle.foreign_parts.specs.declared.boxes.BoxKind.{BoxKind}
 use Rattle.foreign_parts.specs.declared.links.LinkPlace.{LinkPlace}
 use Rattle.graph_checks.specs.declared.fault.GraphFault.{GraphFault}
 use Rattle.graph_checks.specs.declared.walk.Walk.{Walk}
@@ -13,7 +13,7 @@ use Rattle.graph_checks.proofs.Going.{checked_more, checked_fails, checked_end, 
 use Rattle.graph_checks.proofs.Keeping.{keeps_same, keeps_then}
 use Rattle.graph_checks.proofs.Pointing.{each_checked, arm_points}
 
-module _ {S X : Type 0} (stand : S → Kind → Stand) (links : S → List LinkPlace) (which : Kind) (f : X → List Point) (xs : List X) where
+module _ {S X : Type 0} (stand : S → BoxKind → Stand) (links : S → List LinkPlace) (which : BoxKind) (f : X → List Point) (xs : List X) where
   abbrev one : S → X → Walk → Checked Walk
   one s x w = points_checked which (stand s which) (f x) w
 
@@ -42,7 +42,7 @@ module _ {S X : Type 0} (stand : S → Kind → Stand) (links : S → List LinkP
   pub walk_ends : (i : ℕ) (s t : S) (w v : Walk) → length xs ≤ i → WalkedSoFar i s t w v → points_checked which (stand s which) (joined (map f xs)) w ≡ Ok v
   walk_ends i s t w v end h = each_checked which (stand s which) f xs w ∙ checked_end (one s) xs i v w end h.so_far
 
-module _ (which : Kind) (stand : Stand) where
+module _ (which : BoxKind) (stand : Stand) where
   -- an arm: its condition, and then its block
   pub arm_goes : (a : Arm) (w v n : Walk) → arm_checked which a.condition w ≡ Ok v → points_checked which stand (points_of a.block) v ≡ Ok n → points_checked which stand (points_in_arm a) w ≡ Ok n
   arm_goes a w v n first later = arm_points which stand a w ∙ gives_then (points_checked which stand (points_of a.block)) (arm_checked which a.condition w) v n first later

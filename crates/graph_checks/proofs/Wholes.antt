@@ -6,13 +6,13 @@ use Rattle.graph_checks.specs.Boxes.{Stand, Counts}
 use Rattle.graph_checks.specs.Inputs.{inputs_checked}
 use Rattle.graph_checks.specs.Plugins.{section_checked}
 use Rattle.graph_checks.specs.Whole.{Given, whole_of, whole_checked, outputs_checked, filters_checked, checked}
-use Rattle.foreign_parts.specs.declared.boxes.Kind.TheVariants as kind
+use Rattle.foreign_parts.specs.declared.boxes.BoxKind.TheVariants as kind
 use Rattle.graph_checks.specs.declared.fault.GraphFault.{GraphFault}
-use Rattle.graph_checks.specs.declared.inputs.InputsMet.{InputsMet}
+use Rattle.graph_checks.specs.declared.inputs.SeenInputs.{SeenInputs}
 use Rattle.graph_checks.specs.declared.walk.Walk.{Walk}
 use Rattle.graph_checks.proofs.Going.{refuses_next, refuses_then}
 
-module _ (given : Given) (config : Config) (ins : InputsMet) (fs : Walk) where
+module _ (given : Given) (config : Config) (ins : SeenInputs) (fs : Walk) where
   pub outputs_fail : (f : GraphFault) → inputs_checked config.inputs ≡ Ok ins → section_checked kind.Filter (given.stand kind.Filter) given.workers config.filters ins.ids ≡ Ok fs
       → Refuses f (section_checked kind.Output (given.stand kind.Output) 1 config.outputs fs.ids) → Refuses f (checked given config)
   unfolding checked

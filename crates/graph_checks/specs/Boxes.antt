@@ -9,11 +9,11 @@ use Rattle.filter_settings.specs.Readers.{id_of}
 use Rattle.filter_settings.specs.Settings.{Made, next, wanted, with_made, all_set}
 use Rattle.foreign_parts.specs.Stocks.{left_of, refusals_of}
 pub use Rattle.foreign_parts.specs.Boxes.{Stand, Keeps}
-use Rattle.foreign_parts.specs.declared.boxes.Kind.{Kind}
-use Rattle.foreign_parts.specs.declared.boxes.Kind.TheVariants as kind
+use Rattle.foreign_parts.specs.declared.boxes.BoxKind.{BoxKind}
+use Rattle.foreign_parts.specs.declared.boxes.BoxKind.TheVariants as kind
 use Rattle.built_plugins.specs.Makes.{boxed_of}
 use Rattle.built_plugins.specs.declared.boxed.BoxedFilter.{BoxedFilter}
-use Rattle.graph_checks.specs.declared.asking.BoxedOutput.{BoxedOutput}
+use Rattle.graph_checks.specs.declared.box_settings.BoxedOutput.{BoxedOutput}
 
 -- names, each with how many plugins of it there are
 abbrev pub Counts : Type 0
@@ -36,7 +36,7 @@ abbrev boxed_output_of : Entries → Made BoxedOutput
 boxed_output_of es = all_set boxed_output_set es (record {})
 
 -- of the settings of a plugin that is a box those are read here that every plugin of its kind has
-abbrev pub shared_of : Kind → Entries → Made (Unit {0})
+abbrev pub shared_of : BoxKind → Entries → Made (Unit {0})
 shared_of kind.Filter es = with_made (λ (b : BoxedFilter). tt) (boxed_of es)
 shared_of kind.Output es = with_made (λ (b : BoxedOutput). tt) (boxed_output_of es)
 
@@ -67,5 +67,5 @@ abbrev pub asked : Stand → ℕ → ℕ → List ℕ → Entries → Made (Unit
 asked stand each before k es = unless_refused (refused_below (refusals_of k stand.refusals) es (left_behind k (before * each) stand) each)
 
 -- the settings of a plugin that is a box: first those that every plugin has, and then by the boxes
-abbrev pub box_read : Kind → Stand → ℕ → ℕ → List ℕ → Entries → Made (Unit {0})
+abbrev pub box_read : BoxKind → Stand → ℕ → ℕ → List ℕ → Entries → Made (Unit {0})
 box_read which stand each before k es = next (λ u. asked stand each before k es) (shared_of which es)

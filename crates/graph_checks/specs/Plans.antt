@@ -4,7 +4,7 @@ use Rattle.config_tree.specs.declared.tree.Config.{Config}
 use Rattle.event_flow.specs.Laying.{AreStepsOf, IsTableOf}
 use Rattle.event_flow.specs.Parts.{parts_of}
 use Rattle.event_flow.specs.Places.{Draws}
-use Rattle.foreign_parts.specs.declared.boxes.Kind.TheVariants as kind
+use Rattle.foreign_parts.specs.declared.boxes.BoxKind.TheVariants as kind
 use Rattle.plugin_graph.specs.Counts.{patterns_in}
 use Rattle.plugin_graph.specs.Graphs.{boxes_in, built_in, contents_of, steps_in}
 use Rattle.plugin_graph.specs.Kits.{no_boxes, table_of}

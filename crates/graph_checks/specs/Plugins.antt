@@ -16,8 +16,8 @@ use Rattle.graph_checks.specs.Answers.{Checked, next, of_plugin, all_checked}
 use Rattle.graph_checks.specs.Boxes.{Stand, count_of, one_more, box_read}
 use Rattle.graph_checks.specs.BuiltIn.{built_in}
 use Rattle.graph_checks.specs.Points.{Point, Plugs, Tests, points_of}
-use Rattle.foreign_parts.specs.declared.boxes.Kind.{Kind}
-use Rattle.foreign_parts.specs.declared.boxes.Kind.TheVariants as kind
+use Rattle.foreign_parts.specs.declared.boxes.BoxKind.{BoxKind}
+use Rattle.foreign_parts.specs.declared.boxes.BoxKind.TheVariants as kind
 use Rattle.graph_checks.specs.declared.built_in.BuiltIn.{BuiltIn}
 use Rattle.graph_checks.specs.declared.walk.Walk.{Walk}
 use Rattle.graph_checks.specs.declared.fault.GraphFault.{GraphFault}
@@ -46,15 +46,15 @@ abbrev pub path_met : PositionOf → List ℕ → List (List ℕ) → Checked (L
 path_met of path paths = next (λ met. next (λ u. Ok met) (path_fits of path)) (path_behind path paths)
 
 -- how a section is called in ids
-abbrev pub section_name : Kind → List ℕ
+abbrev pub section_name : BoxKind → List ℕ
 section_name kind.Filter = codes "filter"
 section_name kind.Output = codes "output"
 
 -- the id of the next plugin, and of the next condition
-abbrev pub id_next : Kind → Walk → Plugin → List ℕ
+abbrev pub id_next : BoxKind → Walk → Plugin → List ℕ
 id_next which w p = ids.plugin_id (section_name which) (w.plugins + 1) p
 
-abbrev pub condition_id_next : Kind → Walk → List ℕ
+abbrev pub condition_id_next : BoxKind → Walk → List ℕ
 condition_id_next which w = ids.condition_id (section_name which) (w.conditions + 1)
 
 -- a plugin that is a box is wanted
@@ -62,7 +62,7 @@ abbrev pub with_want : List ℕ → List ℕ → Walk → Walk
 with_want id name w = record w { boxes = one_more name w.boxes; wants = w.wants ++ (record { id = id; name = name }) ∷ [] }
 
 -- a plugin that is no built-in one has to be a box
-abbrev pub box_checked : Kind → Stand → List ℕ → Plugin → Walk → Checked Walk
+abbrev pub box_checked : BoxKind → Stand → List ℕ → Plugin → Walk → Checked Walk
 box_checked which stand id p w =
     if is_known p.name stand.stocks
     then next (λ u. Ok (with_want id p.name w)) (of_plugin id (box_read which stand w.each (count_of p.name w.boxes) p.name p.settings.list))
@@ -85,32 +85,32 @@ abbrev pub plugin_met : List ℕ → Option (List ℕ) → Walk → Checked Walk
 plugin_met id path w = next (output_met path) (id_met id w)
 
 -- one plugin: its name, its settings, its id, and the path of an output
-abbrev pub plugin_read : Kind → Stand → List ℕ → Plugin → Walk → Option BuiltIn → Checked Walk
+abbrev pub plugin_read : BoxKind → Stand → List ℕ → Plugin → Walk → Option BuiltIn → Checked Walk
 plugin_read which stand id p w None = next (plugin_met id None) (box_checked which stand id p w)
 plugin_read which stand id p w (Some b) = plugin_met id b.path w
 
-unfoldable pub plugin_checked : Kind → Stand → Plugin → Walk → Checked Walk
+unfoldable pub plugin_checked : BoxKind → Stand → Plugin → Walk → Checked Walk
 plugin_checked which stand p w = next (plugin_read which stand (id_next which w p) p w) (of_plugin (id_next which w p) (built_in which p.name p.settings.list))
 
 -- one condition, and the one in front of the block of an arm, where it has one
-abbrev pub condition_checked : Kind → Condition → Walk → Checked Walk
+abbrev pub condition_checked : BoxKind → Condition → Walk → Checked Walk
 condition_checked which c w = next (λ u. Ok (record w { conditions = w.conditions + 1 })) (of_plugin (condition_id_next which w) (patterns_read c))
 
-abbrev pub arm_checked : Kind → Option Condition → Walk → Checked Walk
+abbrev pub arm_checked : BoxKind → Option Condition → Walk → Checked Walk
 arm_checked which None w = Ok w
 arm_checked which (Some c) w = condition_checked which c w
 
-abbrev pub point_checked : Kind → Stand → Point → Walk → Checked Walk
+abbrev pub point_checked : BoxKind → Stand → Point → Walk → Checked Walk
 point_checked which stand (Plugs p) w = plugin_checked which stand p w
 point_checked which stand (Tests c) w = condition_checked which c w
 
 -- what stands in a section, one after another
-abbrev pub points_checked : Kind → Stand → List Point → Walk → Checked Walk
+abbrev pub points_checked : BoxKind → Stand → List Point → Walk → Checked Walk
 points_checked which stand ps w = all_checked (point_checked which stand) ps w
 
 -- before the first plugin of a section, each of which wants so many boxes, where these ids were met
 abbrev pub section_start : ℕ → List (List ℕ) → Walk
 section_start each ids = record { each = each; plugins = 0; conditions = 0; boxes = []; wants = []; ids = ids; paths = [] }
 
-unfoldable pub section_checked : Kind → Stand → ℕ → List Statement → List (List ℕ) → Checked Walk
+unfoldable pub section_checked : BoxKind → Stand → ℕ → List Statement → List (List ℕ) → Checked Walk
 section_checked which stand each ss ids = points_checked which stand (points_of ss) (section_start each ids)

@@ -4,8 +4,8 @@ use Rattle.config_tree.specs.declared.tree.Condition.{Condition}
 use Rattle.config_tree.specs.declared.tree.Config.{Config}
 use Rattle.config_tree.specs.declared.tree.Plugin.{Plugin}
 use Rattle.event_flow.specs.Parts.{parts_of}
-use Rattle.foreign_parts.specs.declared.boxes.Kind.{Kind}
-use Rattle.foreign_parts.specs.declared.boxes.Kind.TheVariants as kind
+use Rattle.foreign_parts.specs.declared.boxes.BoxKind.{BoxKind}
+use Rattle.foreign_parts.specs.declared.boxes.BoxKind.TheVariants as kind
 use Rattle.built_plugins.specs.Conditions.{compiled}
 use Rattle.built_plugins.specs.Each.{each_made, named}
 use Rattle.built_plugins.specs.Makes.{filter_of}
@@ -14,12 +14,12 @@ use Rattle.built_plugins.specs.declared.filter.Filter.{Filter}
 use Rattle.graph_checks.specs.Plugins.{section_name}
 
 -- each filter reads; of outputs nothing is said here
-abbrev pub AllRead : Kind → List Plugin → Type 0
+abbrev pub AllRead : BoxKind → List Plugin → Type 0
 AllRead kind.Filter ps = (xs : List Filter) × (each_made filter_of ps ≡ Ok xs)
 AllRead kind.Output ps = Unit {0}
 
 -- conditions, of which a section counts the first as the k-th, have patterns
-abbrev pub AllCompiled : Kind → ℕ → List Condition → Type 0
+abbrev pub AllCompiled : BoxKind → ℕ → List Condition → Type 0
 AllCompiled which k cs = (xs : List NamedCondition) × (each_made compiled (named (section_name which) k cs) ≡ Ok xs)
 
 -- each filter reads, and each condition has its patterns

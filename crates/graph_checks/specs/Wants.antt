@@ -6,8 +6,8 @@ use Rattle.filter_settings.specs.Settings.{Made}
 use Rattle.event_flow.specs.Ids as ids
 use Rattle.event_flow.specs.Parts.{parts_of}
 use Rattle.foreign_parts.specs.Stocks.{Stock, left_of}
-use Rattle.foreign_parts.specs.declared.boxes.Kind.{Kind}
-use Rattle.foreign_parts.specs.declared.boxes.Kind.TheVariants as kind
+use Rattle.foreign_parts.specs.declared.boxes.BoxKind.{BoxKind}
+use Rattle.foreign_parts.specs.declared.boxes.BoxKind.TheVariants as kind
 use Rattle.graph_checks.specs.BuiltIn.{built_in}
 use Rattle.graph_checks.specs.Linked.{outside_of}
 use Rattle.graph_checks.specs.Plugins.{section_name}
@@ -23,11 +23,11 @@ want_of id name (Ok (Some b)) = []
 want_of id name (Err fault) = []
 
 -- those that are boxes among plugins which a section counts from k on
-abbrev pub wants_from : Kind → ℕ → List Plugin → List Want
+abbrev pub wants_from : BoxKind → ℕ → List Plugin → List Want
 wants_from which k [] = []
 wants_from which k (p ∷ ps) = want_of (ids.plugin_id (section_name which) k p) p.name (built_in which p.name p.settings.list) ++ wants_from which (k + 1) ps
 
-abbrev pub wants_of : Kind → List Plugin → List Want
+abbrev pub wants_of : BoxKind → List Plugin → List Want
 wants_of which ps = wants_from which 1 ps
 
 -- how often a name stands among names

@@ -8,9 +8,9 @@ use Rattle.graph_checks.specs.Answers.{Checked, next}
 use Rattle.graph_checks.specs.Boxes.{Stand, Counts}
 use Rattle.graph_checks.specs.Inputs.{inputs_checked}
 use Rattle.graph_checks.specs.Plugins.{section_checked, stands}
-use Rattle.foreign_parts.specs.declared.boxes.Kind.{Kind}
-use Rattle.foreign_parts.specs.declared.boxes.Kind.TheVariants as kind
-use Rattle.graph_checks.specs.declared.inputs.InputsMet.{InputsMet}
+use Rattle.foreign_parts.specs.declared.boxes.BoxKind.{BoxKind}
+use Rattle.foreign_parts.specs.declared.boxes.BoxKind.TheVariants as kind
+use Rattle.graph_checks.specs.declared.inputs.SeenInputs.{SeenInputs}
 use Rattle.graph_checks.specs.declared.walk.Walk.{Walk}
 use Rattle.graph_checks.specs.declared.fault.GraphFault.{GraphFault}
 use Rattle.graph_checks.specs.declared.fault.GraphFault.TheVariants as fault
@@ -36,12 +36,12 @@ some_there missing n = if n == 0 then Err missing else Ok tt
 
 -- what is handed in, and how many workers there are: each filter that is a box wants one for each of them, and each output one
 pub record Given : Type 0 where
-  pub stand : Kind → Stand
+  pub stand : BoxKind → Stand
   pub links : List (List ℕ)
   pub workers : ℕ
 
 -- what is handed in by a rack, with so many workers
-abbrev pub given_by : {S : Type 0} → (S → Kind → Stand) → (S → List LinkPlace) → S → ℕ → Given
+abbrev pub given_by : {S : Type 0} → (S → BoxKind → Stand) → (S → List LinkPlace) → S → ℕ → Given
 given_by stand links rack workers = record { stand = stand rack; links = addresses_of (links rack); workers = workers }
 
 -- the whole of a configuration of so many inputs, with these addresses from outside, filters that are boxes, and outputs
@@ -56,11 +56,11 @@ whole_of filters outputs links workers inputs outside filter_boxes os =
 abbrev pub whole_checked : Given → ℕ → List (List ℕ) → Counts → Walk → Checked (Unit {0})
 whole_checked given inputs outside filter_boxes os = whole_of (given.stand kind.Filter) (given.stand kind.Output) given.links given.workers inputs outside filter_boxes os
 
-abbrev pub outputs_checked : Given → Config → InputsMet → Walk → Checked (Unit {0})
+abbrev pub outputs_checked : Given → Config → SeenInputs → Walk → Checked (Unit {0})
 outputs_checked given config ins fs =
     next (whole_checked given ins.inputs ins.outside fs.boxes) (section_checked kind.Output (given.stand kind.Output) 1 config.outputs fs.ids)
 
-abbrev pub filters_checked : Given → Config → InputsMet → Checked (Unit {0})
+abbrev pub filters_checked : Given → Config → SeenInputs → Checked (Unit {0})
 filters_checked given config ins =
     next (outputs_checked given config ins) (section_checked kind.Filter (given.stand kind.Filter) given.workers config.filters ins.ids)
 

@@ -1,10 +1,11 @@
+// Reading the settings of a built-in plugin, and what is kept of them.
 ghost use Rattle.std.specs.Prelude.{◌≡◌, IfOk};
 ghost use Rattle.filter_settings.specs.Settings.{Gives};
 ghost use Rattle.graph_checks.specs.BuiltIn as spec;
 
 use built_plugins::BuiltFilter;
 use config_tree::{FromFault, Plugin};
-use foreign_parts::Kind;
+use foreign_parts::BoxKind;
 use plain_data::Text;
 use plugin_settings::{Output, read_output};
 use std::alloc::AllocError;
@@ -17,15 +18,15 @@ pub(crate) struct BuiltIn {
 }
 
 /// What is read of a plugin by its name and its settings; none where none of its kind and name is built in.
-pub(crate) fn read_built_in(kind: Kind, plugin: &Plugin) -> Result<Option<BuiltIn>, FromFault>
+pub(crate) fn read_built_in(kind: BoxKind, plugin: &Plugin) -> Result<Option<BuiltIn>, FromFault>
     ensures { Gives result (spec.built_in kind plugin.now.name plugin.now.settings.list) }
 {
     match kind {
-        Kind::Filter => match BuiltFilter::from_plugin(plugin)? {
+        BoxKind::Filter => match BuiltFilter::from_plugin(plugin)? {
             Some(_filter) => Ok(Some(BuiltIn { path: None })),
             None => Ok(None),
         },
-        Kind::Output => match read_output(plugin.name.as_str(), &plugin.settings)? {
+        BoxKind::Output => match read_output(plugin.name.as_str(), &plugin.settings)? {
             Some(output) => Ok(Some(kept_of(&output)?)),
             None => Ok(None),
         },

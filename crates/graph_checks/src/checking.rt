@@ -1,3 +1,4 @@
+// The checks of a whole configuration, which end at its first fault.
 ghost use Rattle.std.specs.Prelude.{IfOk};
 ghost use Rattle.graph_checks.specs.Answers.{Gives, Passes};
 ghost use Rattle.graph_checks.specs.Boxes.{Keeps};
@@ -5,12 +6,12 @@ ghost use Rattle.graph_checks.specs.Wants.{IsWanted};
 ghost use Rattle.graph_checks.specs.Whole.{checked, given_by};
 
 use crate::fault::GraphFault;
-use crate::inputs::{InputsMet, check_inputs};
+use crate::inputs::{SeenInputs, check_inputs};
 use crate::walk::{Walk, check_section};
 use crate::want::Wants;
 use crate::whole::check_whole;
 use config_tree::Config;
-use foreign_parts::{Boxes, Kind};
+use foreign_parts::{BoxKind, Boxes};
 use std::alloc::Global;
 
 /// Sees whether a configuration may be run with these boxes by so many workers, each of which has boxed
@@ -57,7 +58,7 @@ pub(crate) fn find_wants<B: Boxes>(
         config.now) }
     ensures keeps { Keeps B.stand B.links boxes.old boxes.new }
 {
-    let InputsMet {
+    let SeenInputs {
         inputs,
         ids,
         outside,
@@ -65,7 +66,7 @@ pub(crate) fn find_wants<B: Boxes>(
     } = check_inputs(alloc, config.inputs.as_slice())?;
     let each = workers as u64;
     let filters = config.filters.as_slice();
-    let filters = check_section(alloc, Kind::Filter, each, ids, filters, boxes)?;
+    let filters = check_section(alloc, BoxKind::Filter, each, ids, filters, boxes)?;
     let Walk {
         boxes: filter_boxes,
         wants: filter_wants,
@@ -73,7 +74,7 @@ pub(crate) fn find_wants<B: Boxes>(
         ..
     } = filters;
     let outputs = config.outputs.as_slice();
-    let outputs = check_section(alloc, Kind::Output, 1, ids, outputs, boxes)?;
+    let outputs = check_section(alloc, BoxKind::Output, 1, ids, outputs, boxes)?;
     check_whole(boxes, each, inputs, &outside, &filter_boxes, &outputs)?;
     let Walk { wants, .. } = outputs;
     Ok(Wants {

@@ -1,5 +1,6 @@
+// Compiling a configuration into a plan, with boxes drawn from a rack.
 ghost use Rattle.std.specs.Prelude.{◌≡◌, IfOk, IfErr};
-ghost use Rattle.foreign_parts.specs.declared.boxes.Kind.TheVariants as kind;
+ghost use Rattle.foreign_parts.specs.declared.boxes.BoxKind.TheVariants as kind;
 ghost use Rattle.graph_checks.specs.Answers.{Passes};
 ghost use Rattle.graph_checks.specs.Boxes.{Keeps};
 ghost use Rattle.graph_checks.specs.Drawings.{AllDrawn};
@@ -16,12 +17,12 @@ use crate::drawing::{BoxRoom, draw_into, reserve_boxes};
 use crate::drawn::{Drawn, DrawnBoxes};
 use crate::draws::find_draws;
 use crate::fault::GraphFault;
-use crate::filling::hand_out;
-use crate::making::make_kits;
+use crate::kit_boxes::hand_out;
+use crate::kits::make_kits;
 use crate::plan::Plan;
 use crate::want::Wants;
 use config_tree::Config;
-use foreign_parts::Stockroom;
+use foreign_parts::BoxPool;
 use plain_data::{Items, Text};
 use plugin_graph::{Graph, Kit};
 use std::alloc::{AllocError, Global};
@@ -34,7 +35,7 @@ use std::alloc::{AllocError, Global};
 /// A filter that is a box has one for each worker. They are drawn in the order of the text, of each
 /// filter those of all workers, and behind the filters the outputs. Last come the links of the inputs on which
 /// something outside sends, in the order of the text, of each address where its link lies in the rack.
-pub fn compile<B: Stockroom>(
+pub fn compile<B: BoxPool>(
     alloc: Global,
     config: Config,
     rack: &mut B,
@@ -89,7 +90,7 @@ pub(crate) struct Ready<F, O> {
 }
 
 // Takes all memory that a plan takes. No box is drawn.
-fn prepare<B: Stockroom>(
+fn prepare<B: BoxPool>(
     alloc: Global,
     config: &Config,
     rack: &B,

@@ -1,3 +1,4 @@
+// The check of a condition's patterns.
 ghost use Rattle.filter_settings.specs.Settings.{Gives};
 ghost use Rattle.graph_checks.specs.Plugins as spec;
 

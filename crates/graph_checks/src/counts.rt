@@ -1,10 +1,11 @@
+// How many plugins of each name there are, and whether so many boxes are left.
 ghost use Rattle.std.specs.Prelude.{◌≡◌, ◌*◌, [], OnOk};
 ghost use Rattle.graph_checks.specs.Answers.{Gives};
 ghost use Rattle.graph_checks.specs.Boxes as spec;
 ghost use Rattle.graph_checks.specs.Whole.{spare_checked, spares_checked};
 
 use crate::fault::GraphFault;
-use foreign_parts::{Boxes, Kind};
+use foreign_parts::{BoxKind, Boxes};
 use indexmap::IndexMap;
 use plain_data::Text;
 use std::alloc::{AllocError, Global};
@@ -56,7 +57,7 @@ impl Counts {
     pub(crate) fn check_spares<B: Boxes>(
         &self,
         boxes: &B,
-        kind: Kind,
+        kind: BoxKind,
         each: u64,
     ) -> Result<(), GraphFault>
         ensures { Gives result (spares_checked (B.stand boxes.now kind) each self.now) }
@@ -67,7 +68,7 @@ impl Counts {
 
 fn check_each<B: Boxes>(
     boxes: &B,
-    kind: Kind,
+    kind: BoxKind,
     each: u64,
     names: &IndexMap<Text, u64>,
 ) -> Result<(), GraphFault>
@@ -81,7 +82,7 @@ fn check_each<B: Boxes>(
 
 fn check_spare<B: Boxes>(
     boxes: &B,
-    kind: Kind,
+    kind: BoxKind,
     name: &Text,
     count: u64,
     each: u64,

@@ -1,6 +1,7 @@
+// Drawing the boxes and links of a configuration from a rack.
 ghost use Rattle.std.specs.Prelude.{◌≡◌, ◌≤◌, ◌++◌, [], length, map, vec_capacity, replicate, IfOk, OnOk};
 ghost use Rattle.foreign_parts.specs.Stocks.{IsOut};
-ghost use Rattle.foreign_parts.specs.declared.boxes.Kind.TheVariants as kind;
+ghost use Rattle.foreign_parts.specs.declared.boxes.BoxKind.TheVariants as kind;
 ghost use Rattle.graph_checks.specs.Drawings.{AllDrawn, AreDrawn};
 ghost use Rattle.graph_checks.specs.Drawns.{boxes_of, filter_boxes, output_boxes};
 ghost use Rattle.graph_checks.specs.Linked.{all_taken, links_there};
@@ -9,7 +10,7 @@ ghost use Rattle.graph_checks.specs.Wants.{AreLeft, names_of, so_often};
 use crate::drawn::{Drawn, DrawnBoxes};
 use crate::want::{Want, Wants};
 use event_tree::Names;
-use foreign_parts::{LinkTaker, Stockroom};
+use foreign_parts::{BoxPool, LinkTaker};
 use plain_data::{Items, Text};
 use std::alloc::{AllocError, Global};
 
@@ -60,7 +61,7 @@ pub(crate) fn reserve_boxes<F: Drop, O: Drop>(
 }
 
 /// Draws the boxes for which there is room: first the filters, then the outputs, and then the links.
-pub(crate) fn draw_into<B: Stockroom>(
+pub(crate) fn draw_into<B: BoxPool>(
     room: BoxRoom<B::Filter, B::Output>,
     rack: &mut B,
 ) -> DrawnBoxes<B::Filter, B::Output>
@@ -114,7 +115,7 @@ fn add_copies(want: &Want, count: u32, to: &mut Items<Want>) -> Result<(), Alloc
 }
 
 // Draws filters of these names, one after another, into a list that has room for them.
-fn draw_filters<B: Stockroom>(
+fn draw_filters<B: BoxPool>(
     rack: &mut B,
     wants: Items<Want>,
     room: Vec<Drawn<B::Filter>>,
@@ -143,7 +144,7 @@ fn draw_filters<B: Stockroom>(
 }
 
 // Draws outputs of these names in the same way.
-fn draw_outputs<B: Stockroom>(
+fn draw_outputs<B: BoxPool>(
     rack: &mut B,
     wants: Items<Want>,
     room: Vec<Drawn<B::Output>>,
@@ -172,7 +173,7 @@ fn draw_outputs<B: Stockroom>(
 }
 
 // Takes the links of these addresses that lie in the rack, into a list that has room for them.
-fn draw_links<B: Stockroom>(
+fn draw_links<B: BoxPool>(
     rack: &mut B,
     addresses: Names,
     room: Vec<(Text, LinkTaker)>,

@@ -1,8 +1,9 @@
+// Boxes and links that were drawn from a rack.
 ghost use Rattle.std.specs.Prelude.{IfOk};
 
 use crate::want::Want;
 use event_tree::Event;
-use foreign_parts::{Asked, LinkTaker, Verdict};
+use foreign_parts::{FilterCall, LinkTaker, Verdict};
 use plain_data::Text;
 use std::alloc::AllocError;
 
@@ -14,7 +15,7 @@ pub struct Drawn<P> {
 }
 
 // It answers as its box does.
-impl<F: Asked> Asked for Drawn<F> {
+impl<F: FilterCall> FilterCall for Drawn<F> {
     ghost may = { λ drawn. F.may drawn.plugged };
 
     fn ask(&self, event: &Event) -> Result<Verdict, AllocError> {

@@ -1,3 +1,4 @@
+// Why a configuration is refused.
 use config_tree::SettingFault;
 use plain_data::Text;
 use std::alloc::AllocError;

@@ -1,10 +1,11 @@
+// The checks of inputs: paths, addresses and stdin stand once.
 ghost use Rattle.std.specs.Prelude.{◌≡◌, IfOk, false};
 ghost use Rattle.graph_checks.specs.Answers.{Gives, Leaves, all_checked};
 ghost use Rattle.graph_checks.specs.Inputs as spec;
 
 use crate::fault::GraphFault;
 use crate::plugins::{meet_id, meet_path, meet_path_once, setting_fault};
-use crate::texts::MetTexts;
+use crate::seen_texts::SeenTexts;
 use built_plugins::plugin_id;
 use config_tree::Plugin;
 use event_tree::Names;
@@ -15,12 +16,12 @@ use std::alloc::{AllocError, Global};
 
 /// What was met so far of the inputs.
 #[derive(Drop)]
-pub(crate) struct InputsMet {
+pub(crate) struct SeenInputs {
     /// How many there are.
     pub inputs: u64,
-    pub ids: MetTexts,
-    pub paths: MetTexts,
-    pub addresses: MetTexts,
+    pub ids: SeenTexts,
+    pub paths: SeenTexts,
+    pub addresses: SeenTexts,
     /// The addresses on which something outside of the pipelines sends.
     pub outside: Names,
     pub has_stdin: bool,
@@ -28,14 +29,14 @@ pub(crate) struct InputsMet {
 
 /// Tests the inputs.
 #[tactic(auto, unfolding(crate::specs::Inputs::inputs_checked))]
-pub(crate) fn check_inputs(alloc: Global, inputs: &[Plugin]) -> Result<InputsMet, GraphFault>
+pub(crate) fn check_inputs(alloc: Global, inputs: &[Plugin]) -> Result<SeenInputs, GraphFault>
     ensures { Gives result (spec.inputs_checked inputs.now) }
 {
-    let mut met = InputsMet {
+    let mut met = SeenInputs {
         inputs: 0,
-        ids: MetTexts::new(alloc),
-        paths: MetTexts::new(alloc),
-        addresses: MetTexts::new(alloc),
+        ids: SeenTexts::new(alloc),
+        paths: SeenTexts::new(alloc),
+        addresses: SeenTexts::new(alloc),
         outside: Names::new(alloc),
         has_stdin: false,
     };
@@ -43,7 +44,7 @@ pub(crate) fn check_inputs(alloc: Global, inputs: &[Plugin]) -> Result<InputsMet
     Ok(met)
 }
 
-impl InputsMet {
+impl SeenInputs {
     fn check_all(&mut self, alloc: Global, inputs: &[Plugin]) -> Result<(), GraphFault>
         ensures { Leaves result (all_checked spec.input_checked inputs.now self.old) self.new }
     {

@@ -6,7 +6,8 @@
 //! from a rack, and [`give_back`] puts these back.
 #![tactic(auto)]
 
-mod asking;
+mod box_return;
+mod box_settings;
 mod built_in;
 mod checking;
 mod compiling;
@@ -16,23 +17,22 @@ mod drawing;
 mod drawn;
 mod draws;
 mod fault;
-mod filling;
 mod inputs;
+mod kit_boxes;
+mod kits;
 pub mod laws;
-mod making;
 mod plan;
 mod plugins;
-mod returning;
-mod texts;
+mod seen_texts;
 mod walk;
 mod want;
 mod whole;
 
+pub use box_return::give_back;
 pub use checking::check;
 pub use compiling::compile;
 pub use drawn::Drawn;
 pub use fault::GraphFault;
-pub use foreign_parts::{Boxes, Kind, Stockroom};
+pub use foreign_parts::{BoxKind, BoxPool, Boxes};
 pub use plan::Plan;
-pub use returning::give_back;
 pub use want::Want;

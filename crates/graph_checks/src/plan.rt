@@ -1,3 +1,4 @@
+// A plan: a configuration that is ready to be run.
 use crate::drawn::Drawn;
 use config_tree::Config;
 use foreign_parts::LinkTaker;

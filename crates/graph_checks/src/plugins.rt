@@ -1,17 +1,18 @@
+// The checks of one plugin: its name, settings, id and path.
 ghost use Rattle.std.specs.Prelude.{◌≡◌, IfOk, OnOk};
 ghost use Rattle.graph_checks.specs.Answers.{Gives, Leaves};
 ghost use Rattle.graph_checks.specs.Boxes.{Keeps};
 ghost use Rattle.graph_checks.specs.Plugins as spec;
 
-use crate::asking::read_box;
+use crate::box_settings::read_box;
 use crate::built_in::read_built_in;
 use crate::fault::GraphFault;
-use crate::texts::MetTexts;
+use crate::seen_texts::SeenTexts;
 use crate::walk::Walk;
 use crate::want::Want;
 use built_plugins::plugin_id;
 use config_tree::{FromFault, Plugin};
-use foreign_parts::{Boxes, Kind};
+use foreign_parts::{BoxKind, Boxes};
 use plain_data::Text;
 use position_file::{PositionOf, position_name};
 use std::alloc::{AllocError, Global};
@@ -30,7 +31,7 @@ pub(crate) fn setting_fault(id: Text, fault: FromFault) -> GraphFault
 }
 
 /// Meets an id that no earlier plugin may have.
-pub(crate) fn meet_id(ids: &mut MetTexts, id: Text) -> Result<(), GraphFault>
+pub(crate) fn meet_id(ids: &mut SeenTexts, id: Text) -> Result<(), GraphFault>
     ensures { Leaves result (spec.id_behind id ids.old) ids.new }
 {
     match ids.meet(id)? {
@@ -40,7 +41,7 @@ pub(crate) fn meet_id(ids: &mut MetTexts, id: Text) -> Result<(), GraphFault>
 }
 
 /// Meets a path that no earlier plugin of its kind may have.
-pub(crate) fn meet_path_once(paths: &mut MetTexts, path: Text) -> Result<(), GraphFault>
+pub(crate) fn meet_path_once(paths: &mut SeenTexts, path: Text) -> Result<(), GraphFault>
     ensures { Leaves result (spec.path_behind path paths.old) paths.new }
 {
     match paths.meet(path)? {
@@ -53,7 +54,7 @@ pub(crate) fn meet_path_once(paths: &mut MetTexts, path: Text) -> Result<(), Gra
 pub(crate) fn meet_path(
     alloc: Global,
     of: PositionOf,
-    paths: &mut MetTexts,
+    paths: &mut SeenTexts,
     path: Text,
 ) -> Result<(), GraphFault>
     ensures { Leaves result (spec.path_met of path paths.old) paths.new }
@@ -79,7 +80,7 @@ impl Walk {
     pub(crate) fn check_plugin<B: Boxes>(
         &mut self,
         alloc: Global,
-        kind: Kind,
+        kind: BoxKind,
         plugin: &Plugin,
         boxes: &mut B,
     ) -> Result<(), GraphFault>
@@ -98,7 +99,12 @@ impl Walk {
         }
     }
 
-    fn next_plugin_id(&self, alloc: Global, kind: Kind, plugin: &Plugin) -> Result<Text, AllocError>
+    fn next_plugin_id(
+        &self,
+        alloc: Global,
+        kind: BoxKind,
+        plugin: &Plugin,
+    ) -> Result<Text, AllocError>
         ensures { IfOk result (λ id. id ≡ spec.id_next kind self.now plugin.now) }
     {
         let number = self.plugins.checked_add(1).ok_or(AllocError)?;
@@ -107,7 +113,7 @@ impl Walk {
 
     fn check_box<B: Boxes>(
         &mut self,
-        kind: Kind,
+        kind: BoxKind,
         id: &Text,
         plugin: &Plugin,
         boxes: &mut B,
@@ -149,11 +155,11 @@ impl Walk {
 }
 
 /// How a section is called in ids.
-pub(crate) fn section_name(kind: Kind) -> &'static str
+pub(crate) fn section_name(kind: BoxKind) -> &'static str
     ensures { result.now ≡ spec.section_name kind }
 {
     match kind {
-        Kind::Filter => "filter",
-        Kind::Output => "output",
+        BoxKind::Filter => "filter",
+        BoxKind::Output => "output",
     }
 }

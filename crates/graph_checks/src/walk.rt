@@ -1,3 +1,4 @@
+// The checks of a section's statements, in the order of the text.
 ghost use Rattle.graph_checks.specs.Answers.{Gives, Leaves};
 ghost use Rattle.graph_checks.specs.Boxes.{Keeps};
 ghost use Rattle.graph_checks.specs.Plugins as spec;
@@ -7,11 +8,11 @@ use crate::conditions::test_patterns;
 use crate::counts::Counts;
 use crate::fault::GraphFault;
 use crate::plugins::{section_name, setting_fault};
-use crate::texts::MetTexts;
+use crate::seen_texts::SeenTexts;
 use crate::want::Want;
 use built_plugins::condition_id;
 use config_tree::{Arm, Condition, Statement};
-use foreign_parts::{Boxes, Kind};
+use foreign_parts::{BoxKind, Boxes};
 use plain_data::Items;
 use std::alloc::{AllocError, Global};
 
@@ -28,18 +29,18 @@ pub(crate) struct Walk {
     /// These plugins, in the order of the text.
     pub wants: Items<Want>,
     /// The ids of all plugins, those of earlier sections among them.
-    pub ids: MetTexts,
+    pub ids: SeenTexts,
     /// The paths of its outputs.
-    pub paths: MetTexts,
+    pub paths: SeenTexts,
 }
 
 /// Tests the statements of a section, in which each box is wanted so often, behind those that had these ids.
 #[tactic(auto, unfolding(crate::specs::Plugins::section_checked))]
 pub(crate) fn check_section<B: Boxes>(
     alloc: Global,
-    kind: Kind,
+    kind: BoxKind,
     each: u64,
-    ids: MetTexts,
+    ids: SeenTexts,
     statements: &[Statement],
     boxes: &mut B,
 ) -> Result<Walk, GraphFault>
@@ -54,7 +55,7 @@ pub(crate) fn check_section<B: Boxes>(
         boxes: Counts::new(alloc),
         wants: Items::new(alloc),
         ids,
-        paths: MetTexts::new(alloc),
+        paths: SeenTexts::new(alloc),
     };
     check_statements(alloc, kind, statements, &mut walk, boxes)?;
     Ok(walk)
@@ -63,7 +64,7 @@ pub(crate) fn check_section<B: Boxes>(
 #[cycle(walk)]
 fn check_statements<B: Boxes>(
     alloc: Global,
-    kind: Kind,
+    kind: BoxKind,
     statements: &[Statement],
     walk: &mut Walk,
     boxes: &mut B,
@@ -81,7 +82,7 @@ fn check_statements<B: Boxes>(
 #[cycle(walk)]
 fn check_statement<B: Boxes>(
     alloc: Global,
-    kind: Kind,
+    kind: BoxKind,
     statement: &Statement,
     walk: &mut Walk,
     boxes: &mut B,
@@ -99,7 +100,7 @@ fn check_statement<B: Boxes>(
 #[cycle(walk)]
 fn check_arms<B: Boxes>(
     alloc: Global,
-    kind: Kind,
+    kind: BoxKind,
     arms: &[Arm],
     walk: &mut Walk,
     boxes: &mut B,
@@ -120,7 +121,7 @@ impl Walk {
     fn check_condition(
         &mut self,
         alloc: Global,
-        kind: Kind,
+        kind: BoxKind,
         condition: &Option<Condition>,
     ) -> Result<(), GraphFault>
         ensures { Leaves result (spec.arm_checked kind condition.now self.old) self.new }

@@ -1,3 +1,4 @@
+// What a configuration wants of a rack: boxes and links.
 ghost use Rattle.std.specs.Prelude.{◌≡◌, IfOk};
 
 use event_tree::Names;

@@ -1,13 +1,14 @@
+// The checks of a configuration as a whole, behind those of its statements.
 ghost use Rattle.graph_checks.specs.Answers.{Gives};
 ghost use Rattle.graph_checks.specs.Whole as spec;
 ghost use Rattle.foreign_parts.specs.Links.{addresses_of};
-ghost use Rattle.foreign_parts.specs.declared.boxes.Kind.TheVariants as kind;
+ghost use Rattle.foreign_parts.specs.declared.boxes.BoxKind.TheVariants as kind;
 
 use crate::counts::Counts;
 use crate::fault::GraphFault;
 use crate::walk::Walk;
 use event_tree::Names;
-use foreign_parts::{Boxes, Kind};
+use foreign_parts::{BoxKind, Boxes};
 use plain_data::Text;
 
 /// Tests the whole of a configuration, behind its statements: whether there are inputs and outputs, and
@@ -31,8 +32,8 @@ pub(crate) fn check_whole<B: Boxes>(
         return Err(GraphFault::NoOutput);
     }
     check_links(boxes, outside.as_slice())?;
-    filter_boxes.check_spares(boxes, Kind::Filter, workers)?;
-    outputs.boxes.check_spares(boxes, Kind::Output, 1)
+    filter_boxes.check_spares(boxes, BoxKind::Filter, workers)?;
+    outputs.boxes.check_spares(boxes, BoxKind::Output, 1)
 }
 
 // Sees whether there is a link for each address on which something outside sends.

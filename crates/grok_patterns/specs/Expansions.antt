@@ -12,12 +12,12 @@ use Rattle.grok_patterns.specs.Scans.{start, may_open, opened}
 use Rattle.grok_patterns.specs.Scans.{over as over_bytes}
 use Rattle.grok_patterns.specs.declared.expansion.Capture.{Capture}
 use Rattle.grok_patterns.specs.declared.expansion.Expanded.{Expanded}
-use Rattle.grok_patterns.specs.declared.expansion.Rules.{Rules}
+use Rattle.grok_patterns.specs.declared.expansion.ExpansionRules.{ExpansionRules}
 use Rattle.grok_patterns.specs.declared.piece.Coercion.{Coercion}
 use Rattle.grok_patterns.specs.declared.piece.Coercion.TheVariants as coercion
 use Rattle.grok_patterns.specs.declared.piece.Field.{Field}
-use Rattle.grok_patterns.specs.declared.piece.Piece.{Piece}
-use Rattle.grok_patterns.specs.declared.piece.Piece.TheVariants as piece
+use Rattle.grok_patterns.specs.declared.piece.PatternPiece.{PatternPiece}
+use Rattle.grok_patterns.specs.declared.piece.PatternPiece.TheVariants as piece
 
 abbrev pub nothing : Written
 nothing = record { text = []; scan = start; captures = [] }
@@ -39,18 +39,18 @@ write s o = within (record { text = o.text ++ s; scan = over_bytes s o.scan; cap
 abbrev pub is_among : Way → List Way → Bool
 is_among w ws = list_any (same_path w) ws
 
-abbrev pub placed : Rules → Way → Way
+abbrev pub placed : ExpansionRules → Way → Way
 placed r w = over (λ t. path_under t w) w r.target
 
-abbrev pub capture_of : Rules → Way → Coercion → ℕ → Capture
+abbrev pub capture_of : ExpansionRules → Way → Coercion → ℕ → Capture
 capture_of r w k n = record { group = n; path = placed r w; coercion = k; overwrites = is_among (placed r w) r.overwrite }
 
 -- the `(` of a group that is kept: its number is how many groups with a number have begun
-abbrev pub keep : Rules → Way → Coercion → Written → Option Written
+abbrev pub keep : ExpansionRules → Way → Coercion → Written → Option Written
 keep r w k o = within (record { text = o.text ++ codes "("; scan = opened o.scan; captures = o.captures ++ capture_of r w k (opened o.scan).groups ∷ [] })
 
 -- the group of a reference: one without a number, or one that is kept, where a group may begin
-abbrev pub begin_group : Rules → Option Field → Written → Option Written
+abbrev pub begin_group : ExpansionRules → Option Field → Written → Option Written
 begin_group r None o = write (codes "(?:") o
 begin_group r (Some f) o = if may_open o.scan then keep r f.path f.coercion o else None
 
@@ -58,16 +58,16 @@ abbrev pub written_name : List ℕ → List ℕ
 written_name name = (codes "(?<" ++ name) ++ codes ">"
 
 -- a group that was written with a name; where no group may begin it stays as written
-abbrev pub open_named : Rules → List ℕ → Written → Option Written
+abbrev pub open_named : ExpansionRules → List ℕ → Written → Option Written
 open_named r name o = if may_open o.scan then over (λ w. keep r w coercion.Text o) None (way_in name) else write (written_name name) o
 
 -- what a name stands for: the first that has it
-abbrev pub pieces_named : List ℕ → List (List ℕ × List Piece) → Option (List Piece)
+abbrev pub pieces_named : List ℕ → List (List ℕ × List PatternPiece) → Option (List PatternPiece)
 pieces_named name [] = None
 pieces_named name (p ∷ ps) = if bytes_eq p.0 name then Some p.1 else pieces_named name ps
 
 -- the pieces that a reference stands for, once its group has begun
-abbrev pub begun : Rules → List ℕ → Option Field → Written → Option (List Piece × Written)
+abbrev pub begun : ExpansionRules → List ℕ → Option Field → Written → Option (List PatternPiece × Written)
 begun r name f o = option_and_then (λ ps. option_map (λ o. (ps, o)) (begin_group r f o)) (pieces_named name r.known)
 
 -- one after another, where each may be written
@@ -76,11 +76,11 @@ all_added f [] o = Some o
 all_added f (x ∷ xs) o = option_and_then (all_added f xs) (f x o)
 
 -- the pieces that a name stands for, and the `)` behind them
-abbrev pub closed : (List Piece → Written → Option Written) → List Piece × Written → Option Written
+abbrev pub closed : (List PatternPiece → Written → Option Written) → List PatternPiece × Written → Option Written
 closed inner b = option_and_then (write (codes ")")) (inner b.0 b.1)
 
 -- a piece, where names stand in each other at most so deep
-abbrev pub added : Rules → ℕ → Piece → Written → Option Written
+abbrev pub added : ExpansionRules → ℕ → PatternPiece → Written → Option Written
 added r n (piece.Written s) o = write s o
 added r n (piece.Group name) o = open_named r name o
 added r n piece.Unreadable o = None
@@ -92,11 +92,11 @@ finished o = record { text = o.text; captures = o.captures }
 
 -- the regular expression that a grok pattern stands for. Names stand in each other at most 250 deep: a name that needs itself does so without end, and a
 -- regular expression whose groups stand deeper than that is none
-unfoldable pub expanded : Rules → List Piece → Option Expanded
+unfoldable pub expanded : ExpansionRules → List PatternPiece → Option Expanded
 expanded r ps = option_map finished (all_added (added r 250) ps nothing)
 
 -- a name with the pieces of its pattern
-abbrev pub read : Bool → List ℕ × List ℕ → List ℕ × List Piece
+abbrev pub read : Bool → List ℕ × List ℕ → List ℕ × List PatternPiece
 read all_kept p = (p.0, pieces_of all_kept p.1)
 
 -- the names and patterns of the library
@@ -104,5 +104,5 @@ abbrev pub library : List (List ℕ × List ℕ)
 library = map (λ p. (p.0.now, p.1.now)) LIBRARY
 
 -- the patterns that are known: those that are defined, and then those of the library
-unfoldable pub known_patterns : Bool → List (List ℕ × List ℕ) → List (List ℕ × List Piece)
+unfoldable pub known_patterns : Bool → List (List ℕ × List ℕ) → List (List ℕ × List PatternPiece)
 known_patterns all_kept definitions = map (read all_kept) definitions ++ map (read all_kept) library

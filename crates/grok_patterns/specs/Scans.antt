@@ -1,14 +1,14 @@
 -- Where groups with a number begin in a regular expression, as the syntax of the crate `regex` has them: a `(` that is neither escaped nor in brackets,
 -- and behind which no `?` stands, or `?P`.
 use Rattle.std.specs.Prelude.{ℕ, ◌+◌, ◌-◌, ◌==◌, List, [], ◌∷◌, Bool, true, false, if◌then◌else◌}
-use Rattle.grok_patterns.specs.declared.scan.Place.{Place}
-use Rattle.grok_patterns.specs.declared.scan.Place.TheVariants as place
+use Rattle.grok_patterns.specs.declared.scan.ScanState.{ScanState}
+use Rattle.grok_patterns.specs.declared.scan.ScanState.TheVariants as place
 use Rattle.grok_patterns.specs.declared.scan.Scan.{Scan}
 
 abbrev pub start : Scan
 start = record { place = place.Plain; brackets = 0; groups = 0 }
 
-abbrev pub at : Place → Scan → Scan
+abbrev pub at : ScanState → Scan → Scan
 at p c = record { place = p; brackets = c.brackets; groups = c.groups }
 
 -- one group more
@@ -56,7 +56,7 @@ class_negated_step b c =
 abbrev pub class_opened_step : ℕ → Scan → Scan
 class_opened_step b c = if b == 94 then at place.ClassNegated c else class_negated_step b c
 
-abbrev step_at : Place → ℕ → Scan → Scan
+abbrev step_at : ScanState → ℕ → Scan → Scan
 step_at place.Plain = plain_step
 step_at place.Escaped = λ b c. at place.Plain c
 step_at place.Opened = opened_step
@@ -75,7 +75,7 @@ abbrev pub over : List ℕ → Scan → Scan
 over [] c = c
 over (b ∷ s) c = over s (step b c)
 
-abbrev may_open_at : Place → Bool
+abbrev may_open_at : ScanState → Bool
 may_open_at place.Plain = true
 may_open_at place.Escaped = false
 may_open_at place.Opened = true

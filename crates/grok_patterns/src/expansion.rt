@@ -3,10 +3,10 @@ ghost use Rattle.std.specs.Prelude.{◌≡◌, ◌<◌, ◌++◌, ◌∷◌, [],
 ghost use Rattle.grok_patterns.specs.Expansions as spec;
 ghost use Rattle.grok_patterns.specs.Expansions.{went};
 ghost use Rattle.grok_patterns.specs.Pieces.{pair_of};
-ghost use Rattle.grok_patterns.specs.declared.piece.Piece.TheVariants as piece;
+ghost use Rattle.grok_patterns.specs.declared.piece.PatternPiece.TheVariants as piece;
 
 use crate::library::LIBRARY;
-use crate::piece::{Coercion, Field, Piece, Pieces, read_pieces};
+use crate::piece::{Coercion, Field, PatternPiece, PatternPieces, read_pieces};
 use crate::scan::Scan;
 use event_text::path_in;
 use event_tree::{Items, Path, Text};
@@ -21,12 +21,12 @@ const MAX_BYTES: usize = 65_536;
 const MAX_DEPTH: usize = 250;
 
 /// Patterns by name. Of two with one name the first counts.
-pub type Known = Items<(Text, Pieces)>;
+pub type PatternLibrary = Items<(Text, PatternPieces)>;
 
 /// What a pattern is expanded by.
 #[derive(Drop)]
-pub struct Rules {
-    pub known: Known,
+pub struct ExpansionRules {
+    pub known: PatternLibrary,
     /// Whether a reference without a field is kept under its name.
     pub all_kept: bool,
     /// The field under which captures are kept.
@@ -83,8 +83,8 @@ impl Drop for Expanded {
 #[tactic(auto, unfolding(crate::specs::Expansions::expanded))]
 pub fn expand(
     alloc: Global,
-    rules: &Rules,
-    pieces: &[Piece],
+    rules: &ExpansionRules,
+    pieces: &[PatternPiece],
 ) -> Result<Option<Expanded>, AllocError>
     ensures { IfOk result (λ found. found ≡ spec.expanded rules.now pieces.now) }
 {
@@ -100,9 +100,9 @@ pub fn expand(
 #[tactic(auto, using(crate::proofs::Adding::adding))]
 #[cycle(add)]
 fn add_pieces(
-    rules: &Rules,
+    rules: &ExpansionRules,
     depth: usize,
-    pieces: &[Piece],
+    pieces: &[PatternPiece],
     to: &mut Draft,
 ) -> Result<bool, AllocError>
     ensures { IfOk result (λ fine. went fine to.new
@@ -117,21 +117,26 @@ fn add_pieces(
 }
 
 #[cycle(add)]
-fn add_piece(rules: &Rules, depth: usize, piece: &Piece, to: &mut Draft) -> Result<bool, AllocError>
+fn add_piece(
+    rules: &ExpansionRules,
+    depth: usize,
+    piece: &PatternPiece,
+    to: &mut Draft,
+) -> Result<bool, AllocError>
     ensures { IfOk result (λ fine. went fine to.new ≡ spec.added rules.now depth piece.now to.old) }
 {
     match piece {
-        Piece::Written(text) => to.write(text.as_str()),
-        Piece::Group(name) => to.open_named(rules, name.as_str()),
-        Piece::Reference(name, field) => add_reference(rules, depth, name, field, to),
-        Piece::Unreadable => Ok(false),
+        PatternPiece::Written(text) => to.write(text.as_str()),
+        PatternPiece::Group(name) => to.open_named(rules, name.as_str()),
+        PatternPiece::Reference(name, field) => add_reference(rules, depth, name, field, to),
+        PatternPiece::Unreadable => Ok(false),
     }
 }
 
 #[tactic(auto, using(crate::proofs::Adding::adding))]
 #[cycle(add)]
 fn add_reference(
-    rules: &Rules,
+    rules: &ExpansionRules,
     depth: usize,
     name: &Text,
     field: &Option<Field>,
@@ -155,11 +160,11 @@ fn add_reference(
 
 // The pieces of a reference, once its group has begun.
 fn begin<'r>(
-    rules: &'r Rules,
+    rules: &'r ExpansionRules,
     name: &Text,
     field: &Option<Field>,
     to: &mut Draft,
-) -> Result<Option<&'r [Piece]>, AllocError>
+) -> Result<Option<&'r [PatternPiece]>, AllocError>
     ensures { IfOk result (λ found. option_map (λ ps. (ps.now, to.new)) found ≡ spec.begun rules.now
         name.now field.now to.old) }
 {
@@ -173,7 +178,7 @@ fn begin<'r>(
     }
 }
 
-fn pieces_named<'k>(known: &'k [(Text, Pieces)], name: &str) -> Option<&'k [Piece]>
+fn pieces_named<'k>(known: &'k [(Text, PatternPieces)], name: &str) -> Option<&'k [PatternPiece]>
     ensures { option_map (λ ps. ps.now) result ≡ spec.pieces_named name.now known.now }
 {
     for one in known {
@@ -246,7 +251,7 @@ impl Draft {
     }
 
     // Begins the group of a reference.
-    fn open(&mut self, rules: &Rules, field: &Option<Field>) -> Result<bool, AllocError>
+    fn open(&mut self, rules: &ExpansionRules, field: &Option<Field>) -> Result<bool, AllocError>
         ensures { IfOk result (λ fine. went fine self.new ≡ spec.begin_group rules.now field.now
             self.old) }
     {
@@ -263,7 +268,7 @@ impl Draft {
     }
 
     // Begins a group that was written with a name. Where no group can begin it stays as written.
-    fn open_named(&mut self, rules: &Rules, name: &str) -> Result<bool, AllocError>
+    fn open_named(&mut self, rules: &ExpansionRules, name: &str) -> Result<bool, AllocError>
         ensures { IfOk result (λ fine. went fine self.new ≡ spec.open_named rules.now name.now
             self.old) }
     {
@@ -287,7 +292,12 @@ impl Draft {
     }
 
     // Begins a group that is kept.
-    fn keep(&mut self, rules: &Rules, path: &Path, coercion: Coercion) -> Result<bool, AllocError>
+    fn keep(
+        &mut self,
+        rules: &ExpansionRules,
+        path: &Path,
+        coercion: Coercion,
+    ) -> Result<bool, AllocError>
         ensures { IfOk result (λ fine. went fine self.new ≡ spec.keep rules.now path.now coercion
             self.old) }
     {
@@ -300,7 +310,7 @@ impl Draft {
 }
 
 fn capture_of(
-    rules: &Rules,
+    rules: &ExpansionRules,
     path: &Path,
     coercion: Coercion,
     group: usize,
@@ -339,17 +349,17 @@ pub fn known_patterns(
     alloc: Global,
     all_kept: bool,
     definitions: &[(Text, Text)],
-) -> Result<Known, AllocError>
+) -> Result<PatternLibrary, AllocError>
     ensures { IfOk result (λ known. known ≡ spec.known_patterns all_kept definitions.now) }
 {
-    let mut known = Known::new(alloc);
+    let mut known = PatternLibrary::new(alloc);
     add_defined(&mut known, all_kept, definitions)?;
     add_library(&mut known, all_kept, &LIBRARY)?;
     Ok(known)
 }
 
 fn add_defined(
-    known: &mut Known,
+    known: &mut PatternLibrary,
     all_kept: bool,
     definitions: &[(Text, Text)],
 ) -> Result<(), AllocError>
@@ -362,7 +372,7 @@ fn add_defined(
 }
 
 fn add_library(
-    known: &mut Known,
+    known: &mut PatternLibrary,
     all_kept: bool,
     library: &[(&str, &str)],
 ) -> Result<(), AllocError>
@@ -376,7 +386,12 @@ fn add_library(
 }
 
 // A name, and the pieces of the pattern that it stands for.
-fn add_known(known: &mut Known, all_kept: bool, name: &str, pattern: &str) -> Result<(), AllocError>
+fn add_known(
+    known: &mut PatternLibrary,
+    all_kept: bool,
+    name: &str,
+    pattern: &str,
+) -> Result<(), AllocError>
     ensures { OnOk result (known.new ≡ known.old ++ spec.read all_kept (name.now, pattern.now) ∷
         []) }
 {

@@ -7,7 +7,7 @@ mod library;
 mod piece;
 mod scan;
 
-pub use expansion::{Capture, Expanded, Known, Rules, expand, known_patterns};
+pub use expansion::{Capture, Expanded, ExpansionRules, PatternLibrary, expand, known_patterns};
 pub use library::LIBRARY;
-pub use piece::{Coercion, Field, Piece, Pieces, read_pieces};
-pub use scan::{Place, Scan};
+pub use piece::{Coercion, Field, PatternPiece, PatternPieces, read_pieces};
+pub use scan::{Scan, ScanState};

@@ -1,3 +1,4 @@
+// The grok patterns that every configuration knows by name.
 /// The patterns that every configuration knows by name: a name, and what it stands for, which may name those
 /// that stand in front of it.
 pub static LIBRARY: [(&str, &str); 38] = [

@@ -2,7 +2,7 @@
 ghost use Rattle.std.specs.Prelude.{◌≡◌, ◌<◌, ◌++◌, ◌∷◌, [], false, option_map, IfOk, OnOk};
 ghost use Rattle.grok_patterns.specs.Pieces as spec;
 ghost use Rattle.grok_patterns.specs.Pieces.{pair_of};
-ghost use Rattle.grok_patterns.specs.declared.piece.Piece.TheVariants as piece;
+ghost use Rattle.grok_patterns.specs.declared.piece.PatternPiece.TheVariants as piece;
 
 use event_text::path_in;
 use event_tree::{Items, Path, Text};
@@ -29,7 +29,7 @@ pub struct Field {
 
 /// A piece of a grok pattern.
 #[derive(Drop)]
-pub enum Piece {
+pub enum PatternPiece {
     /// Text of a regular expression.
     Written(Text),
     /// `(?<FIELD>`, which begins a group that is kept, where a group may begin.
@@ -41,23 +41,23 @@ pub enum Piece {
 }
 
 /// The pieces of a grok pattern, in their order.
-pub type Pieces = Items<Piece>;
+pub type PatternPieces = Items<PatternPiece>;
 
 /// Reads a grok pattern. `%{NAME}`, `%{NAME:FIELD}`, `%{NAME:FIELD:int}` and `%{NAME:FIELD:float}` up to
 /// the next `}` are references, and `(?<FIELD>` up to the next `>` is a group. With `all_kept` a
 /// reference without a field is kept under its name. All else stands for itself.
 #[tactic(auto, unfolding(crate::specs::Pieces::pieces_of))]
-pub fn read_pieces(alloc: Global, all_kept: bool, text: &str) -> Result<Pieces, AllocError>
+pub fn read_pieces(alloc: Global, all_kept: bool, text: &str) -> Result<PatternPieces, AllocError>
     ensures { IfOk result (λ pieces. pieces ≡ spec.pieces_of all_kept text.now) }
 {
     let parts = split_text(alloc, text, "%{")?;
     pieces_of(alloc, all_kept, parts.as_slice())
 }
 
-fn pieces_of(alloc: Global, all_kept: bool, parts: &[Text]) -> Result<Pieces, AllocError>
+fn pieces_of(alloc: Global, all_kept: bool, parts: &[Text]) -> Result<PatternPieces, AllocError>
     ensures { IfOk result (λ pieces. pieces ≡ spec.parts_pieces all_kept false parts.now) }
 {
-    let mut pieces = Pieces::new(alloc);
+    let mut pieces = PatternPieces::new(alloc);
     let mut later = false;
     for part in parts {
         add_part(&mut pieces, all_kept, later, part.as_str())?;
@@ -67,7 +67,12 @@ fn pieces_of(alloc: Global, all_kept: bool, parts: &[Text]) -> Result<Pieces, Al
 }
 
 // What stands between two `%{`, in front of the first or behind the last.
-fn add_part(pieces: &mut Pieces, all_kept: bool, later: bool, part: &str) -> Result<(), AllocError>
+fn add_part(
+    pieces: &mut PatternPieces,
+    all_kept: bool,
+    later: bool,
+    part: &str,
+) -> Result<(), AllocError>
     ensures { OnOk result (pieces.new ≡ pieces.old ++ spec.part_pieces all_kept later part.now) }
 {
     if !later {
@@ -81,7 +86,7 @@ fn add_part(pieces: &mut Pieces, all_kept: bool, later: bool, part: &str) -> Res
 
 // A reference, and what stands behind it.
 fn add_reference(
-    pieces: &mut Pieces,
+    pieces: &mut PatternPieces,
     all_kept: bool,
     inner: &str,
     behind: &str,
@@ -95,14 +100,14 @@ fn add_reference(
 }
 
 // What holds no reference.
-fn add_plain(pieces: &mut Pieces, text: &str) -> Result<(), AllocError>
+fn add_plain(pieces: &mut PatternPieces, text: &str) -> Result<(), AllocError>
     ensures { OnOk result (pieces.new ≡ pieces.old ++ spec.plain_pieces text.now) }
 {
     let parts = split_text(pieces.allocator(), text, "(?<")?;
     add_groups(pieces, parts.as_slice())
 }
 
-fn add_groups(pieces: &mut Pieces, parts: &[Text]) -> Result<(), AllocError>
+fn add_groups(pieces: &mut PatternPieces, parts: &[Text]) -> Result<(), AllocError>
     ensures { OnOk result (pieces.new ≡ pieces.old ++ spec.groups_pieces false parts.now) }
 {
     let mut later = false;
@@ -114,7 +119,7 @@ fn add_groups(pieces: &mut Pieces, parts: &[Text]) -> Result<(), AllocError>
 }
 
 // What stands between two `(?<`, in front of the first or behind the last.
-fn add_group(pieces: &mut Pieces, later: bool, part: &str) -> Result<(), AllocError>
+fn add_group(pieces: &mut PatternPieces, later: bool, part: &str) -> Result<(), AllocError>
     ensures { OnOk result (pieces.new ≡ pieces.old ++ spec.group_pieces later part.now) }
 {
     if !later {
@@ -127,28 +132,28 @@ fn add_group(pieces: &mut Pieces, later: bool, part: &str) -> Result<(), AllocEr
 }
 
 // A group of this name, and what stands behind it.
-fn add_named(pieces: &mut Pieces, name: &str, behind: &str) -> Result<(), AllocError>
+fn add_named(pieces: &mut PatternPieces, name: &str, behind: &str) -> Result<(), AllocError>
     ensures { OnOk result (pieces.new
         ≡ pieces.old ++ piece.Group name.now ∷ piece.Written behind.now ∷ []) }
 {
     let name = Text::of(pieces.allocator(), name)?;
-    pieces.push(Piece::Group(name))?;
+    pieces.push(PatternPiece::Group(name))?;
     add_written(pieces, behind)
 }
 
-fn add_written(pieces: &mut Pieces, text: &str) -> Result<(), AllocError>
+fn add_written(pieces: &mut PatternPieces, text: &str) -> Result<(), AllocError>
     ensures { OnOk result (pieces.new ≡ pieces.old ++ piece.Written text.now ∷ []) }
 {
     let text = Text::of(pieces.allocator(), text)?;
-    pieces.push(Piece::Written(text))
+    pieces.push(PatternPiece::Written(text))
 }
 
 // Two texts as one piece.
-fn add_joined(pieces: &mut Pieces, front: &str, back: &str) -> Result<(), AllocError>
+fn add_joined(pieces: &mut PatternPieces, front: &str, back: &str) -> Result<(), AllocError>
     ensures { OnOk result (pieces.new ≡ pieces.old ++ piece.Written (front.now ++ back.now) ∷ []) }
 {
     let text = joined(pieces.allocator(), front, back)?;
-    pieces.push(Piece::Written(text))
+    pieces.push(PatternPiece::Written(text))
 }
 
 // The name of a group, up to its `>`, and what stands behind; none at a look-behind.
@@ -170,7 +175,7 @@ fn looks_behind(part: &[u8]) -> bool
     }
 }
 
-fn read_reference(alloc: Global, all_kept: bool, inner: &str) -> Result<Piece, AllocError>
+fn read_reference(alloc: Global, all_kept: bool, inner: &str) -> Result<PatternPiece, AllocError>
     ensures { IfOk result (λ piece. piece ≡ spec.reference all_kept inner.now) }
 {
     match cut(inner, ':') {
@@ -179,19 +184,19 @@ fn read_reference(alloc: Global, all_kept: bool, inner: &str) -> Result<Piece, A
             if all_kept {
                 kept_at(alloc, inner, inner, Coercion::Text)
             } else {
-                Ok(Piece::Reference(Text::of(alloc, inner)?, None))
+                Ok(PatternPiece::Reference(Text::of(alloc, inner)?, None))
             }
         }
     }
 }
 
-fn read_field(alloc: Global, name: &str, rest: &str) -> Result<Piece, AllocError>
+fn read_field(alloc: Global, name: &str, rest: &str) -> Result<PatternPiece, AllocError>
     ensures { IfOk result (λ piece. piece ≡ spec.with_field name.now rest.now) }
 {
     match cut(rest, ':') {
         Some((field, kind)) => match coercion_of(kind) {
             Some(coercion) => kept_at(alloc, name, field, coercion),
-            None => Ok(Piece::Unreadable),
+            None => Ok(PatternPiece::Unreadable),
         },
         None => kept_at(alloc, name, rest, Coercion::Text),
     }
@@ -207,14 +212,19 @@ fn coercion_of(kind: &str) -> Option<Coercion>
     }
 }
 
-fn kept_at(alloc: Global, name: &str, field: &str, coercion: Coercion) -> Result<Piece, AllocError>
+fn kept_at(
+    alloc: Global,
+    name: &str,
+    field: &str,
+    coercion: Coercion,
+) -> Result<PatternPiece, AllocError>
     ensures { IfOk result (λ piece. piece ≡ spec.kept_at name.now field.now coercion) }
 {
     let Some(path) = path_in(alloc, field)? else {
-        return Ok(Piece::Unreadable);
+        return Ok(PatternPiece::Unreadable);
     };
     let name = Text::of(alloc, name)?;
-    Ok(Piece::Reference(name, Some(Field { path, coercion })))
+    Ok(PatternPiece::Reference(name, Some(Field { path, coercion })))
 }
 
 // What stands before the first such character of ASCII, and behind it.

@@ -1,3 +1,4 @@
+// Scanning a regular expression byte by byte for where groups may begin.
 ghost use Rattle.std.specs.Prelude.{◌≡◌, ◌+◌, IfOk};
 ghost use Rattle.grok_patterns.specs.Scans as spec;
 
@@ -5,7 +6,7 @@ use std::alloc::AllocError;
 
 /// Where a regular expression stands behind some of its bytes.
 #[derive(Clone, Copy)]
-pub enum Place {
+pub enum ScanState {
     /// Where a group may begin.
     Plain,
     /// Behind a backslash.
@@ -27,7 +28,7 @@ pub enum Place {
 /// What was read of a regular expression up to a byte.
 #[derive(Clone, Copy)]
 pub struct Scan {
-    pub place: Place,
+    pub place: ScanState,
     /// How many brackets are open.
     pub brackets: usize,
     /// How many groups with a number have begun; a `(` of which nothing else is known isn't counted yet.
@@ -40,7 +41,7 @@ impl Scan {
         ensures { result ≡ spec.start }
     {
         Scan {
-            place: Place::Plain,
+            place: ScanState::Plain,
             brackets: 0,
             groups: 0,
         }
@@ -51,12 +52,12 @@ impl Scan {
         ensures { result ≡ spec.may_open self }
     {
         match self.place {
-            Place::Plain | Place::Opened | Place::Flagged => true,
-            Place::Escaped
-            | Place::Class
-            | Place::ClassEscaped
-            | Place::ClassOpened
-            | Place::ClassNegated => false,
+            ScanState::Plain | ScanState::Opened | ScanState::Flagged => true,
+            ScanState::Escaped
+            | ScanState::Class
+            | ScanState::ClassEscaped
+            | ScanState::ClassOpened
+            | ScanState::ClassNegated => false,
         }
     }
 
@@ -84,18 +85,18 @@ impl Scan {
         ensures { IfOk result (λ scan. scan ≡ spec.step byte self) }
     {
         match self.place {
-            Place::Plain => Ok(self.plain_step(byte)),
-            Place::Escaped => Ok(self.at(Place::Plain)),
-            Place::Opened => self.opened_step(byte),
-            Place::Flagged => self.flagged_step(byte),
-            Place::Class => self.class_step(byte),
-            Place::ClassEscaped => Ok(self.at(Place::Class)),
-            Place::ClassOpened => self.class_opened_step(byte),
-            Place::ClassNegated => self.class_negated_step(byte),
+            ScanState::Plain => Ok(self.plain_step(byte)),
+            ScanState::Escaped => Ok(self.at(ScanState::Plain)),
+            ScanState::Opened => self.opened_step(byte),
+            ScanState::Flagged => self.flagged_step(byte),
+            ScanState::Class => self.class_step(byte),
+            ScanState::ClassEscaped => Ok(self.at(ScanState::Class)),
+            ScanState::ClassOpened => self.class_opened_step(byte),
+            ScanState::ClassNegated => self.class_negated_step(byte),
         }
     }
 
-    fn at(self, place: Place) -> Scan
+    fn at(self, place: ScanState) -> Scan
         ensures { result ≡ spec.at place self }
     {
         Scan { place, ..self }
@@ -105,10 +106,10 @@ impl Scan {
         ensures { result ≡ spec.plain_step byte self }
     {
         match byte {
-            b'\\' => self.at(Place::Escaped),
-            b'(' => self.at(Place::Opened),
-            b'[' => self.at(Place::ClassOpened),
-            _ => self.at(Place::Plain),
+            b'\\' => self.at(ScanState::Escaped),
+            b'(' => self.at(ScanState::Opened),
+            b'[' => self.at(ScanState::ClassOpened),
+            _ => self.at(ScanState::Plain),
         }
     }
 
@@ -116,7 +117,7 @@ impl Scan {
         ensures { IfOk result (λ scan. scan ≡ spec.opened_step byte self) }
     {
         if byte == b'?' {
-            Ok(self.at(Place::Flagged))
+            Ok(self.at(ScanState::Flagged))
         } else {
             Ok(self.counted()?.plain_step(byte))
         }
@@ -136,10 +137,10 @@ impl Scan {
         ensures { IfOk result (λ scan. scan ≡ spec.class_step byte self) }
     {
         match byte {
-            b'\\' => Ok(self.at(Place::ClassEscaped)),
+            b'\\' => Ok(self.at(ScanState::ClassEscaped)),
             b'[' => self.bracketed(),
             b']' => Ok(self.unbracketed()),
-            _ => Ok(self.at(Place::Class)),
+            _ => Ok(self.at(ScanState::Class)),
         }
     }
 
@@ -147,7 +148,7 @@ impl Scan {
         ensures { IfOk result (λ scan. scan ≡ spec.class_opened_step byte self) }
     {
         if byte == b'^' {
-            Ok(self.at(Place::ClassNegated))
+            Ok(self.at(ScanState::ClassNegated))
         } else {
             self.class_negated_step(byte)
         }
@@ -158,9 +159,9 @@ impl Scan {
         ensures { IfOk result (λ scan. scan ≡ spec.class_negated_step byte self) }
     {
         match byte {
-            b'\\' => Ok(self.at(Place::ClassEscaped)),
+            b'\\' => Ok(self.at(ScanState::ClassEscaped)),
             b'[' => self.bracketed(),
-            _ => Ok(self.at(Place::Class)),
+            _ => Ok(self.at(ScanState::Class)),
         }
     }
 
@@ -168,7 +169,7 @@ impl Scan {
         ensures { IfOk result (λ scan. scan ≡ spec.bracketed self) }
     {
         Ok(Scan {
-            place: Place::ClassOpened,
+            place: ScanState::ClassOpened,
             brackets: next(self.brackets)?,
             groups: self.groups,
         })
@@ -178,10 +179,10 @@ impl Scan {
         ensures { result ≡ spec.unbracketed self }
     {
         if self.brackets == 0 {
-            return self.at(Place::Plain);
+            return self.at(ScanState::Plain);
         }
         Scan {
-            place: Place::Class,
+            place: ScanState::Class,
             brackets: self.brackets - 1,
             groups: self.groups,
         }
@@ -191,7 +192,7 @@ impl Scan {
         ensures { IfOk result (λ scan. scan ≡ spec.counted self) }
     {
         Ok(Scan {
-            place: Place::Plain,
+            place: ScanState::Plain,
             brackets: self.brackets,
             groups: next(self.groups)?,
         })

@@ -1,3 +1,4 @@
+// A book that keeps nothing.
 use crate::book::Book;
 use crate::entry::Entry;
 

@@ -1,3 +1,4 @@
+// The trait of books that pipelines tell their steps to.
 ghost use Rattle.std.specs.Prelude.{[], ◌∷◌};
 ghost use Rattle.io_traits.specs.Telling.{Grows};
 ghost use Rattle.history_book.specs.Entries.{entry_of};

@@ -1,3 +1,4 @@
+// The entries of a history, which lend what they tell.
 use config_tree::Config;
 use event_tree::{DeadPart, Event, Text};
 use foreign_parts::{Fate, Place, Verdict};

@@ -1,3 +1,4 @@
+// Entries that own what they tell, copied from those that lend it.
 ghost use Rattle.std.specs.Prelude.{◌≡◌, IfOk};
 ghost use Rattle.history_book.specs.Entries.{entry_of, kept_of};
 ghost use Rattle.history_laws.specs.Entries.{Deliver};

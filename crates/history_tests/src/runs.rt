@@ -20,7 +20,7 @@ use in_lines::{Piece, Poll};
 use pipeline_bus::{Answer, Heard, Parcel};
 use run_judges::{Deed, InputLooks, LinkTraffic, Run};
 use std::alloc::{AllocError, Global};
-use store_disk::Table;
+use store_disk::FileTable;
 
 #[derive(Drop)]
 enum Item {
@@ -94,7 +94,7 @@ fn add_end(
 ) -> Result<(), Fault> {
     let alloc = *to.allocator();
     let meaning = OneOutput { alloc };
-    let image = Table::new(alloc);
+    let image = FileTable::new(alloc);
     let Some(line) = run.line(line) else {
         return Ok(());
     };

@@ -16,7 +16,7 @@ use history_book::Told;
 use plain_data::Items;
 use run_judges::{AppendedLetters, FilePlace, HeldLetters, Judge, Places, Witnesses};
 use std::alloc::{AllocError, Global};
-use store_disk::{Call, MemoryStore, Script, Table};
+use store_disk::{FileTable, MemoryStore, Script, StoreCall};
 
 /// The folders of the queue and of the dead letters, and the position file of the output file.
 pub const QUEUE: &str = "q/";
@@ -64,7 +64,7 @@ pub fn add_scene(to: &mut String, row: &str) -> Result<(), AllocError> {
     let (name, items) = row.split_once(':').unwrap_or((row, ""));
     write!(to, "{name}:")?;
     let mut scene = Scene {
-        store: MemoryStore::new(Table::new(alloc), Script::empty(alloc), u64::MAX)?,
+        store: MemoryStore::new(FileTable::new(alloc), Script::empty(alloc), u64::MAX)?,
         from: 0,
         told: Vec::new(alloc),
         witnesses: Witnesses {
@@ -136,9 +136,9 @@ fn verdict_on(alloc: Global, scene: &Scene, choice: u64) -> Result<&'static str,
     }
 }
 
-fn is_change(call: &Call) -> bool {
+fn is_change(call: &StoreCall) -> bool {
     match call {
-        Call::List(_) | Call::Length(_) | Call::Read(_, _) => false,
+        StoreCall::List(_) | StoreCall::Length(_) | StoreCall::Read(_, _) => false,
         _ => true,
     }
 }
@@ -155,8 +155,8 @@ fn is_sound_at(alloc: Global, scene: &Scene, moment: u64, choice: u64) -> Result
 }
 
 // The files of a store.
-fn table_of(alloc: Global, store: &MemoryStore) -> Result<Table, AllocError> {
-    let mut table = Table::new(alloc);
+fn table_of(alloc: Global, store: &MemoryStore) -> Result<FileTable, AllocError> {
+    let mut table = FileTable::new(alloc);
     for name in NAMES {
         if let Some(bytes) = store.bytes(name) {
             let content = Items::from_vec(Vec::from_slice(alloc, bytes)?);

@@ -10,8 +10,8 @@ use Rattle.in_lines.specs.Decoding.{event_by}
 use Rattle.in_lines.specs.Polls.{Poll, joined, Received}
 use Rattle.in_lines.specs.Readings.{IsReading, with_piece}
 use Rattle.in_file.specs.Views.{Watched, taken}
-use Rattle.in_lines.specs.declared.got.Got.{Got}
-use Rattle.in_lines.specs.declared.got.Got.TheVariants as got
+use Rattle.in_lines.specs.declared.poll_outcome.Got.{Got}
+use Rattle.in_lines.specs.declared.poll_outcome.Got.TheVariants as got
 
 -- what a poll and a line leave as it was: all but what was read and given
 abbrev pub Keeps : Watched → Watched → Type 0

@@ -1,3 +1,4 @@
+// The file input: polls a watched file and records how far its lines are assured.
 ghost use Rattle.std.specs.Prelude.{◌≡◌, ◌≢◌, ◌≤◌, ◌↔◌, ℕ, ◌+◌, [], true, IsTrue, IsErr, Err, None, Some, length, IfOk, OnOk, OnErr};
 ghost use Rattle.io_traits.specs.Counts.{HasCause};
 ghost use Rattle.io_traits.specs.Folders.{IsOneCall};
@@ -13,10 +14,10 @@ ghost use Rattle.in_file.specs.Openings.{IsOpened, IsDamaged, IsWhole, line_limi
 ghost use Rattle.in_file.specs.Positions.{AssureLeaves, IsAssured, IsOwn, IsReady};
 ghost use Rattle.in_file.specs.Views.{taken};
 ghost use Rattle.in_file.specs.declared.faults.OpenFault.TheVariants as o;
-ghost use Rattle.in_lines.specs.declared.got.PollFault.TheVariants as p;
+ghost use Rattle.in_lines.specs.declared.poll_outcome.PollFault.TheVariants as p;
 
 use crate::faults::OpenFault;
-use crate::held::Held;
+use crate::line_buffer::LineBuffer;
 use crate::opening::{begins_at, opened, position_by, turn_by};
 use crate::plan::FilePlan;
 use event_tree::Event;
@@ -48,7 +49,7 @@ pub struct FileInput {
     /// The place in the file behind the last line that was given.
     behind: u64,
     /// The bytes of the file from there on that were read.
-    held: Held,
+    held: LineBuffer,
     /// The moment of the poll that made the lines whole that are held.
     moment: Instant,
     /// The recorded position.
@@ -164,7 +165,7 @@ impl FileInput {
             codec: plan.codec,
             began,
             behind: began,
-            held: Held::new(alloc),
+            held: LineBuffer::new(alloc),
             moment: Instant::epoch(),
             position: position_by(began, recorded),
             turn: turn_by(recorded),
@@ -188,12 +189,12 @@ impl FileInput {
         ensures memory { result ≡ Err p.Memory → files.new ≡ files.old }
         ensures cause { HasCause (F.faults files.old) (F.faults files.new) (result ≡ Err p.Fault) }
     {
-        self.ask(files, moment)?;
-        Ok(self.got())
+        self.read_once(files, moment)?;
+        Ok(self.outcome())
     }
 
     // Looks at the file, unless it need not.
-    fn ask<F: Files>(&mut self, files: &mut F, moment: Instant) -> Result<(), PollFault>
+    fn read_once<F: Files>(&mut self, files: &mut F, moment: Instant) -> Result<(), PollFault>
         ensures polled { OnOk result
             (WasPolled F.Files moment files.old files.new self.old self.new) }
         ensures err { OnErr result (self.new ≡ self.old) }
@@ -215,7 +216,7 @@ impl FileInput {
         !self.held.is_ended() && !self.held.has_line()
     }
 
-    fn got(&mut self) -> Got
+    fn outcome(&mut self) -> Got
         ensures got { result ≡ got_of self.old }
         ensures same { self.new ≡ self.old }
     {
@@ -242,12 +243,12 @@ impl FileInput {
         let count = self
             .held
             .fill(files, self.path.as_str(), place, room as usize)?;
-        self.take_in(count, moment);
+        self.append_read(count, moment);
         Ok(())
     }
 
     // Takes so many bytes that came, or the end where none did.
-    fn take_in(&mut self, count: usize, moment: Instant)
+    fn append_read(&mut self, count: usize, moment: Instant)
         ensures { self.new ≡ taken_in count moment self.old }
     {
         if count > 0 {

@@ -6,9 +6,9 @@
 #![tactic(auto)]
 
 mod faults;
-mod held;
 mod input;
 pub mod laws;
+mod line_buffer;
 mod opening;
 mod plan;
 mod watching;

@@ -1,3 +1,4 @@
+// How a file is watched: from where, up to where, and by which codec.
 use line_codecs::Codec;
 
 /// How a file is watched.

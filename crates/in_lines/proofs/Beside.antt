@@ -8,7 +8,7 @@ use Rattle.byte_lines.specs.Split.{split_of}
 use Rattle.byte_lines.specs.Lines.{texts_of, whole_lines}
 use Rattle.byte_lines.proofs.Splitting.{split_of-settled}
 use Rattle.in_lines.specs.Polls.{Poll, Received, is_ended, joined, lines_by, lines_through, made_whole, received, received_after, received_at, rest_through}
-use Rattle.in_lines.specs.Sources.{Look, of_source, from_source, received_beside, received_beside_after, line_from, is_source_ended, left_of, made_by, left_by, left_after, made_from, lefts_after, GoOn}
+use Rattle.in_lines.specs.Sources.{Look, of_source, from_source, received_beside, interleaved_lines_from, line_from, is_source_ended, left_of, made_by, left_by, left_after, made_from, lefts_after, GoOn}
 use Rattle.in_lines.proofs.Receiving.{is_ended-append, lines_through-more, one_longer, rest_through-more, rest_through-nothing}
 use Rattle.in_lines.proofs.Cutting.{lines_through-cut}
 
@@ -34,15 +34,15 @@ of_source-other n m (x ∷ xs) differ = cond-false _ _ _ differ ∙ of_source-ot
 -- ---- each source by itself
 
 -- the lines of a source are those of its own looks, each at the moment of its own poll
-each_source_after : (limit n : ℕ) (before looks : List Look) → of_source n (received_beside_after limit before looks) ≡ received_after limit (of_source n before) (of_source n looks)
+each_source_after : (limit n : ℕ) (before looks : List Look) → of_source n (interleaved_lines_from limit before looks) ≡ received_after limit (of_source n before) (of_source n looks)
 each_source_after limit n before [] = refl
 each_source_after limit n before (look ∷ looks) =
-    of_source-append n (from_source look.0 (made_whole limit (of_source look.0 before) look.1)) (received_beside_after limit (before ++ look ∷ []) looks)
+    of_source-append n (from_source look.0 (made_whole limit (of_source look.0 before) look.1)) (interleaved_lines_from limit (before ++ look ∷ []) looks)
     ∙ by (each_source_after limit n (before ++ look ∷ []) looks ∙ ap (λ t. received_after limit t (of_source n looks)) (of_source-append n before (look ∷ []))) (nat_eq look.0 n) refl
   where
-    by : of_source n (received_beside_after limit (before ++ look ∷ []) looks) ≡ received_after limit (of_source n before ++ of_source n (look ∷ [])) (of_source n looks)
+    by : of_source n (interleaved_lines_from limit (before ++ look ∷ []) looks) ≡ received_after limit (of_source n before ++ of_source n (look ∷ [])) (of_source n looks)
         → (b : Bool) → nat_eq look.0 n ≡ b
-        → of_source n (from_source look.0 (made_whole limit (of_source look.0 before) look.1)) ++ of_source n (received_beside_after limit (before ++ look ∷ []) looks) ≡ received_after limit (of_source n before) (if b then look.1 ∷ of_source n looks else of_source n looks)
+        → of_source n (from_source look.0 (made_whole limit (of_source look.0 before) look.1)) ++ of_source n (interleaved_lines_from limit (before ++ look ∷ []) looks) ≡ received_after limit (of_source n before) (if b then look.1 ∷ of_source n looks else of_source n looks)
     by later true is =
         let same : look.0 ≡ n = eqb-true look.0 n is in
         ap₂ (λ s t. s ++ t) (ap (λ m. of_source n (from_source m (made_whole limit (of_source m before) look.1))) same ∙ of_source-mine n (made_whole limit (of_source n before) look.1))
@@ -56,7 +56,7 @@ unfolding received_beside received
 each_source limit n looks = each_source_after limit n [] looks
 
 -- where there is one source alone, its lines are those of its polls
-one_source_after : (limit n : ℕ) (before : List Look) (polls : List Poll) → received_beside_after limit before (from_source n polls) ≡ from_source n (received_after limit (of_source n before) polls)
+one_source_after : (limit n : ℕ) (before : List Look) (polls : List Poll) → interleaved_lines_from limit before (from_source n polls) ≡ from_source n (received_after limit (of_source n before) polls)
 one_source_after limit n before [] = refl
 one_source_after limit n before (poll ∷ polls) =
     let made = made_whole limit (of_source n before) poll in
@@ -75,13 +75,13 @@ received_beside-nil limit = refl
 
 -- ---- look by look
 
-received_beside_after-append : (limit : ℕ) (before looks more : List Look) → received_beside_after limit before (looks ++ more) ≡ received_beside_after limit before looks ++ received_beside_after limit (before ++ looks) more
-received_beside_after-append limit before [] more = ap (λ t. received_beside_after limit t more) (sym (append-nil before))
-received_beside_after-append limit before (look ∷ looks) more =
+interleaved_lines_from-append : (limit : ℕ) (before looks more : List Look) → interleaved_lines_from limit before (looks ++ more) ≡ interleaved_lines_from limit before looks ++ interleaved_lines_from limit (before ++ looks) more
+interleaved_lines_from-append limit before [] more = ap (λ t. interleaved_lines_from limit t more) (sym (append-nil before))
+interleaved_lines_from-append limit before (look ∷ looks) more =
     let after = before ++ look ∷ [] in
     let first = from_source look.0 (made_whole limit (of_source look.0 before) look.1) in
-    ap (λ t. first ++ t) (received_beside_after-append limit after looks more ∙ ap (λ t. received_beside_after limit after looks ++ received_beside_after limit t more) (append_assoc before (look ∷ []) looks))
-    ∙ sym (append_assoc first (received_beside_after limit after looks) (received_beside_after limit (before ++ look ∷ looks) more))
+    ap (λ t. first ++ t) (interleaved_lines_from-append limit after looks more ∙ ap (λ t. interleaved_lines_from limit after looks ++ interleaved_lines_from limit t more) (append_assoc before (look ∷ []) looks))
+    ∙ sym (append_assoc first (interleaved_lines_from limit after looks) (interleaved_lines_from limit (before ++ look ∷ looks) more))
 
 -- one more poll of a source that did not end makes the lines whole that its piece makes of what was left
 pub made-whole : (limit : ℕ) (polls : List Poll) (poll : Poll) → 0 < limit → is_ended polls ≡ false → made_whole limit polls poll ≡ received_at poll.moment (lines_by limit (rest_through limit polls) poll.piece)
@@ -94,8 +94,8 @@ pub received_beside-more : (limit : ℕ) (looks : List Look) (look : Look) → 0
     → received_beside limit (looks ++ look ∷ []) ≡ received_beside limit looks ++ from_source look.0 (received_at look.1.moment (lines_by limit (rest_through limit (of_source look.0 looks)) look.1.piece))
 unfolding received_beside
 received_beside-more limit looks look some still =
-    received_beside_after-append limit [] looks (look ∷ [])
-    ∙ ap (λ t. received_beside_after limit [] looks ++ t) (append-nil (from_source look.0 (made_whole limit (of_source look.0 looks) look.1))
+    interleaved_lines_from-append limit [] looks (look ∷ [])
+    ∙ ap (λ t. interleaved_lines_from limit [] looks ++ t) (append-nil (from_source look.0 (made_whole limit (of_source look.0 looks) look.1))
     ∙ ap (from_source look.0) (made-whole limit (of_source look.0 looks) look.1 some still))
 
 -- what is left of a source that did not end
@@ -123,7 +123,7 @@ same_more limit one other more same n behind =
     ap (λ t. lines_through limit (t ++ behind)) (of_source-append n one more) ∙ ap (lines_through limit) (append_assoc (of_source n one) seen behind) ∙ same n (seen ++ behind)
     ∙ ap (lines_through limit) (sym (append_assoc (of_source n other) seen behind)) ∙ ap (λ t. lines_through limit (t ++ behind)) (sym (of_source-append n other more))
 
-same_behind : (limit : ℕ) (one other looks : List Look) → Same limit one other → received_beside_after limit one looks ≡ received_beside_after limit other looks
+same_behind : (limit : ℕ) (one other looks : List Look) → Same limit one other → interleaved_lines_from limit one looks ≡ interleaved_lines_from limit other looks
 same_behind limit one other [] same = refl
 same_behind limit one other (look ∷ looks) same =
     let n = look.0 in
@@ -195,14 +195,14 @@ module _ (limit n : ℕ) (before after : List Look) (moment earlier later : ℤ)
   pub beside-cut : 0 < limit → lines_of (received_beside limit (before ++ (n, first) ∷ (n, second) ∷ after)) ≡ lines_of (received_beside limit (before ++ (n, both) ∷ after))
   unfolding received_beside
   beside-cut some =
-      let fronts = received_beside_after limit [] before in
+      let fronts = interleaved_lines_from limit [] before in
       let one = from_source n (made_whole limit mine first) in
       let two = from_source n (made_whole limit (of_source n (before ++ (n, first) ∷ [])) second) in
       let whole = from_source n (made_whole limit mine both) in
-      let rest = received_beside_after limit ((before ++ (n, first) ∷ []) ++ (n, second) ∷ []) after in
-      let rest_one = received_beside_after limit (before ++ (n, both) ∷ []) after in
+      let rest = interleaved_lines_from limit ((before ++ (n, first) ∷ []) ++ (n, second) ∷ []) after in
+      let rest_one = interleaved_lines_from limit (before ++ (n, both) ∷ []) after in
       let rests : rest ≡ rest_one = same_behind limit ((before ++ (n, first) ∷ []) ++ (n, second) ∷ []) (before ++ (n, both) ∷ []) after same_after in
-      ap lines_of (received_beside_after-append limit [] before ((n, first) ∷ (n, second) ∷ after))
+      ap lines_of (interleaved_lines_from-append limit [] before ((n, first) ∷ (n, second) ∷ after))
       ∙ map-append line_from fronts (one ++ (two ++ rest))
       ∙ ap (λ t. lines_of fronts ++ t) (
       map-append line_from one (two ++ rest) ∙ ap (λ t. lines_of one ++ t) (map-append line_from two rest)
@@ -210,7 +210,7 @@ module _ (limit n : ℕ) (before after : List Look) (moment earlier later : ℤ)
       ∙ ap₂ (λ s t. s ++ t) (made_by_two some) (ap lines_of rests)
       ∙ sym (map-append line_from whole rest_one))
       ∙ sym (map-append line_from fronts (whole ++ rest_one))
-      ∙ sym (ap lines_of (received_beside_after-append limit [] before ((n, both) ∷ after)))
+      ∙ sym (ap lines_of (interleaved_lines_from-append limit [] before ((n, both) ∷ after)))
 
 -- ---- from what is left on
 

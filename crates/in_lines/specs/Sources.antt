@@ -21,14 +21,14 @@ from_source n xs = map (λ x. (n, x)) xs
 
 -- The lines that some looks made whole, where others were before them. Each look makes those whole that its poll makes whole among the polls of its own source, and
 -- so the lines stand in the order in which they became whole.
-abbrev pub received_beside_after : ℕ → List Look → List Look → List (ℕ × Received)
-received_beside_after limit before [] = []
-received_beside_after limit before (look ∷ looks) =
+abbrev pub interleaved_lines_from : ℕ → List Look → List Look → List (ℕ × Received)
+interleaved_lines_from limit before [] = []
+interleaved_lines_from limit before (look ∷ looks) =
     from_source look.0 (made_whole limit (of_source look.0 before) look.1)
-    ++ received_beside_after limit (before ++ look ∷ []) looks
+    ++ interleaved_lines_from limit (before ++ look ∷ []) looks
 
 unfoldable pub received_beside : ℕ → List Look → List (ℕ × Received)
-received_beside limit looks = received_beside_after limit [] looks
+received_beside limit looks = interleaved_lines_from limit [] looks
 
 -- a line and the number of its source, whatever the moment
 abbrev pub line_from : ℕ × Received → ℕ × List ℕ

@@ -1,3 +1,4 @@
+// The events of polls that are all there, as the definition says it: the plain way beside the inputs.
 ghost use Rattle.std.specs.Prelude.{◌≡◌, ◌<◌, ◌++◌, [], map, true, false, drop, length, ◌≤◌, if◌then◌else◌, IfOk, OnOk};
 ghost use Rattle.std.specs.String.{string_bytes};
 ghost use Rattle.in_lines.specs.Polls.{joined_with, ended_with, received_at};

@@ -1,3 +1,4 @@
+// The event of a line of text.
 ghost use Rattle.std.specs.Prelude.{◌≡◌, ◌≤◌, IfOk, OnOk, [], ◌∷◌, ◌++◌, codes, length};
 ghost use Rattle.plain_data.specs.Members.{AllBelow};
 ghost use Rattle.event_tree.specs.declared.value.Value.TheVariants as v;

@@ -1,3 +1,4 @@
+// An input that makes events of lines: stdin, or a generator.
 use crate::generator::Generator;
 use crate::settings::EventSettings;
 

@@ -11,11 +11,11 @@ mod by_poll;
 mod decoding;
 mod event;
 mod generator;
-mod got;
 mod input;
 mod laws;
 mod plain;
 mod poll;
+mod poll_outcome;
 mod row;
 mod sample;
 mod settings;
@@ -25,7 +25,6 @@ pub use decoding::{event_by_codec, event_of_bytes};
 pub use event::{LINE_LIMIT, event_of_line, line_event};
 pub use event_text::Options;
 pub use generator::{GeneratedLines, Generator, Progress};
-pub use got::{Got, PollFault};
 pub use input::LineInput;
 pub use laws::{
     cutting_a_piece_changes_no_line, cutting_a_piece_of_a_source_changes_no_line,
@@ -34,6 +33,7 @@ pub use laws::{
     one_place_is_behind_the_lines, received_lines_are_those_of_all_bytes,
 };
 pub use poll::{Piece, Poll};
+pub use poll_outcome::{Got, PollFault};
 pub use row::write_row;
 pub use sample::{next_number, sample_line};
 pub use settings::EventSettings;

@@ -1,3 +1,4 @@
+// A look at a source: what came, and when.
 use time_instant::Instant;
 
 /// What a look at a source found.

@@ -1,3 +1,4 @@
+// The row of an event as the codec `json_lines` writes it.
 ghost use Rattle.std.specs.Prelude.{◌≡◌, ◌++◌, OnOk, OnErr};
 ghost use Rattle.in_lines.specs.Rows.{row_of};
 

@@ -10,8 +10,8 @@ use Rattle.io_traits.specs.declared.links.Come.{Come}
 use Rattle.io_traits.specs.declared.links.Come.TheVariants.{Conn, NotYet, Ended}
 use Rattle.io_traits.specs.declared.links.Links.{Ghosts as LinksWords}
 use Rattle.io_traits.proofs.Causes.{cause_of}
-use Rattle.in_lines.specs.declared.got.PollFault.{PollFault}
-use Rattle.in_lines.specs.declared.got.PollFault.TheVariants.{Fault}
+use Rattle.in_lines.specs.declared.poll_outcome.PollFault.{PollFault}
+use Rattle.in_lines.specs.declared.poll_outcome.PollFault.TheVariants.{Fault}
 use Rattle.in_tcp.specs.Asks.{Answered, Looked, come_in, is_ended_come, most_open, over_or}
 
 fault_is : (r : Result Come Failed) → over_or r ≡ Err Fault → IsErr r

@@ -13,12 +13,12 @@ use Rattle.in_tcp.specs.Held.{GivesLine, HasNoNext, IsLast, IsNext, SameLines, l
 use Rattle.in_tcp.specs.Lines.{HasNoLine, IsWholeFirst, Part, line_limit}
 use Rattle.in_tcp.specs.Pieces.{IsFront, count_of, front_bytes, front_less, is_end, look_less, look_with, piece_less, piece_with}
 use Rattle.in_tcp.specs.Rests.{Becomes, bytes_of}
-use Rattle.in_tcp.specs.declared.held.Held.{Held}
-use Rattle.in_tcp.specs.declared.held.NextLine.{NextLine}
-use Rattle.in_tcp.specs.declared.pieces.Mark.{Mark}
-use Rattle.in_tcp.specs.declared.pieces.Gave.{Gave}
-use Rattle.in_tcp.specs.declared.pieces.Gave.TheVariants.{Bytes}
-use Rattle.in_tcp.specs.declared.pieces.Gave.TheVariants.{End as AtEnd}
+use Rattle.in_tcp.specs.declared.receive_buffer.ReceiveBuffer.{ReceiveBuffer}
+use Rattle.in_tcp.specs.declared.receive_buffer.NextLine.{NextLine}
+use Rattle.in_tcp.specs.declared.pieces.PieceRecord.{PieceRecord}
+use Rattle.in_tcp.specs.declared.pieces.ReadEvent.{ReadEvent}
+use Rattle.in_tcp.specs.declared.pieces.ReadEvent.TheVariants.{Bytes}
+use Rattle.in_tcp.specs.declared.pieces.ReadEvent.TheVariants.{End as AtEnd}
 use Rattle.in_tcp.proofs.Laying.{mark}
 use Rattle.in_tcp.proofs.Moving.{Lefts, Now, IsSame, Gives, same_first, given_first, no_look, over_lines, over_left, whole_lines_rest, whole_left_rest, none_lines, none_left, last_lines, end_lines}
 
@@ -34,9 +34,9 @@ raw_some : (line : RawLine) → IsRawLine line_limit line → 0 < length (line_b
 raw_some (Ended bytes) is = omega (arith, length-append bytes (10 ∷ []))
 raw_some (Full bytes) is = omega (arith, is.1)
 
-module _ (m : Mark) (bytes : List ℕ) (rest : List Look) where
+module _ (m : PieceRecord) (bytes : List ℕ) (rest : List Look) where
   -- the first piece is given up, which has no bytes
-  popped_as : (g : Gave) (lefts : Lefts) → bytes ≡ [] → HasNoLine (lefts m.conn) → (is_end g ≡ true → lefts m.conn ≡ []) → IsSame lefts (look_with (mark m g) bytes ∷ rest) lefts rest
+  popped_as : (g : ReadEvent) (lefts : Lefts) → bytes ≡ [] → HasNoLine (lefts m.conn) → (is_end g ≡ true → lefts m.conn ≡ []) → IsSame lefts (look_with (mark m g) bytes ∷ rest) lefts rest
   popped_as (Bytes n) lefts none free end =
       no_look lefts m.conn (record { moment = m.moment; piece = Came bytes }) rest
       (ap (λ b. made_by line_limit (lefts m.conn) (Came b)) none ∙ none_lines (lefts m.conn) free)
@@ -46,7 +46,7 @@ module _ (m : Mark) (bytes : List ℕ) (rest : List Look) where
       (ap (λ r. made_by line_limit r End) (end refl) ∙ end_lines) (sym (end refl))
 
   -- bytes of it go over to what was left
-  moved_as : (g : Gave) (old new : Lefts) (k : ℕ) → Now m.conn (old m.conn ++ take k bytes) old new → (is_end g ≡ true → bytes ≡ []) → IsSame old (look_with (mark m g) bytes ∷ rest) new (look_less k (look_with (mark m g) bytes) ∷ rest)
+  moved_as : (g : ReadEvent) (old new : Lefts) (k : ℕ) → Now m.conn (old m.conn ++ take k bytes) old new → (is_end g ≡ true → bytes ≡ []) → IsSame old (look_with (mark m g) bytes ∷ rest) new (look_less k (look_with (mark m g) bytes) ∷ rest)
   moved_as (Bytes n) old new k now end =
       same_first old new m.conn (old m.conn ++ take k bytes) (record { moment = m.moment; piece = Came bytes }) (record { moment = m.moment; piece = Came (drop k bytes) }) rest now refl
       (over_left (old m.conn) bytes k) (over_lines (old m.conn) bytes k)
@@ -56,7 +56,7 @@ module _ (m : Mark) (bytes : List ℕ) (rest : List Look) where
       (subst (λ b. Now m.conn b old new) none now) refl refl refl
 
   -- a whole line among what was left is given
-  rest_as : (g : Gave) (old new : Lefts) (line : RawLine) (taken : ℕ) → Now m.conn (drop taken (old m.conn)) old new → IsRawLine line_limit line → old m.conn ≡ line_bytes line ++ drop taken (old m.conn)
+  rest_as : (g : ReadEvent) (old new : Lefts) (line : RawLine) (taken : ℕ) → Now m.conn (drop taken (old m.conn)) old new → IsRawLine line_limit line → old m.conn ≡ line_bytes line ++ drop taken (old m.conn)
       → Gives old (look_with (mark m g) bytes ∷ rest) new (look_with (mark m g) bytes ∷ rest) (m.conn, record { line = line_text line; moment = m.moment })
   rest_as g old new line taken now is whole =
       let poll : Poll = record { moment = m.moment; piece = piece_with g bytes } in
@@ -64,7 +64,7 @@ module _ (m : Mark) (bytes : List ℕ) (rest : List Look) where
       (whole_left_rest line (old m.conn) (drop taken (old m.conn)) (piece_with g bytes) is whole) (line_text line) (whole_lines_rest line (old m.conn) (drop taken (old m.conn)) (piece_with g bytes) is whole)
 
   -- the line that the end makes is given
-  last_as : (g : Gave) (old new : Lefts) (taken : ℕ) → is_end g ≡ true → Now m.conn (drop taken (old m.conn)) old new → HasNoLine (old m.conn) → 0 < length (old m.conn) → taken ≡ length (old m.conn)
+  last_as : (g : ReadEvent) (old new : Lefts) (taken : ℕ) → is_end g ≡ true → Now m.conn (drop taken (old m.conn)) old new → HasNoLine (old m.conn) → 0 < length (old m.conn) → taken ≡ length (old m.conn)
       → Gives old (look_with (mark m g) bytes ∷ rest) new (look_with (mark m g) bytes ∷ rest) (m.conn, record { line = text_of (old m.conn); moment = m.moment })
   last_as (Bytes n) old new taken end now free some all = absurd (false≢true end)
   last_as AtEnd old new taken end now free some all =
@@ -74,7 +74,7 @@ module _ (m : Mark) (bytes : List ℕ) (rest : List Look) where
       (last_lines (old m.conn) free some ∙ ap (λ r. text_of (old m.conn) ∷ made_by line_limit r End) (sym none))
 
   -- a whole line of the piece is given, where nothing was left
-  piece_as : (g : Gave) (lefts : Lefts) (line : RawLine) (taken : ℕ) → lefts m.conn ≡ [] → (is_end g ≡ true → bytes ≡ []) → IsRawLine line_limit line → bytes ≡ line_bytes line ++ drop taken bytes
+  piece_as : (g : ReadEvent) (lefts : Lefts) (line : RawLine) (taken : ℕ) → lefts m.conn ≡ [] → (is_end g ≡ true → bytes ≡ []) → IsRawLine line_limit line → bytes ≡ line_bytes line ++ drop taken bytes
       → Gives lefts (look_with (mark m g) bytes ∷ rest) lefts (look_less taken (look_with (mark m g) bytes) ∷ rest) (m.conn, record { line = line_text line; moment = m.moment })
   piece_as (Bytes n) lefts line taken none end is whole =
       given_first lefts lefts m.conn (lefts m.conn) (record { moment = m.moment; piece = Came bytes }) (record { moment = m.moment; piece = Came (drop taken bytes) }) rest (now_same lefts m.conn) refl
@@ -86,7 +86,7 @@ module _ (m : Mark) (bytes : List ℕ) (rest : List Look) where
 
 -- ---- of what is held
 
-end_empty : (g : Gave) (looks : List Look) → length (front_bytes looks) ≡ count_of g → is_end g ≡ true → front_bytes looks ≡ []
+end_empty : (g : ReadEvent) (looks : List Look) → length (front_bytes looks) ≡ count_of g → is_end g ≡ true → front_bytes looks ≡ []
 end_empty (Bytes n) looks long end = absurd (false≢true end)
 end_empty AtEnd looks long end = no_length (front_bytes looks) long
   where
@@ -94,11 +94,11 @@ end_empty AtEnd looks long end = no_length (front_bytes looks) long
     no_length [] none = refl
     no_length (x ∷ xs) none = absurd (omega (arith, none))
 
-pub held_popped : (parts : List Part) (looks : List Look) (m : Mark) → IsFront looks m → front_bytes looks ≡ [] → HasNoLine (bytes_of parts m.conn) → (is_end m.gave ≡ true → bytes_of parts m.conn ≡ []) → IsSame (bytes_of parts) looks (bytes_of parts) (drop 1 looks)
+pub held_popped : (parts : List Part) (looks : List Look) (m : PieceRecord) → IsFront looks m → front_bytes looks ≡ [] → HasNoLine (bytes_of parts m.conn) → (is_end m.gave ≡ true → bytes_of parts m.conn ≡ []) → IsSame (bytes_of parts) looks (bytes_of parts) (drop 1 looks)
 held_popped parts looks m front none free end =
     subst (λ ls. IsSame (bytes_of parts) ls (bytes_of parts) (drop 1 looks)) (sym front.is) (popped_as m (front_bytes looks) (drop 1 looks) m.gave (bytes_of parts) none free end)
 
-pub held_moved : (old new : List Part) (looks : List Look) (m : Mark) (k : ℕ) → IsFront looks m → Becomes m.conn (bytes_of old m.conn ++ take k (front_bytes looks)) old new → IsSame (bytes_of old) looks (bytes_of new) (front_less k looks)
+pub held_moved : (old new : List Part) (looks : List Look) (m : PieceRecord) (k : ℕ) → IsFront looks m → Becomes m.conn (bytes_of old m.conn ++ take k (front_bytes looks)) old new → IsSame (bytes_of old) looks (bytes_of new) (front_less k looks)
 held_moved old new looks m k front becomes =
     subst (λ ls. IsSame (bytes_of old) ls (bytes_of new) (front_less k looks)) (sym front.is)
     (subst (λ ls. IsSame (bytes_of old) (look_with m (front_bytes looks) ∷ drop 1 looks) (bytes_of new) ls) (sym (ap (front_less k) front.is))
@@ -134,14 +134,14 @@ held_piece parts looks next front none w =
     (piece_as m (front_bytes looks) (drop 1 looks) m.gave (bytes_of parts) w.line next.taken none (end_empty m.gave looks front.long) w.is w.whole)))
 
 -- the same for the calls
-pub as_popped : (old new : Held) (m : Mark) → IsFront old.pieces m → front_bytes old.pieces ≡ [] → HasNoNext old m → new.rests ≡ old.rests → new.pieces ≡ drop 1 old.pieces → SameLines old new
+pub as_popped : (old new : ReceiveBuffer) (m : PieceRecord) → IsFront old.pieces m → front_bytes old.pieces ≡ [] → HasNoNext old m → new.rests ≡ old.rests → new.pieces ≡ drop 1 old.pieces → SameLines old new
 as_popped old new m front none next rests pieces =
     let same = held_popped old.rests old.pieces m front none next.rest next.end in record {
       lines = ap₂ (λ p l. lines_in p l) rests pieces ∙ same.0;
       lefts = λ n. ap₂ (λ p l. lefts_in p l n) rests pieces ∙ same.1 n;
     }
 
-pub as_moved : (old new : Held) (m : Mark) (k : ℕ) → IsFront old.pieces m → Becomes m.conn (bytes_of old.rests m.conn ++ take k (front_bytes old.pieces)) old.rests new.rests → new.pieces ≡ front_less k old.pieces → SameLines old new
+pub as_moved : (old new : ReceiveBuffer) (m : PieceRecord) (k : ℕ) → IsFront old.pieces m → Becomes m.conn (bytes_of old.rests m.conn ++ take k (front_bytes old.pieces)) old.rests new.rests → new.pieces ≡ front_less k old.pieces → SameLines old new
 as_moved old new m k front becomes pieces =
     let same = held_moved old.rests new.rests old.pieces m k front becomes in record {
       lines = ap (λ l. lines_in new.rests l) pieces ∙ same.0;
@@ -154,7 +154,7 @@ pub first_in : (next : NextLine) (rest piece : List ℕ) → next.in_rest ≡ tr
 first_in next rest piece is (inl w) = inl (subst (λ b. IsWholeFirst b next.content_len next.taken) (cond-true _ _ _ is) w)
 first_in next rest piece is (inr l) = inr (l.0, subst (λ b. IsLast b next.content_len next.taken) (cond-true _ _ _ is) l.2)
 
-pub in_rest_given : (old : Held) (rests : List Part) (next : NextLine) → IsNext old next → next.in_rest ≡ true → Becomes next.mark.conn (drop next.taken (bytes_of old.rests next.mark.conn)) old.rests rests → GivesLine old (record old { rests = rests }) next
+pub in_rest_given : (old : ReceiveBuffer) (rests : List Part) (next : NextLine) → IsNext old next → next.in_rest ≡ true → Becomes next.mark.conn (drop next.taken (bytes_of old.rests next.mark.conn)) old.rests rests → GivesLine old (record old { rests = rests }) next
 in_rest_given old rests next is there becomes =
     let g = held_rest old.rests rests old.pieces next is.front becomes (first_in next (bytes_of old.rests next.mark.conn) (front_bytes old.pieces) there is.first) in record {
       lines = g.0 ∙ ap (λ b. next_of next b ∷ lines_in rests old.pieces) (sym (cond-true _ _ _ there));
@@ -167,7 +167,7 @@ pub whole_in : (next : NextLine) (rest piece : List ℕ) → next.in_rest ≡ fa
 whole_in next rest piece is (inl w) = subst (λ b. IsWholeFirst b next.content_len next.taken) (cond-false _ _ _ is) w
 whole_in next rest piece is (inr l) = absurd (false≢true (sym is ∙ l.1))
 
-pub in_piece_given : (old : Held) (pieces : List Look) (next : NextLine) → IsNext old next → next.in_rest ≡ false → pieces ≡ front_less next.taken old.pieces → GivesLine old (record old { pieces = pieces }) next
+pub in_piece_given : (old : ReceiveBuffer) (pieces : List Look) (next : NextLine) → IsNext old next → next.in_rest ≡ false → pieces ≡ front_less next.taken old.pieces → GivesLine old (record old { pieces = pieces }) next
 in_piece_given old pieces next is there less =
     let g = held_piece old.rests old.pieces next is.front (is.none_left there) (whole_in next (bytes_of old.rests next.mark.conn) (front_bytes old.pieces) there is.first) in record {
       lines = g.0 ∙ ap₂ (λ b l. next_of next b ∷ lines_in old.rests l) (sym (cond-false _ _ _ there)) (sym less);
@@ -176,7 +176,7 @@ in_piece_given old pieces next is there less =
 
 -- ---- how much is to be done
 
-pub size_popped : (looks : List Look) (m : Mark) → IsFront looks m → size_of (drop 1 looks) < size_of looks
+pub size_popped : (looks : List Look) (m : PieceRecord) → IsFront looks m → size_of (drop 1 looks) < size_of looks
 size_popped looks m front = omega (arith, ap size_of front.is)
 
 pub size_moved : (looks : List Look) (k : ℕ) → 0 < k → k ≤ length (front_bytes looks) → size_of (front_less k looks) < size_of looks
@@ -188,5 +188,5 @@ size_moved ((conn, poll) ∷ looks) k some le = by poll.piece le
     by End le = absurd (omega (arith, some, le))
     by Nothing le = absurd (omega (arith, some, le))
 
-pub same_then : (one two three : Held) → SameLines one two → SameLines two three → SameLines one three
+pub same_then : (one two three : ReceiveBuffer) → SameLines one two → SameLines two three → SameLines one three
 same_then one two three first second = record { lines = second.lines ∙ first.lines; lefts = λ n. second.lefts n ∙ first.lefts n }

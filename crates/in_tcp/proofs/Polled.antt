@@ -11,9 +11,9 @@ use Rattle.io_traits.specs.declared.links.Links.{Ghosts as LinksWords}
 use Rattle.io_traits.specs.declared.links.Come.TheVariants.{Conn, NotYet, Ended}
 use Rattle.io_traits.proofs.Causes.{cause_of, cause_to}
 use Rattle.io_traits.proofs.Growth.{grows_then}
-use Rattle.in_lines.specs.declared.got.Got.{Got}
-use Rattle.in_lines.specs.declared.got.PollFault.{PollFault}
-use Rattle.in_lines.specs.declared.got.PollFault.TheVariants.{Fault, Memory}
+use Rattle.in_lines.specs.declared.poll_outcome.Got.{Got}
+use Rattle.in_lines.specs.declared.poll_outcome.PollFault.{PollFault}
+use Rattle.in_lines.specs.declared.poll_outcome.PollFault.TheVariants.{Fault, Memory}
 use Rattle.in_tcp.specs.Asks.{Answered, Asked, Full, HasRoom, IsCounted, Looked, Looks, NoRoom, answer_of, brought_by, came_in, is_over, most_open, places_of}
 use Rattle.in_tcp.specs.Held.{lefts_in, lines_in}
 use Rattle.in_tcp.specs.Inputs.{Answers, ReadAnswer, StaysSet, Tcp, WasPolled, got_by, got_in, lefts_of, lines_of, poll_answer}

@@ -12,8 +12,8 @@ use Rattle.in_tcp.specs.Pieces.{front_bytes}
 use Rattle.in_tcp.specs.Reads.{ReadEach, looks_by}
 use Rattle.in_tcp.specs.Rests.{bytes_of}
 use Rattle.in_tcp.specs.Took.{Took, is_none}
-use Rattle.in_tcp.specs.declared.held.Held.{Held}
-use Rattle.in_tcp.specs.declared.held.NextLine.{NextLine}
+use Rattle.in_tcp.specs.declared.receive_buffer.ReceiveBuffer.{ReceiveBuffer}
+use Rattle.in_tcp.specs.declared.receive_buffer.NextLine.{NextLine}
 use Rattle.in_tcp.specs.declared.polling.Connected.{Connected}
 use Rattle.in_tcp.proofs.Holding.{first_in, held_piece, held_rest, whole_in}
 
@@ -31,7 +31,7 @@ lefts_append lefts (x ∷ xs) ys n = lefts_append (left_after line_limit lefts x
 some_first : {X : Type 0} (xs ys : List X) (x : X) → xs ≡ x ∷ ys → is_none xs ≡ false
 some_first xs ys x is = ap is_none is
 
-next_some : (h : Held) (next : NextLine) → IsNext h next → is_none (lines_in h.rests h.pieces) ≡ false
+next_some : (h : ReceiveBuffer) (next : NextLine) → IsNext h next → is_none (lines_in h.rests h.pieces) ≡ false
 next_some h next is = by next.in_rest refl
   where
     by : (b : Bool) → next.in_rest ≡ b → is_none (lines_in h.rests h.pieces) ≡ false
@@ -41,7 +41,7 @@ next_some h next is = by next.in_rest refl
         ap is_none (held_rest h.rests new h.pieces next is.front (λ n. refl) (first_in next (bytes_of h.rests conn) (front_bytes h.pieces) there is.first)).0
     by false there = ap is_none (held_piece h.rests h.pieces next is.front (is.none_left there) (whole_in next (bytes_of h.rests next.mark.conn) (front_bytes h.pieces) there is.first)).0
 
-pub held_by : (h : Held) (r : Option NextLine) → IfSome r (λ n. IsNext h n) → IfNone r (h.pieces ≡ []) → is_some r ≡ not (is_none (lines_in h.rests h.pieces))
+pub held_by : (h : ReceiveBuffer) (r : Option NextLine) → IfSome r (λ n. IsNext h n) → IfNone r (h.pieces ≡ []) → is_some r ≡ not (is_none (lines_in h.rests h.pieces))
 held_by h (Some next) some none = ap not (sym (next_some h next some))
 held_by h None some none = ap not (sym (ap (λ l. is_none (lines_in h.rests l)) none))
 
@@ -68,5 +68,5 @@ module _ {L : Type 0} (links : LinksWords L) where
   took_short moment old mid new links_old links_new all result y is r rests connections same =
       subst (Took links moment old new links_old links_new) (sym is) (took_by moment old mid new links_old links_new all (Err y) r rests connections same (λ ok. absurd (false≢true ok)) tt)
 
-pub same_held : (h : Held) → SameLines h h
+pub same_held : (h : ReceiveBuffer) → SameLines h h
 same_held h = record { lines = refl; lefts = λ n. refl }

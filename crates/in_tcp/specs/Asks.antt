@@ -7,8 +7,8 @@ use Rattle.io_traits.specs.declared.faults.Failed.{Failed}
 use Rattle.io_traits.specs.declared.links.Come.{Come}
 use Rattle.io_traits.specs.declared.links.Come.TheVariants.{Conn, NotYet, Ended}
 use Rattle.io_traits.specs.declared.links.Links.{Ghosts as LinksWords}
-use Rattle.in_lines.specs.declared.got.PollFault.{PollFault}
-use Rattle.in_lines.specs.declared.got.PollFault.TheVariants.{Fault, Memory}
+use Rattle.in_lines.specs.declared.poll_outcome.PollFault.{PollFault}
+use Rattle.in_lines.specs.declared.poll_outcome.PollFault.TheVariants.{Fault, Memory}
 
 -- how many connections may be open
 abbrev pub most_open : ℕ

@@ -7,10 +7,10 @@ use Rattle.event_tree.specs.Events.{Ev}
 use Rattle.in_lines.specs.Decoding.{event_by}
 use Rattle.in_lines.specs.Polls.{Received}
 use Rattle.in_tcp.specs.Held.{lefts_in, lines_in}
-use Rattle.in_tcp.specs.declared.held.Held.{Held}
+use Rattle.in_tcp.specs.declared.receive_buffer.ReceiveBuffer.{ReceiveBuffer}
 
 -- it was given, and the others are held; none, where none is held, or where memory ran out
-pub record GaveHeld (codec : Codec) (old new : Held) (result : Result (Option Ev) AllocError) : Type 0 where
+pub record GaveHeld (codec : Codec) (old new : ReceiveBuffer) (result : Result (Option Ev) AllocError) : Type 0 where
   pub given : List (ℕ × Received)
   pub lines : lines_in old.rests old.pieces ≡ given ++ lines_in new.rests new.pieces
   pub lefts : (n : ℕ) → lefts_in new.rests new.pieces n ≡ lefts_in old.rests old.pieces n

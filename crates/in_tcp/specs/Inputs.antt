@@ -12,11 +12,11 @@ use Rattle.event_tree.specs.Events.{Ev}
 use Rattle.in_lines.specs.Decoding.{event_by}
 use Rattle.in_lines.specs.Polls.{Received}
 use Rattle.in_lines.specs.Sources.{Look, is_source_ended, left_of, made_from, of_source, received_beside}
-use Rattle.in_lines.specs.declared.got.Got.{Got}
-use Rattle.in_lines.specs.declared.got.Got.TheVariants.{Lines}
-use Rattle.in_lines.specs.declared.got.Got.TheVariants.{NotYet as NoLine, End as AtEnd}
-use Rattle.in_lines.specs.declared.got.PollFault.{PollFault}
-use Rattle.in_lines.specs.declared.got.PollFault.TheVariants.{Fault, Memory}
+use Rattle.in_lines.specs.declared.poll_outcome.Got.{Got}
+use Rattle.in_lines.specs.declared.poll_outcome.Got.TheVariants.{Lines}
+use Rattle.in_lines.specs.declared.poll_outcome.Got.TheVariants.{NotYet as NoLine, End as AtEnd}
+use Rattle.in_lines.specs.declared.poll_outcome.PollFault.{PollFault}
+use Rattle.in_lines.specs.declared.poll_outcome.PollFault.TheVariants.{Fault, Memory}
 use Rattle.in_tcp.specs.Asks.{Answered, Asked, Full, HasRoom, Looks, NoRoom, came_in, is_over, most_open}
 use Rattle.in_tcp.specs.Held.{lefts_in, lines_in}
 use Rattle.in_tcp.specs.Lines.{Part, line_limit}

@@ -1,3 +1,4 @@
+// The TCP input: polls its connections and gives their lines as events.
 ghost use Rattle.std.specs.Prelude.{◌≡◌, ℕ, [], IfOk};
 ghost use Rattle.in_tcp.specs.Inputs.{GaveNext, Stands, WasPolled, poll_answer};
 ghost use Rattle.in_tcp.specs.Reads.{AllCame};

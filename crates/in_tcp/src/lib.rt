@@ -4,13 +4,13 @@
 //! several sources beside each other are those of `in_lines`.
 #![tactic(auto)]
 
-mod held;
 mod input;
+mod partial_lines;
 mod pieces;
 mod polling;
 mod reading;
+mod receive_buffer;
 mod rest;
-mod rests;
 
 pub use input::TcpInput;
 pub use polling::CONNECTION_LIMIT;

@@ -1,3 +1,4 @@
+// Pieces that were read from connections, in one buffer.
 ghost use Rattle.std.specs.Prelude.{◌≡◌, ◌≤◌, ◌<◌, ◌+◌, ℕ, [], IfSome, IfNone, IfOk, OnOk, OnErr, length, take, drop, vec_len};
 ghost use Rattle.in_tcp.specs.Pieces.{IsFront, count_of, front_bytes, front_less, gave_in, gave_less, is_end};
 ghost use Rattle.in_tcp.specs.Reads.{TookRead};
@@ -15,33 +16,33 @@ const READ_LEN: usize = 65_536;
 
 /// What a read gave.
 #[derive(Clone, Copy)]
-pub(crate) enum Gave {
+pub(crate) enum ReadEvent {
     /// So many bytes.
     Bytes(usize),
     /// The end of the connection.
     End,
 }
 
-impl Gave {
+impl ReadEvent {
     // What a read with this answer gave, if it gave something.
-    fn of(step: Step) -> Option<Gave>
+    fn of(step: Step) -> Option<ReadEvent>
         ensures { result ≡ gave_in step }
     {
         match step {
-            Step::Bytes(count) => Some(Gave::Bytes(count)),
-            Step::End => Some(Gave::End),
+            Step::Bytes(count) => Some(ReadEvent::Bytes(count)),
+            Step::End => Some(ReadEvent::End),
             Step::NotYet => None,
         }
     }
 
     // The same with so many bytes less.
-    fn less(self, count: usize) -> Gave
+    fn less(self, count: usize) -> ReadEvent
         requires { count ≤ count_of self }
         ensures { result ≡ gave_less count self }
     {
         match self {
-            Gave::Bytes(had) => Gave::Bytes(had - count),
-            Gave::End => Gave::End,
+            ReadEvent::Bytes(had) => ReadEvent::Bytes(had - count),
+            ReadEvent::End => ReadEvent::End,
         }
     }
 
@@ -49,26 +50,26 @@ impl Gave {
         ensures { result ≡ count_of self }
     {
         match self {
-            Gave::Bytes(count) => count,
-            Gave::End => 0,
+            ReadEvent::Bytes(count) => count,
+            ReadEvent::End => 0,
         }
     }
 
     pub(crate) fn is_end(self) -> bool
         ensures { result ≡ is_end self }
     {
-        matches!(self, Gave::End)
+        matches!(self, ReadEvent::End)
     }
 }
 
 /// A piece that was read.
 #[derive(Clone, Copy)]
-pub(crate) struct Mark {
+pub(crate) struct PieceRecord {
     /// The number of its connection.
     pub conn: u32,
     /// The moment of the poll that read it.
     pub moment: Instant,
-    pub gave: Gave,
+    pub gave: ReadEvent,
 }
 
 /// The pieces that were read and are not cut into lines yet. Their bytes stand in one buffer, behind one another, into which all
@@ -80,7 +81,7 @@ pub(crate) struct Pieces {
     start: usize,
     /// Where those of the last end.
     end: usize,
-    marks: VecDeque<Mark>,
+    marks: VecDeque<PieceRecord>,
 }
 
 impl Model for Pieces {
@@ -108,7 +109,7 @@ impl Pieces {
     }
 
     /// The mark of the first piece.
-    pub(crate) fn front(&self) -> Option<Mark>
+    pub(crate) fn front(&self) -> Option<PieceRecord>
         ensures some { IfSome result (λ mark. IsFront self.now mark) }
         ensures none { IfNone result (self.now ≡ []) }
     {
@@ -124,8 +125,8 @@ impl Pieces {
     {
         match self.marks.front() {
             Some(mark) => match mark.gave {
-                Gave::Bytes(count) => &self.bytes[self.start..self.start + count],
-                Gave::End => &[],
+                ReadEvent::Bytes(count) => &self.bytes[self.start..self.start + count],
+                ReadEvent::End => &[],
             },
             None => &[],
         }
@@ -140,7 +141,7 @@ impl Pieces {
             return;
         };
         let gave = mark.gave.less(count);
-        self.marks.push_front_reserved(Mark { gave, ..mark });
+        self.marks.push_front_reserved(PieceRecord { gave, ..mark });
         self.start += count;
     }
 
@@ -172,11 +173,12 @@ impl Pieces {
         self.marks.reserve(1)?;
         make_room(&mut self.bytes, self.end)?;
         let step = read_behind(links, conn, self.end, &mut self.bytes);
-        let Some(gave) = Gave::of(step) else {
+        let Some(gave) = ReadEvent::of(step) else {
             return Ok(false);
         };
         self.end += gave.count();
-        self.marks.push_back_reserved(Mark { conn, moment, gave });
+        self.marks
+            .push_back_reserved(PieceRecord { conn, moment, gave });
         Ok(gave.is_end())
     }
 

@@ -5,7 +5,7 @@ ghost use Rattle.in_tcp.specs.Asks.{Looked};
 ghost use Rattle.in_tcp.specs.Reads.{AllCame, ReadEach, Rising};
 ghost use Rattle.in_tcp.specs.Took.{Took, is_none};
 
-use crate::held::Held;
+use crate::receive_buffer::ReceiveBuffer;
 use in_lines::PollFault;
 use io_traits::{Come, Links};
 use std::alloc::{AllocError, Global};
@@ -18,7 +18,7 @@ pub const CONNECTION_LIMIT: usize = 64;
 #[derive(Drop)]
 pub(crate) struct Connected {
     pub connections: Vec<u32>,
-    pub held: Held,
+    pub held: ReceiveBuffer,
 }
 
 impl Connected {
@@ -28,7 +28,7 @@ impl Connected {
     {
         Connected {
             connections: Vec::new(alloc),
-            held: Held::new(alloc),
+            held: ReceiveBuffer::new(alloc),
         }
     }
 

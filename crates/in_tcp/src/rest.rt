@@ -1,3 +1,4 @@
+// The bytes of one connection behind its last whole line.
 ghost use Rattle.std.specs.Prelude.{◌≡◌, ◌≤◌, ◌++◌, IfOk, IfSome, IfNone, OnOk, OnErr, length, take, drop};
 ghost use Rattle.in_tcp.specs.Lines.{IsWholeFirst, HasNoLine};
 

@@ -1,3 +1,4 @@
+// Events as they are printed: the message and the moment.
 use event_tree::{Event, Path, Value};
 use std::alloc::AllocError;
 

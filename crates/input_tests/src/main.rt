@@ -29,16 +29,16 @@ use std::{fs, io};
 
 /// What the rows of a table are.
 #[derive(Clone, Copy)]
-enum Table {
+enum InputTable {
     Reads,
     Stops,
     Paths,
 }
 
-const TABLES: [(&str, Table); 3] = [
-    ("reads", Table::Reads),
-    ("stops", Table::Stops),
-    ("paths", Table::Paths),
+const TABLES: [(&str, InputTable); 3] = [
+    ("reads", InputTable::Reads),
+    ("stops", InputTable::Stops),
+    ("paths", InputTable::Paths),
 ];
 
 fn main(rt: HostRuntime) -> io::Result<()> {
@@ -54,10 +54,10 @@ fn main(rt: HostRuntime) -> io::Result<()> {
     Ok(())
 }
 
-fn add_answer(to: &mut String, table: Table, row: &str) -> Result<(), AllocError> {
+fn add_answer(to: &mut String, table: InputTable, row: &str) -> Result<(), AllocError> {
     match table {
-        Table::Reads => reads::add_read(to, row),
-        Table::Stops => reads::add_stops(to, row),
-        Table::Paths => paths::add_watched(to, row),
+        InputTable::Reads => reads::add_read(to, row),
+        InputTable::Stops => reads::add_stops(to, row),
+        InputTable::Paths => paths::add_watched(to, row),
     }
 }

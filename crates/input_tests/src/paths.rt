@@ -1,9 +1,10 @@
+// The files that a path with `*` watches.
 use crate::words::{number, part};
 use in_file::watched_paths;
 use io_traits::{Files, ListFault};
 use plain_data::{Items, Names, Text};
 use std::alloc::{AllocError, Global};
-use store_disk::{MemoryFiles, Script, Showing, Table};
+use store_disk::{FileTable, MemoryFiles, Script, Showing};
 
 /// Adds the files that an input of a row's path watches.
 pub fn add_watched(to: &mut String, row: &str) -> Result<(), AllocError> {
@@ -48,7 +49,7 @@ fn names_of(alloc: Global, words: &str) -> Result<Names, AllocError> {
 }
 
 fn files_of(alloc: Global, words: &str, failing: u64) -> Result<MemoryFiles, AllocError> {
-    let mut files = Table::new(alloc);
+    let mut files = FileTable::new(alloc);
     for word in words.split_whitespace() {
         let _ = files.insert(Text::of(alloc, word)?, Items::new(alloc))?;
     }

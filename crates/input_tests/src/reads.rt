@@ -1,3 +1,4 @@
+// Polls of a watched file, and what may be recorded at each stop.
 use crate::calls::{PATH, SLOT, add_runs};
 use crate::words::{bytes_of, files_with, first_word, number, part};
 use in_file::FilePlan;
@@ -7,16 +8,16 @@ use std::alloc::{AllocError, Global};
 use store_disk::{Failed, MemoryFiles, MemoryStore, Script, Showing, Store};
 
 /// What a row is tried on.
-struct Case {
+struct ReadCase {
     store: MemoryStore,
     files: MemoryFiles,
     plan: FilePlan,
 }
 
 // Written out, so that it is one call wherever an error is handed on.
-impl Drop for Case {
+impl Drop for ReadCase {
     fn drop(self) {
-        let Case {
+        let ReadCase {
             store: _store,
             files: _files,
             plan: _,
@@ -87,7 +88,7 @@ fn recorded<S: Store>(store: &mut S) -> Result<Recorded, Failed> {
 }
 
 // What a row is tried on, and its runs.
-fn case_of(alloc: Global, row: &str) -> Result<(Case, &str), AllocError> {
+fn case_of(alloc: Global, row: &str) -> Result<(ReadCase, &str), AllocError> {
     let (words, row) = part(row);
     let (slots, row) = part(row);
     let (contents, runs) = part(row);
@@ -100,7 +101,7 @@ fn case_of(alloc: Global, row: &str) -> Result<(Case, &str), AllocError> {
         ends: mode == "read",
         codec: Codec::named(codec).unwrap_or(Codec::Plain),
     };
-    let case = Case {
+    let case = ReadCase {
         store: store_with(alloc, slots, number(of_store))?,
         files: files_of(alloc, contents, number(of_files))?,
         plan,

@@ -1,7 +1,8 @@
+// The words, numbers and bytes of a row.
 use hex;
 use plain_data::{Items, Text};
 use std::alloc::{AllocError, Global};
-use store_disk::Table;
+use store_disk::FileTable;
 
 /// What stands before the first bar, and what stands behind it.
 pub fn part(row: &str) -> (&str, &str) {
@@ -40,8 +41,8 @@ fn add_times(to: &mut Vec<u8>, count: u32, digits: &str) -> Result<(), AllocErro
 }
 
 /// Files of which one has these bytes, or none where there is no such file.
-pub fn files_with(alloc: Global, name: &str, digits: &str) -> Result<Table, AllocError> {
-    let mut files = Table::new(alloc);
+pub fn files_with(alloc: Global, name: &str, digits: &str) -> Result<FileTable, AllocError> {
+    let mut files = FileTable::new(alloc);
     if digits != "-" {
         let file = Items::from_vec(bytes_of(alloc, digits)?);
         let _ = files.insert(Text::of(alloc, name)?, file)?;

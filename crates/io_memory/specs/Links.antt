@@ -12,11 +12,11 @@ use Rattle.io_traits.specs.declared.sources.Step.TheVariants.{NotYet as NoneYet,
 use Rattle.io_memory.specs.Gave.{piece_of}
 use Rattle.io_memory.specs.Sources.{written_over}
 use Rattle.io_memory.specs.Scripts.{Course, worked, failed, waited, waits_next}
-use Rattle.io_memory.specs.declared.memory_links.Sent.{Sent}
+use Rattle.io_memory.specs.declared.memory_links.ConnectionEvent.{ConnectionEvent}
 use Rattle.io_memory.specs.declared.memory_links.ConnState.{ConnState}
 
 -- a piece with the number of its connection
-abbrev pub sent_of : Sent → ℕ × Piece
+abbrev pub sent_of : ConnectionEvent → ℕ × Piece
 sent_of s = (s.conn, piece_of s.gave)
 
 -- where looks were made, if that is told, how many connections come in all, those that came, the pieces that they gave, the pieces that are left, how often a look failed and found none, and the script

@@ -17,10 +17,10 @@ pub use list_clocks::ListClock;
 pub use list_controls::ListControl;
 pub use listing::list_in;
 pub use memory_files::{MemoryFiles, Showing};
-pub use memory_links::{ConnState, MemoryLinks, Sent};
+pub use memory_links::{ConnState, ConnectionEvent, MemoryLinks};
 pub use memory_sinks::MemorySink;
-pub use memory_sources::{Gave, MemorySource};
+pub use memory_sources::{MemorySource, SourceEvent};
 pub use scripts::Script;
 pub use tables::{
-    Table, append_in, bytes_in, copy, copy_from, cut_in, length_in, remove_in, write_in,
+    FileTable, append_in, bytes_in, copy, copy_from, cut_in, length_in, remove_in, write_in,
 };

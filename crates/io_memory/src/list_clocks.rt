@@ -1,3 +1,4 @@
+// A clock that gives the moments of a list.
 ghost use Rattle.std.specs.Prelude.{◌≡◌, ◌⊎◌, Some, None, [], IfOk, pos};
 ghost use Rattle.std.specs.Option.{option_map};
 

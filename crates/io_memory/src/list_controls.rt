@@ -1,3 +1,4 @@
+// A control that gives the answers of a list.
 ghost use Rattle.std.specs.Prelude.{◌≡◌, ◌⊎◌, Some, None, [], IfOk};
 ghost use Rattle.std.specs.Option.{option_map};
 

@@ -4,12 +4,12 @@ ghost use Rattle.io_traits.specs.Folders.{Lists, IsPart, folder_start};
 ghost use Rattle.io_memory.specs.Tables.{content_of};
 ghost use Rattle.io_memory.specs.Parts.{Takes, IsListed};
 
-use crate::tables::Table;
+use crate::tables::FileTable;
 use plain_data::{Items, Names, Text};
 use std::alloc::{AllocError, Global};
 
 /// The last parts of the names of the files in a folder, in byte order.
-pub fn list_in(files: &Table, alloc: Global, folder: &str) -> Result<Names, AllocError>
+pub fn list_in(files: &FileTable, alloc: Global, folder: &str) -> Result<Names, AllocError>
     ensures { IfOk result (λ names. Lists (content_of files.now) folder.now names) }
 {
     let start = start_of(alloc, folder)?;
@@ -17,7 +17,7 @@ pub fn list_in(files: &Table, alloc: Global, folder: &str) -> Result<Names, Allo
 }
 
 // The parts behind the start of all names that have one.
-fn parts_behind(files: &Table, alloc: Global, start: &str) -> Result<Names, AllocError>
+fn parts_behind(files: &FileTable, alloc: Global, start: &str) -> Result<Names, AllocError>
     ensures { IfOk result (λ names. IsListed start.now files.now names) }
 {
     let mut names = Items::new(alloc);

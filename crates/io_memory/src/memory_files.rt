@@ -1,3 +1,4 @@
+// Files in memory whose content changes between calls.
 ghost use Rattle.std.specs.Prelude.{◌≡◌, ◌≤◌, ◌↔◌, [], Err, true, IfOk, IsErr, IsTrue, length, option_map};
 ghost use Rattle.io_traits.specs.Folders.{Lists};
 ghost use Rattle.io_traits.specs.Reads.{GivesInto};
@@ -6,7 +7,7 @@ ghost use Rattle.io_memory.specs.Showings.{shown_from};
 
 use crate::listing::list_in;
 use crate::scripts::Script;
-use crate::tables::{Table, copy_from, length_in};
+use crate::tables::{FileTable, copy_from, length_in};
 use io_traits::{Failed, Files, ListFault};
 use plain_data::Names;
 use std::alloc::Global;
@@ -17,12 +18,12 @@ use std::marker::Model;
 pub struct Showing {
     /// The number of the first call that sees them, from 0.
     pub from: u64,
-    pub files: Table,
+    pub files: FileTable,
 }
 
 /// Files in memory that change between calls as others would change them, which it tells.
 pub struct MemoryFiles {
-    empty: Table,
+    empty: FileTable,
     contents: Vec<Showing>,
     script: Script,
 }
@@ -59,7 +60,7 @@ impl MemoryFiles {
         ensures { result ≡ record { contents = contents.items; script = script } }
     {
         MemoryFiles {
-            empty: Table::new(alloc),
+            empty: FileTable::new(alloc),
             contents,
             script,
         }
@@ -73,7 +74,7 @@ impl MemoryFiles {
     }
 
     // The files that the call of this number sees.
-    fn shown(&self, number: u64) -> &Table
+    fn shown(&self, number: u64) -> &FileTable
         ensures { content_of result.now ≡ shown_at self.now number }
     {
         shown_in(&self.empty, &self.contents, number)
@@ -125,7 +126,7 @@ impl MemoryFiles {
 }
 
 // The files that the call of this number sees.
-fn shown_in<'a>(empty: &'a Table, contents: &'a [Showing], number: u64) -> &'a Table
+fn shown_in<'a>(empty: &'a FileTable, contents: &'a [Showing], number: u64) -> &'a FileTable
     ensures { result.now ≡ shown_from empty.now contents.now number }
 {
     let mut shown = empty;

@@ -1,10 +1,11 @@
+// Connections in memory, which give listed pieces.
 ghost use Rattle.std.specs.Prelude.{◌≡◌, ◌≤◌, ◌<◌, Some, [], Ok, IfOk, IsErr, OnOk, OnErr, IsTrue, map, filter, length, take};
 ghost use Rattle.io_traits.specs.Counts.{HasCause, Rose, one_more};
 ghost use Rattle.io_traits.specs.Pieces.{End, bytes_in, gave, IfBytes};
 ghost use Rattle.io_memory.specs.Sources.{written_over};
 ghost use Rattle.io_memory.specs.Links.{sent_of, first_from};
 
-use crate::memory_sources::Gave;
+use crate::memory_sources::SourceEvent;
 use crate::scripts::Script;
 use crate::told_looks::ToldLooks;
 use io_traits::{Come, Failed, Links, Step};
@@ -15,10 +16,10 @@ use std::marker::Model;
 
 /// What a connection in memory gave, or is to give.
 #[derive(Drop)]
-pub struct Sent {
+pub struct ConnectionEvent {
     /// The number of the connection.
     pub conn: u32,
-    pub gave: Gave,
+    pub gave: SourceEvent,
 }
 
 /// How a connection in memory stands.
@@ -40,8 +41,8 @@ pub struct MemoryLinks {
     looks: ToldLooks,
     connections: u32,
     came: Vec<ConnState>,
-    given: Vec<Sent>,
-    left: VecDeque<Sent>,
+    given: Vec<ConnectionEvent>,
+    left: VecDeque<ConnectionEvent>,
     accept_faults: u64,
     accept_waits: u64,
     script: Script,
@@ -93,7 +94,7 @@ impl MemoryLinks {
     pub fn new(
         alloc: Global,
         connections: u32,
-        mut pieces: Vec<Sent>,
+        mut pieces: Vec<ConnectionEvent>,
         script: Script,
     ) -> MemoryLinks
         ensures { result
@@ -127,7 +128,7 @@ impl MemoryLinks {
     }
 
     /// The pieces that the connections gave, in their order.
-    pub fn given(&self) -> &[Sent]
+    pub fn given(&self) -> &[ConnectionEvent]
         ensures { map sent_of result.now ≡ self.now.given }
     {
         &self.given
@@ -243,8 +244,8 @@ impl MemoryLinks {
         }
         match self.left.front() {
             Some(sent) if sent.conn == conn => match &sent.gave {
-                Gave::Bytes(bytes) => Step::Bytes(room.min(bytes.len())),
-                Gave::End => Step::End,
+                SourceEvent::Bytes(bytes) => Step::Bytes(room.min(bytes.len())),
+                SourceEvent::End => Step::End,
             },
             _ => Step::NotYet,
         }
@@ -254,14 +255,15 @@ impl MemoryLinks {
     fn take_off(&mut self, count: usize)
         ensures { self.new ≡ record self.old { left = taken_off count self.old.left } }
     {
-        let Some(Sent { conn, gave }) = self.left.pop_front() else {
+        let Some(ConnectionEvent { conn, gave }) = self.left.pop_front() else {
             return;
         };
-        if let Gave::Bytes(mut bytes) = gave {
+        if let SourceEvent::Bytes(mut bytes) = gave {
             if count < bytes.len() {
                 drop(bytes.drain(..count));
-                let gave = Gave::Bytes(bytes);
-                self.left.push_front_reserved(Sent { conn, gave });
+                let gave = SourceEvent::Bytes(bytes);
+                self.left
+                    .push_front_reserved(ConnectionEvent { conn, gave });
             }
         }
     }
@@ -278,8 +280,8 @@ impl MemoryLinks {
     {
         let bytes = &first_bytes(&self.left, conn)[..count];
         let copy = Vec::from_slice(*self.given.allocator(), bytes)?;
-        let gave = Gave::Bytes(copy);
-        if self.given.push(Sent { conn, gave }).is_err() {
+        let gave = SourceEvent::Bytes(copy);
+        if self.given.push(ConnectionEvent { conn, gave }).is_err() {
             return Err(AllocError);
         }
         into[..count].copy_from_slice(bytes);
@@ -292,8 +294,8 @@ impl MemoryLinks {
         ensures state { OnOk result (self.new ≡ after_step self.old conn Step.End) }
         ensures err { OnErr result (self.new ≡ self.old) }
     {
-        let gave = Gave::End;
-        if self.given.push(Sent { conn, gave }).is_err() {
+        let gave = SourceEvent::End;
+        if self.given.push(ConnectionEvent { conn, gave }).is_err() {
             return Err(AllocError);
         }
         self.shut(conn);
@@ -430,19 +432,19 @@ impl MemoryLinks {
 }
 
 // The bytes of the first piece, where it is one of this connection.
-fn first_bytes(left: &VecDeque<Sent>, conn: u32) -> &[u8]
+fn first_bytes(left: &VecDeque<ConnectionEvent>, conn: u32) -> &[u8]
     ensures { result.now ≡ bytes_in (first_from conn (map sent_of left.now.items)) }
 {
     match left.front() {
         Some(sent) if sent.conn == conn => match &sent.gave {
-            Gave::Bytes(bytes) => bytes,
-            Gave::End => &[],
+            SourceEvent::Bytes(bytes) => bytes,
+            SourceEvent::End => &[],
         },
         _ => &[],
     }
 }
 
-impl Sent {
+impl ConnectionEvent {
     ghost use Rattle.io_memory.specs.Links.{sent_of, is_full};
 
     // Whether it has bytes, or is an end.
@@ -450,8 +452,8 @@ impl Sent {
         ensures { result ≡ is_full (sent_of self.now) }
     {
         match &self.gave {
-            Gave::Bytes(bytes) => !bytes.is_empty(),
-            Gave::End => true,
+            SourceEvent::Bytes(bytes) => !bytes.is_empty(),
+            SourceEvent::End => true,
         }
     }
 }

@@ -1,3 +1,4 @@
+// A sink that keeps the bytes that it takes.
 ghost use Rattle.std.specs.Prelude.{◌≡◌, ◌≤◌, ◌<◌, ◌↔◌, Some, [], IfOk, IsErr, IsTrue, max, min, length, take};
 
 use crate::scripts::Script;

@@ -1,3 +1,4 @@
+// A source of bytes in memory, and what its reads gave.
 ghost use Rattle.std.specs.Prelude.{◌≡◌, ◌≢◌, ◌≤◌, ◌<◌, ◌↔◌, Some, [], Ok, IfOk, IsErr, IsTrue, max, map, length, drop};
 ghost use Rattle.io_traits.specs.Pieces.{IfBytes};
 
@@ -8,7 +9,7 @@ use std::marker::Model;
 
 /// What a source in memory gave: bytes, or its end.
 #[derive(Drop)]
-pub enum Gave {
+pub enum SourceEvent {
     Bytes(Vec<u8>),
     End,
 }
@@ -18,7 +19,7 @@ pub struct MemorySource {
     bytes: Vec<u8>,
     at: usize,
     most: usize,
-    given: Vec<Gave>,
+    given: Vec<SourceEvent>,
     script: Script,
 }
 
@@ -81,7 +82,7 @@ impl MemorySource {
     }
 
     /// The pieces that it gave, in their order.
-    pub fn given(&self) -> &[Gave]
+    pub fn given(&self) -> &[SourceEvent]
         ensures { map piece_of result.now ≡ self.now.given }
     {
         &self.given
@@ -121,7 +122,7 @@ impl MemorySource {
         }
         let left = &self.bytes[self.at..];
         if left.is_empty() {
-            if self.given.push(Gave::End).is_err() {
+            if self.given.push(SourceEvent::End).is_err() {
                 return Err(self.script.fail());
             }
             return Ok(Step::End);
@@ -131,7 +132,7 @@ impl MemorySource {
         let Ok(copy) = Vec::from_slice(*self.given.allocator(), piece) else {
             return Err(self.script.fail());
         };
-        if self.given.push(Gave::Bytes(copy)).is_err() {
+        if self.given.push(SourceEvent::Bytes(copy)).is_err() {
             return Err(self.script.fail());
         }
         into[..count].copy_from_slice(piece);

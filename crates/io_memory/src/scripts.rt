@@ -1,3 +1,4 @@
+// Which calls of an object in memory fail or find nothing, by their numbers.
 ghost use Rattle.std.specs.Prelude.{◌≡◌, ◌≤◌, ◌↔◌, [], Ok, false, IfOk, IsErr, IsTrue, not};
 ghost use Rattle.io_traits.specs.Counts.{HasCause, Rose, one_more};
 

@@ -8,11 +8,11 @@ use plain_data::{Fields, Items, Text};
 use std::alloc::{AllocError, Global};
 
 /// Files by their names, which rise in byte order.
-pub type Table = Fields<Items<u8>>;
+pub type FileTable = Fields<Items<u8>>;
 
 /// Writes bytes behind the end of a file, and makes a missing one. Where there is no memory, the
 /// files stay.
-pub fn append_in(files: &mut Table, name: &str, bytes: &[u8]) -> Result<(), AllocError>
+pub fn append_in(files: &mut FileTable, name: &str, bytes: &[u8]) -> Result<(), AllocError>
     ensures ok { OnOk result (Changed name.now (lengthened bytes.now) files.old files.new) }
     ensures err { OnErr result (IsSame files.old files.new) }
 {
@@ -27,7 +27,7 @@ pub fn append_in(files: &mut Table, name: &str, bytes: &[u8]) -> Result<(), Allo
 
 /// Writes bytes over those of a file, and makes a missing one. Where there is no memory, the files
 /// stay.
-pub fn write_in(files: &mut Table, name: &str, at: u64, bytes: &[u8]) -> Result<(), AllocError>
+pub fn write_in(files: &mut FileTable, name: &str, at: u64, bytes: &[u8]) -> Result<(), AllocError>
     ensures ok { OnOk result (Changed name.now (overwritten at bytes.now) files.old files.new) }
     ensures err { OnErr result (IsSame files.old files.new) }
 {
@@ -54,7 +54,7 @@ fn overlay(alloc: Global, old: &[u8], at: u64, bytes: &[u8]) -> Result<Vec<u8>, 
 }
 
 /// Cuts a file to a length. A missing one stays missing.
-pub fn cut_in(files: &mut Table, name: &str, length: u64)
+pub fn cut_in(files: &mut FileTable, name: &str, length: u64)
     ensures { Changed name.now (option_map (take length)) files.old files.new }
 {
     if let Some(file) = files.get_mut(name) {
@@ -63,7 +63,7 @@ pub fn cut_in(files: &mut Table, name: &str, length: u64)
 }
 
 /// Removes a file, if there is one.
-pub fn remove_in(files: &mut Table, name: &str)
+pub fn remove_in(files: &mut FileTable, name: &str)
     ensures { Changed name.now (λ _. None) files.old files.new }
 {
     // So it is known that the names rise, each below those that follow.
@@ -72,7 +72,7 @@ pub fn remove_in(files: &mut Table, name: &str)
 }
 
 /// The bytes of a file; None where there is no such file.
-pub fn bytes_in<'a>(files: &'a Table, name: &str) -> Option<&'a [u8]>
+pub fn bytes_in<'a>(files: &'a FileTable, name: &str) -> Option<&'a [u8]>
     ensures { option_map (λ bytes. bytes.now) result ≡ content_of files.now name.now }
 {
     match files.get(name) {
@@ -82,7 +82,7 @@ pub fn bytes_in<'a>(files: &'a Table, name: &str) -> Option<&'a [u8]>
 }
 
 /// The length of a file; None where there is no such file.
-pub fn length_in(files: &Table, name: &str) -> Option<u64>
+pub fn length_in(files: &FileTable, name: &str) -> Option<u64>
     ensures { result ≡ option_map length (content_of files.now name.now) }
 {
     match bytes_in(files, name) {
@@ -93,7 +93,7 @@ pub fn length_in(files: &Table, name: &str) -> Option<u64>
 
 /// Copies the bytes of a file from the place `at` on into the front of the room, as many as stand
 /// there and there is room for, and says how many.
-pub fn copy_from(files: &Table, name: &str, at: u64, into: &mut [u8]) -> usize
+pub fn copy_from(files: &FileTable, name: &str, at: u64, into: &mut [u8]) -> usize
     ensures within { result ≤ length into.old }
     ensures gives { Gives (content_of files.now name.now) at (length into.old) result into.new }
 {
@@ -115,7 +115,7 @@ fn copy_part(bytes: &[u8], at: u64, into: &mut [u8]) -> usize
 }
 
 /// The same files, in memory of their own.
-pub fn copy(files: &Table) -> Result<Table, AllocError>
+pub fn copy(files: &FileTable) -> Result<FileTable, AllocError>
     ensures { IfOk result (λ copy. copy ≡ files.now) }
 {
     files.clone()

@@ -1,3 +1,4 @@
+// A store over the files of the machine.
 ghost use Rattle.std.specs.Prelude.{◌≡◌, ◌≤◌, ◌||◌, true, false, None, Err, IfOk, IsErr, is_err, length};
 ghost use Rattle.std.proofs.lemmas.Bool.{false≢true};
 ghost use Rattle.io_traits.specs.Counts.{HasCause};

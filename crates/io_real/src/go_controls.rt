@@ -1,3 +1,4 @@
+// A control that never stops, and asks for a look every few seconds.
 ghost use Rattle.std.specs.Prelude.{◌≢◌, None};
 
 use io_traits::{Control, Said};

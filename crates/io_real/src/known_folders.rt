@@ -10,7 +10,7 @@ use std::rt::Files;
 
 /// What is known of a folder.
 #[derive(Drop)]
-struct Known {
+struct KnownFolder {
     /// Whether it is there, and nothing from before this object is unsynced of it.
     is_settled: bool,
     /// Whether its files are the store's own.
@@ -25,7 +25,7 @@ struct Known {
 #[derive(Drop)]
 pub struct KnownFolders {
     alloc: Global,
-    folders: Fields<Known>,
+    folders: Fields<KnownFolder>,
     // Whether a sync of a folder failed outside of a call of `sync`.
     is_lost: bool,
 }
@@ -60,7 +60,7 @@ impl KnownFolders {
     }
 
     /// Takes the files of a folder for the store's own.
-    pub fn own(&mut self, folder: &str) -> io::Result<()> {
+    pub fn claim_folder(&mut self, folder: &str) -> io::Result<()> {
         self.known(folder)?.is_own = true;
         Ok(())
     }
@@ -139,10 +139,10 @@ impl KnownFolders {
     }
 
     // What is known of a folder.
-    fn known(&mut self, folder: &str) -> io::Result<&mut Known> {
+    fn known(&mut self, folder: &str) -> io::Result<&mut KnownFolder> {
         if !self.folders.contains_key(folder) {
             let name = Text::of(self.alloc, folder)?;
-            let unknown = Known {
+            let unknown = KnownFolder {
                 is_settled: false,
                 is_own: false,
                 changed: Cell::new(false),

@@ -17,7 +17,7 @@ const MOST_KEPT: usize = 32;
 
 /// A file that is open.
 #[derive(Drop)]
-struct Opened {
+struct OpenedFile {
     file: File,
     /// Whether it is open for writing too.
     is_writable: bool,
@@ -27,7 +27,7 @@ struct Opened {
     changed: Cell<bool>,
 }
 
-impl Opened {
+impl OpenedFile {
     fn end(&mut self) -> io::Result<u64> {
         if let Some(length) = self.length {
             return Ok(length);
@@ -72,7 +72,7 @@ impl Opened {
 #[derive(Drop)]
 pub struct OpenedFiles {
     alloc: Global,
-    files: Fields<Opened>,
+    files: Fields<OpenedFile>,
     // The files of which nothing from before this object is unsynced: those that it synced or made.
     settled: Fields<()>,
     folders: KnownFolders,
@@ -99,7 +99,7 @@ impl OpenedFiles {
         folder: &str,
     ) -> io::Result<Names> {
         let folder = listed_folder(folder);
-        self.folders.own(folder)?;
+        self.folders.claim_folder(folder)?;
         if self.folders.settle(rt, folder)? {
             names_in(rt, alloc, folder)
         } else {
@@ -314,7 +314,7 @@ impl OpenedFiles {
             self.close_one()?;
         }
         let name = Text::of(self.alloc, name)?;
-        let opened = Opened {
+        let opened = OpenedFile {
             file,
             is_writable,
             length: None,
@@ -326,7 +326,7 @@ impl OpenedFiles {
 
     // Closes a file: one that didn't change since the last sync, or else one that is synced first.
     fn close_one(&mut self) -> io::Result<()> {
-        let Some(name) = self.least_needed()? else {
+        let Some(name) = self.eviction_candidate()? else {
             return Ok(());
         };
         if let Some(opened) = self.files.get(name.as_str()) {
@@ -338,7 +338,7 @@ impl OpenedFiles {
         Ok(())
     }
 
-    fn least_needed(&self) -> io::Result<Option<Text>> {
+    fn eviction_candidate(&self) -> io::Result<Option<Text>> {
         let files = self.files.members();
         for (name, opened) in files {
             if !opened.changed.get() {

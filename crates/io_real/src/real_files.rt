@@ -1,3 +1,4 @@
+// Files of the machine that other programs write.
 ghost use Rattle.std.specs.Prelude.{◌≡◌, ◌≤◌, false, None, Err, IfOk, IsErr, length};
 ghost use Rattle.io_traits.specs.Counts.{HasCause};
 ghost use Rattle.io_real.specs.Adapters.{called, called_list};

@@ -1,3 +1,4 @@
+// A source over a reader such as stdin.
 ghost use Rattle.std.specs.Prelude.{◌≡◌, ◌≤◌, ◌<◌, None, Ok, IsErr, length};
 ghost use Rattle.io_traits.specs.Counts.{HasCause};
 ghost use Rattle.std.specs.Io.KnownBytes.{Consumes, IsAtEnd};

@@ -1,3 +1,4 @@
+// The clock of the system.
 ghost use Rattle.std.specs.Prelude.{◌≡◌, None, pos};
 
 use io_traits::Clock;

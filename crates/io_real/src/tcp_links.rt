@@ -1,3 +1,4 @@
+// TCP connections that other programs make to this machine.
 ghost use Rattle.std.specs.Prelude.{◌≡◌, ◌≤◌, ◌<◌, ◌+◌, ◌^◌, None, Ok, false, IsErr, OnOk, OnErr, [], length};
 ghost use Rattle.io_traits.specs.Connections.{IsNumbered};
 ghost use Rattle.io_traits.specs.Counts.{HasCause};

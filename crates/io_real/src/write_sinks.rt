@@ -1,3 +1,4 @@
+// A sink over a buffered writer such as stdout.
 ghost use Rattle.std.specs.Prelude.{◌≡◌, ◌≤◌, ◌<◌, None, IfOk, IsErr, length};
 ghost use Rattle.std.specs.Io.KnownBytes.{Keeps, WriteAppends};
 ghost use Rattle.io_traits.specs.Counts.{HasCause};

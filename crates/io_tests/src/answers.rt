@@ -6,7 +6,7 @@ use store_disk::{Failed, ListFault};
 
 /// What a call answered.
 #[derive(Drop)]
-pub enum Answer {
+pub enum CallAnswer {
     Done,
     Failed,
     None,
@@ -17,17 +17,17 @@ pub enum Answer {
     Line(String),
 }
 
-impl Display for Answer {
+impl Display for CallAnswer {
     fn fmt<W: Write>(&self, f: &mut Formatter<W>) -> fmt::Result {
         match self {
-            Answer::Done => f.write_str("done"),
-            Answer::Failed => f.write_str("failed"),
-            Answer::None => f.write_str("none"),
-            Answer::Number(number) => write!(f, "{number}"),
-            Answer::Names(names) => write_names(f, names),
-            Answer::Bytes(bytes) => f.write_str(str::from_utf8(bytes).unwrap_or("no text")),
-            Answer::Text(text) => f.write_str(text),
-            Answer::Line(line) => f.write_str(line.as_str()),
+            CallAnswer::Done => f.write_str("done"),
+            CallAnswer::Failed => f.write_str("failed"),
+            CallAnswer::None => f.write_str("none"),
+            CallAnswer::Number(number) => write!(f, "{number}"),
+            CallAnswer::Names(names) => write_names(f, names),
+            CallAnswer::Bytes(bytes) => f.write_str(str::from_utf8(bytes).unwrap_or("no text")),
+            CallAnswer::Text(text) => f.write_str(text),
+            CallAnswer::Line(line) => f.write_str(line.as_str()),
         }
     }
 }
@@ -39,45 +39,45 @@ fn write_names<W: Write>(f: &mut Formatter<W>, names: &Names) -> fmt::Result {
     f.write_str("in all")
 }
 
-impl Answer {
-    pub fn done(outcome: Result<(), Failed>) -> Answer {
+impl CallAnswer {
+    pub fn done(outcome: Result<(), Failed>) -> CallAnswer {
         match outcome {
-            Ok(()) => Answer::Done,
-            Err(Failed) => Answer::Failed,
+            Ok(()) => CallAnswer::Done,
+            Err(Failed) => CallAnswer::Failed,
         }
     }
 
-    pub fn made(outcome: io::Result<()>) -> Answer {
+    pub fn made(outcome: io::Result<()>) -> CallAnswer {
         if outcome.is_ok() {
-            Answer::Done
+            CallAnswer::Done
         } else {
-            Answer::Failed
+            CallAnswer::Failed
         }
     }
 
-    pub fn length(outcome: Result<Option<u64>, Failed>) -> Answer {
+    pub fn length(outcome: Result<Option<u64>, Failed>) -> CallAnswer {
         match outcome {
-            Ok(Some(length)) => Answer::Number(length),
-            Ok(None) => Answer::None,
-            Err(Failed) => Answer::Failed,
+            Ok(Some(length)) => CallAnswer::Number(length),
+            Ok(None) => CallAnswer::None,
+            Err(Failed) => CallAnswer::Failed,
         }
     }
 
-    pub fn names(outcome: Result<Names, ListFault>) -> Answer {
+    pub fn names(outcome: Result<Names, ListFault>) -> CallAnswer {
         match outcome {
-            Ok(names) => Answer::Names(names),
-            Err(_) => Answer::Failed,
+            Ok(names) => CallAnswer::Names(names),
+            Err(_) => CallAnswer::Failed,
         }
     }
 
     /// The bytes at the front of a room that were read.
-    pub fn read(mut room: Vec<u8>, outcome: Result<usize, Failed>) -> Answer {
+    pub fn read(mut room: Vec<u8>, outcome: Result<usize, Failed>) -> CallAnswer {
         match outcome {
             Ok(count) => {
                 room.truncate(count);
-                Answer::Bytes(room)
+                CallAnswer::Bytes(room)
             }
-            Err(Failed) => Answer::Failed,
+            Err(Failed) => CallAnswer::Failed,
         }
     }
 }

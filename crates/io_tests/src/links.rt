@@ -1,5 +1,5 @@
 // Calls of connections, and what those do that make them.
-use crate::answers::Answer;
+use crate::answers::CallAnswer;
 use crate::words::{first_word, number};
 use std::alloc::Global;
 use std::io::{self, Write};
@@ -48,10 +48,10 @@ impl Peers {
 }
 
 /// What a call of those answers that make connections.
-pub fn peers_answer(rt: &HostRuntime, peers: &mut Peers, call: &str) -> io::Result<Answer> {
+pub fn peers_answer(rt: &HostRuntime, peers: &mut Peers, call: &str) -> io::Result<CallAnswer> {
     let (call, rest) = first_word(call);
     let (host, rest) = first_word(rest);
-    Ok(Answer::made(match call {
+    Ok(CallAnswer::made(match call {
         "port" => find_port(rt, peers, host),
         "hold" => hold_port(rt, peers, host),
         "connect" => connect(rt, peers, host, rest),
@@ -97,7 +97,7 @@ pub fn links_answer(
     links: &mut TcpLinks<&HostRuntime>,
     peers: &Peers,
     call: &str,
-) -> io::Result<Answer> {
+) -> io::Result<CallAnswer> {
     let (call, rest) = first_word(call);
     let (word, rest) = first_word(rest);
     match call {
@@ -105,11 +105,11 @@ pub fn links_answer(
         "read" => read(rt, links, connection(word), number(rest)),
         "close" => {
             links.close(connection(word));
-            Ok(Answer::Done)
+            Ok(CallAnswer::Done)
         }
-        "faults" => Ok(Answer::Number(links.accept_faults())),
-        "waits" => Ok(Answer::Number(links.accept_waits())),
-        _ => Ok(Answer::Number(links.came())),
+        "faults" => Ok(CallAnswer::Number(links.accept_faults())),
+        "waits" => Ok(CallAnswer::Number(links.accept_waits())),
+        _ => Ok(CallAnswer::Number(links.came())),
     }
 }
 
@@ -118,12 +118,12 @@ fn connection(word: &str) -> u32 {
     word.parse().unwrap_or(0)
 }
 
-fn come(outcome: Result<Come, Failed>) -> Answer {
+fn come(outcome: Result<Come, Failed>) -> CallAnswer {
     match outcome {
-        Ok(Come::Conn(number)) => Answer::Number(u64::from(number)),
-        Ok(Come::NotYet) => Answer::None,
-        Ok(Come::Ended) => Answer::Text("ended"),
-        Err(Failed) => Answer::Failed,
+        Ok(Come::Conn(number)) => CallAnswer::Number(u64::from(number)),
+        Ok(Come::NotYet) => CallAnswer::None,
+        Ok(Come::Ended) => CallAnswer::Text("ended"),
+        Err(Failed) => CallAnswer::Failed,
     }
 }
 
@@ -133,17 +133,17 @@ fn read(
     links: &mut TcpLinks<&HostRuntime>,
     conn: u32,
     size: u64,
-) -> io::Result<Answer> {
+) -> io::Result<CallAnswer> {
     for _ in 0..PATIENCE {
         let mut room = vec![in rt.alloc(); b'-'; size as usize]?;
         match read_once(links, conn, &mut room) {
             Ok(Step::NotYet) => thread::sleep(rt, Duration::from_millis(1)),
-            Ok(Step::Bytes(count)) => return Ok(Answer::read(room, Ok(count))),
-            Ok(Step::End) => return Ok(Answer::Text("end")),
-            Err(Failed) => return Ok(Answer::Failed),
+            Ok(Step::Bytes(count)) => return Ok(CallAnswer::read(room, Ok(count))),
+            Ok(Step::End) => return Ok(CallAnswer::Text("end")),
+            Err(Failed) => return Ok(CallAnswer::Failed),
         }
     }
-    Ok(Answer::None)
+    Ok(CallAnswer::None)
 }
 
 fn read_once(

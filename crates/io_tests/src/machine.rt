@@ -1,23 +1,23 @@
 // What other programs do with files.
-use crate::answers::Answer;
+use crate::answers::CallAnswer;
 use crate::words::{first_word, number};
 use std::fs::{self, File};
 use std::io;
 use std::os::unix::fs::symlink;
 
 /// Does what a call says, and answers whether that worked.
-pub fn machine_answer(rt: &HostRuntime, call: &str) -> io::Result<Answer> {
+pub fn machine_answer(rt: &HostRuntime, call: &str) -> io::Result<CallAnswer> {
     let (call, rest) = first_word(call);
     let (name, rest) = first_word(rest);
     match call {
-        "folder" => Ok(Answer::made(fs::create_dir_all(rt, name))),
-        "file" => Ok(Answer::made(fs::write(rt, name, rest.as_bytes()))),
+        "folder" => Ok(CallAnswer::made(fs::create_dir_all(rt, name))),
+        "file" => Ok(CallAnswer::made(fs::write(rt, name, rest.as_bytes()))),
         "files" => make_files(rt, name, number(rest)),
-        "link" => Ok(Answer::made(symlink(rt, rest, name))),
-        "move" => Ok(Answer::made(fs::rename(rt, name, rest))),
-        "remove" => Ok(Answer::made(remove(rt, name))),
+        "link" => Ok(CallAnswer::made(symlink(rt, rest, name))),
+        "move" => Ok(CallAnswer::made(fs::rename(rt, name, rest))),
+        "remove" => Ok(CallAnswer::made(remove(rt, name))),
         "handles" => handles(rt, number(name)),
-        "there" => Ok(Answer::made(fs::symlink_metadata(rt, name).map(|_| ()))),
+        "there" => Ok(CallAnswer::made(fs::symlink_metadata(rt, name).map(|_| ()))),
         _ => show(rt, name),
     }
 }
@@ -32,29 +32,29 @@ fn remove(rt: &HostRuntime, name: &str) -> io::Result<()> {
 }
 
 // Makes so many files of two bytes in a folder.
-fn make_files(rt: &HostRuntime, folder: &str, count: u64) -> io::Result<Answer> {
+fn make_files(rt: &HostRuntime, folder: &str, count: u64) -> io::Result<CallAnswer> {
     for i in 0..count {
         let name = format!(in rt.alloc(); "{folder}/{i}")?;
         fs::write(rt, name.as_str(), b"ab".as_slice())?;
     }
-    Ok(Answer::Number(count))
+    Ok(CallAnswer::Number(count))
 }
 
 // The bytes of a file.
-fn show(rt: &HostRuntime, name: &str) -> io::Result<Answer> {
+fn show(rt: &HostRuntime, name: &str) -> io::Result<CallAnswer> {
     match fs::read(rt, name) {
-        Ok(bytes) => Ok(Answer::Bytes(bytes)),
-        Err(_) => Ok(Answer::None),
+        Ok(bytes) => Ok(CallAnswer::Bytes(bytes)),
+        Err(_) => Ok(CallAnswer::None),
     }
 }
 
 // Whether this process has fewer handles than this.
-fn handles(rt: &HostRuntime, most: u64) -> io::Result<Answer> {
+fn handles(rt: &HostRuntime, most: u64) -> io::Result<CallAnswer> {
     let count = fs::read_dir(rt, "/proc/self/fd")?.count() as u64;
     Ok(if count < most {
-        Answer::Text("fewer")
+        CallAnswer::Text("fewer")
     } else {
-        Answer::Number(count)
+        CallAnswer::Number(count)
     })
 }
 

@@ -15,7 +15,7 @@ mod memory;
 mod stores;
 mod words;
 
-use answers::Answer;
+use answers::CallAnswer;
 use links::{Peers, links_answer, peers_answer};
 use machine::machine_answer;
 use memory::{empty_store, memory_answer};
@@ -111,7 +111,11 @@ fn answer_line<'a>(
 }
 
 /// What a call answers.
-fn answer<'a>(rt: &'a HostRuntime, objects: &mut Objects<'a>, line: &str) -> io::Result<Answer> {
+fn answer<'a>(
+    rt: &'a HostRuntime,
+    objects: &mut Objects<'a>,
+    line: &str,
+) -> io::Result<CallAnswer> {
     let (object, call) = first_word(line);
     match object {
         "a" => store_answer(rt, &mut objects.a, call),

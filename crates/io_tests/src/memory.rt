@@ -3,12 +3,12 @@ ghost use Rattle.std.specs.Prelude.{◌≡◌};
 ghost use Rattle.io_traits.specs.Reads.{file_length};
 ghost use Rattle.store_memory.specs.Keeping.{reads_of};
 
-use crate::answers::Answer;
+use crate::answers::CallAnswer;
 use crate::words::{first_word, number};
 use plain_data::{Items, Text};
 use std::alloc::{AllocError, Global};
 use std::io;
-use store_disk::{Failed, MemoryStore, Script, Table};
+use store_disk::{Failed, FileTable, MemoryStore, Script};
 
 // What a stop leaves of a file that is missing.
 const NO_FILE: &str = "no file";
@@ -16,32 +16,32 @@ const NO_FILE: &str = "no file";
 /// What a call of a store in memory answers. `new` makes one of a file with these bytes, or of none;
 /// `failing` one of which the call of this number fails; `stopped` one that is stopped after so many
 /// calls; `full` one whose counts stand at their last value.
-pub fn memory_answer(alloc: Global, store: &mut MemoryStore, call: &str) -> io::Result<Answer> {
+pub fn memory_answer(alloc: Global, store: &mut MemoryStore, call: &str) -> io::Result<CallAnswer> {
     let (call, rest) = first_word(call);
     let (name, words) = first_word(rest);
     match call {
         "new" | "failing" | "stopped" | "full" => {
             *store = made(alloc, call, name, words)?;
-            Ok(Answer::Done)
+            Ok(CallAnswer::Done)
         }
         "left" => left(alloc, store, number(name), words),
-        "faults" => Ok(Answer::Number(store.script().faults())),
-        "moment" => Ok(Answer::Number(store.moment())),
+        "faults" => Ok(CallAnswer::Number(store.script().faults())),
+        "moment" => Ok(CallAnswer::Number(store.moment())),
         "logged" => Ok(logged(store, number(name))),
         "read" => read(alloc, store, name, words),
-        "list" => Ok(Answer::names(store.list(alloc, name))),
-        "length" => Ok(Answer::length(store.length(name))),
-        _ => Ok(Answer::done(changes(store, call, name, words))),
+        "list" => Ok(CallAnswer::names(store.list(alloc, name))),
+        "length" => Ok(CallAnswer::length(store.length(name))),
+        _ => Ok(CallAnswer::done(changes(store, call, name, words))),
     }
 }
 
 /// A store without files.
 pub fn empty_store(alloc: Global) -> Result<MemoryStore, AllocError> {
-    MemoryStore::new(Table::new(alloc), Script::empty(alloc), u64::MAX)
+    MemoryStore::new(FileTable::new(alloc), Script::empty(alloc), u64::MAX)
 }
 
 fn made(alloc: Global, how: &str, word: &str, bytes: &str) -> Result<MemoryStore, AllocError> {
-    let mut files = Table::new(alloc);
+    let mut files = FileTable::new(alloc);
     match how {
         "failing" => {
             let script = Script::new(alloc, &[number(word)], &[])?;
@@ -87,30 +87,30 @@ fn changes(store: &mut MemoryStore, call: &str, name: &str, words: &str) -> Resu
     }
 }
 
-fn read(alloc: Global, store: &mut MemoryStore, name: &str, words: &str) -> io::Result<Answer> {
+fn read(alloc: Global, store: &mut MemoryStore, name: &str, words: &str) -> io::Result<CallAnswer> {
     let (at, room) = first_word(words);
     let mut room = vec![in alloc; b'-'; number(room) as usize]?;
     let outcome = store.read(name, number(at), &mut room);
-    Ok(Answer::read(room, outcome))
+    Ok(CallAnswer::read(room, outcome))
 }
 
 // Whether the call of this number did its work, by the log.
-fn logged(store: &MemoryStore, call: u64) -> Answer {
+fn logged(store: &MemoryStore, call: u64) -> CallAnswer {
     match store.calls().get(call as usize) {
-        Some(logged) if logged.worked => Answer::Done,
-        Some(_) => Answer::Failed,
-        None => Answer::None,
+        Some(logged) if logged.worked => CallAnswer::Done,
+        Some(_) => CallAnswer::Failed,
+        None => CallAnswer::None,
     }
 }
 
 // What a stop at a moment may leave of a file, by each choice.
-fn left(alloc: Global, store: &MemoryStore, moment: u64, name: &str) -> io::Result<Answer> {
+fn left(alloc: Global, store: &MemoryStore, moment: u64, name: &str) -> io::Result<CallAnswer> {
     let mut line = String::new(alloc);
     for choice in 0..4 {
         line.push_str(" | ")?;
         add_left(&mut line, store, moment, choice, name)?;
     }
-    Ok(Answer::Line(line))
+    Ok(CallAnswer::Line(line))
 }
 
 // A byte that is none of ASCII is shown as `*`.

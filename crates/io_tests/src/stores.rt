@@ -1,5 +1,5 @@
 // Calls of stores on the disk, and of files that other programs write.
-use crate::answers::Answer;
+use crate::answers::CallAnswer;
 use crate::machine::greatest_length;
 use crate::words::{first_word, number};
 use std::alloc::Global;
@@ -14,32 +14,32 @@ pub fn store_answer<'a>(
     rt: &'a HostRuntime,
     store: &mut FileStore<&'a HostRuntime>,
     call: &str,
-) -> io::Result<Answer> {
+) -> io::Result<CallAnswer> {
     let (call, rest) = first_word(call);
     let (name, rest) = first_word(rest);
     match call {
         "new" => {
             *store = FileStore::new(rt.alloc(), rt);
-            Ok(Answer::Done)
+            Ok(CallAnswer::Done)
         }
-        "list" => Ok(Answer::names(store.list(rt.alloc(), name))),
-        "length" => Ok(Answer::length(store.length(name))),
+        "list" => Ok(CallAnswer::names(store.list(rt.alloc(), name))),
+        "length" => Ok(CallAnswer::length(store.length(name))),
         "read" => read(rt.alloc(), store, name, rest),
         "each" => each(rt.alloc(), store, name, rest),
-        "faults" => Ok(Answer::Number(store.faults())),
+        "faults" => Ok(CallAnswer::Number(store.faults())),
         "end" => {
             let most = greatest_length(rt, rest)?;
             let outcome = store.write_at(name, most.saturating_sub(2), b"more");
-            Ok(Answer::done(outcome))
+            Ok(CallAnswer::done(outcome))
         }
         _ => Ok(changes(store, call, name, rest)),
     }
 }
 
 // What a call answers that changes a file, or settles what was changed.
-fn changes(store: &mut FileStore<&HostRuntime>, call: &str, name: &str, rest: &str) -> Answer {
+fn changes(store: &mut FileStore<&HostRuntime>, call: &str, name: &str, rest: &str) -> CallAnswer {
     let (at, bytes) = first_word(rest);
-    Answer::done(match call {
+    CallAnswer::done(match call {
         "append" => store.append(name, rest.as_bytes()),
         "write" => store.write_at(name, number(at), bytes.as_bytes()),
         "cut" => store.cut(name, number(at)),
@@ -57,11 +57,11 @@ fn read(
     store: &mut FileStore<&HostRuntime>,
     name: &str,
     rest: &str,
-) -> io::Result<Answer> {
+) -> io::Result<CallAnswer> {
     let (at, room) = first_word(rest);
     let mut room = vec![in alloc; b'-'; number(room) as usize]?;
     let outcome = store.read(name, number(at), &mut room);
-    Ok(Answer::read(room, outcome))
+    Ok(CallAnswer::read(room, outcome))
 }
 
 // Appends to each of so many files in a folder, or with no bytes asks for the length of each. The answer
@@ -71,7 +71,7 @@ fn each(
     store: &mut FileStore<&HostRuntime>,
     folder: &str,
     rest: &str,
-) -> io::Result<Answer> {
+) -> io::Result<CallAnswer> {
     let (count, bytes) = first_word(rest);
     let mut done = 0_u64;
     for i in 0..number(count) {
@@ -83,7 +83,7 @@ fn each(
         };
         done = done.saturating_add(u64::from(worked));
     }
-    Ok(Answer::Number(done))
+    Ok(CallAnswer::Number(done))
 }
 
 /// What a call of files that other programs write answers.
@@ -91,24 +91,24 @@ pub fn files_answer(
     alloc: Global,
     files: &mut RealFiles<&HostRuntime>,
     call: &str,
-) -> io::Result<Answer> {
+) -> io::Result<CallAnswer> {
     let (call, rest) = first_word(call);
     let (name, rest) = first_word(rest);
     match call {
-        "list" => Ok(Answer::names(files.list(alloc, name))),
-        "length" => Ok(Answer::length(files.length(name))),
+        "list" => Ok(CallAnswer::names(files.list(alloc, name))),
+        "length" => Ok(CallAnswer::length(files.length(name))),
         "read" => {
             let (at, room) = first_word(rest);
             let mut room = vec![in alloc; b'-'; number(room) as usize]?;
             let outcome = files.read(name, number(at), &mut room);
-            Ok(Answer::read(room, outcome))
+            Ok(CallAnswer::read(room, outcome))
         }
         "count" => {
             let mut room = vec![in alloc; b'-'; number(rest) as usize]?;
             let outcome = files.read(name, 0, &mut room);
-            Ok(Answer::length(outcome.map(|count| Some(count as u64))))
+            Ok(CallAnswer::length(outcome.map(|count| Some(count as u64))))
         }
-        "calls" => Ok(Answer::Number(files.calls())),
-        _ => Ok(Answer::Number(files.faults())),
+        "calls" => Ok(CallAnswer::Number(files.calls())),
+        _ => Ok(CallAnswer::Number(files.faults())),
     }
 }

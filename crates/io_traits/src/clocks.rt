@@ -1,3 +1,4 @@
+// The trait of clocks.
 ghost use Rattle.std.specs.Prelude.{List, [], ◌∷◌, ℤ, Option};
 ghost use Rattle.io_traits.specs.Telling.{Grows};
 

@@ -1,3 +1,4 @@
+// The trait of what tells a program to go on, look or stop.
 ghost use Rattle.std.specs.Prelude.{List, [], ◌∷◌, Option};
 ghost use Rattle.io_traits.specs.Answers.{IsNext};
 ghost use Rattle.io_traits.specs.Telling.{Grows};

@@ -1,3 +1,4 @@
+// The errors of calls of the outside.
 ghost use Rattle.std.specs.Prelude.{◌≡◌};
 
 /// A call of the outside failed, and the count of its object's faults rose in that call.

@@ -1,3 +1,4 @@
+// The trait of files that other programs write.
 ghost use Rattle.std.specs.Prelude.{◌≡◌, ◌≤◌, ℕ, Bool, IsTrue, Err, IsErr, IfOk, length, option_map};
 ghost use Rattle.io_traits.specs.Counts.{HasCause};
 ghost use Rattle.io_traits.specs.Folders.{Content, IsOneCall, Lists};

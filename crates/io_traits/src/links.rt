@@ -1,3 +1,4 @@
+// The trait of connections that other programs make.
 ghost use Rattle.std.specs.Prelude.{◌≡◌, ◌≤◌, ◌<◌, ℕ, List, [], ◌∷◌, Option, Ok, IsErr, length};
 ghost use Rattle.io_traits.specs.Connections.{IsNumbered, brought, Lessens, IsOver, pieces_from, KeepsReads, KeepsOthers, KeepsLooks};
 ghost use Rattle.io_traits.specs.Counts.{HasCause};

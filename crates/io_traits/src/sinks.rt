@@ -1,3 +1,4 @@
+// The trait of sinks of bytes, and writing all bytes of a piece.
 ghost use Rattle.std.specs.Prelude.{◌≤◌, ◌<◌, ℕ, List, [], Option, IsErr, IfOk, OnOk, OnErr, length, take};
 ghost use Rattle.io_traits.specs.Counts.{HasCause};
 ghost use Rattle.io_traits.specs.Telling.{Grows, GrowsInPart, IsFlushed, IsWithin};

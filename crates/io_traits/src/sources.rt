@@ -1,3 +1,4 @@
+// The trait of sources of bytes.
 ghost use Rattle.std.specs.Prelude.{◌≡◌, ◌≤◌, ◌<◌, ℕ, List, Option, Ok, IsErr, length};
 ghost use Rattle.io_traits.specs.Counts.{HasCause};
 ghost use Rattle.io_traits.specs.Pieces.{Piece, bytes_in, piece_list, gave, IfBytes};

@@ -1,3 +1,4 @@
+// The codecs of inputs and outputs by their names.
 ghost use Rattle.std.specs.Prelude.{◌≡◌};
 ghost use Rattle.line_codecs.specs.Codecs as spec;
 

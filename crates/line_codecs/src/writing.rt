@@ -1,3 +1,4 @@
+// Writing events by the codec of an output.
 ghost use Rattle.std.specs.Prelude.{◌≡◌, ◌++◌, IsTrue, ◌↔◌, take, length, OnOk, OnErr};
 ghost use Rattle.line_codecs.specs.Written.{out_bytes, event_bytes};
 

@@ -1,3 +1,4 @@
+// The calls of a line with their answers and faults.
 use event_tree::Text;
 use pipeline_bus::Answer;
 use store_disk::Damage;

@@ -1,3 +1,4 @@
+// What a line can do in a turn, and the choice of its next step.
 ghost use Rattle.std.specs.Prelude.{◌≡◌, IfSome, None};
 ghost use Rattle.line_turns.specs.Turns.{next_of, IsPossible, IsAtRest};
 

@@ -1,3 +1,4 @@
+// stdout through a buffer, or stderr.
 use std::alloc::Global;
 use std::io::{self, BufWriter, Stderr, Stdout, Write};
 

@@ -1,3 +1,4 @@
+// Why the words of a command line are refused, with their texts.
 ghost use Rattle.std.specs.Prelude.{◌≡◌, Some};
 ghost use Rattle.logstash_settings.specs.Texts.{option_text, words_fault_text};
 

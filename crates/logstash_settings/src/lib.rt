@@ -11,7 +11,7 @@ mod words;
 
 pub use fault::{RangedOption, WordsFault};
 pub use settings_lines::{
-    ConfigSource, LineFault, Orders, PipelineSettings, Policy, QueueTool, SettingsFault,
+    ConfigSource, Orders, PipelineSettings, Policy, QueueTool, SettingsFault, SettingsLineFault,
     read_pipelines,
 };
 pub use words::read_words;

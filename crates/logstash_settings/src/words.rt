@@ -1,3 +1,4 @@
+// Reading the words of a command line with clap.
 ghost use Rattle.std.specs.Prelude.{◌≡◌, map, string_bytes};
 ghost use Rattle.logstash_settings.specs.Words as spec;
 ghost use Rattle.logstash_settings.specs.Words.{Gives, rows};

@@ -8,7 +8,7 @@ use Rattle.config_tree.specs.declared.tree.Config.{Config}
 use Rattle.event_tree.specs.Events.{Ev}
 use Rattle.event_flow.specs.Places.{Draws}
 use Rattle.foreign_parts.specs.declared.filter.Verdict.{Verdict}
-use Rattle.batch_rows.specs.Batches.{TookBatches, TookFirst}
+use Rattle.batch_rows.specs.Batches.{TookBatches, WrotePrefix}
 use Rattle.in_lines.specs.Polls.{Poll, is_ended, lines_by, lines_through, rest_through}
 use Rattle.in_lines.proofs.Receiving.{lines_through-more}
 use Rattle.in_lines.specs.Inputs.{new_events}
@@ -48,5 +48,5 @@ module _ (config : Config) (draws : Draws) (may : ℕ → Ev → Verdict → Typ
   pub batches_still : (batches : List (List Ev)) (a b c : Option (List ℕ)) → TookBatches config draws may batches a b → Grows b c [] → TookBatches config draws may batches a c
   batches_still batches a b c one none = record { bytes = one.bytes; are = one.are; took = grows_still one.took none }
 
-  pub first_still : (batches : List (List Ev)) (a b c : Option (List ℕ)) → TookFirst config draws may batches a b → Grows b c [] → TookFirst config draws may batches a c
+  pub first_still : (batches : List (List Ev)) (a b c : Option (List ℕ)) → WrotePrefix config draws may batches a b → Grows b c [] → WrotePrefix config draws may batches a c
   first_still batches a b c one none = record { first = one.first; others = one.others; whole = one.whole; bytes = one.bytes; are = one.are; took = in_part_still one.took none }

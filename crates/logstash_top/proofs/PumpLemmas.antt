@@ -25,12 +25,12 @@ use Rattle.config_tree.specs.declared.tree.Config.{Config}
 use Rattle.event_tree.specs.Events.{Ev}
 use Rattle.event_flow.specs.Places.{Draws}
 use Rattle.foreign_parts.specs.declared.filter.Verdict.{Verdict}
-use Rattle.batch_rows.specs.Batches.{TookBatches, TookFirst}
+use Rattle.batch_rows.specs.Batches.{TookBatches, WrotePrefix}
 use Rattle.batch_rows.specs.Running.{batches_of}
 use Rattle.batch_rows.proofs.Batching.{batches_then, first_then, no_batches, none_took}
 use Rattle.logstash_top.specs.Rows.{batches_in, events_at}
 use Rattle.logstash_top.proofs.BatchLemmas.{batches_by, batches_still, first_still, new_lines, no_batches_yet}
-use Rattle.logstash_top.specs.Runs.{line_limit, pieces_in, empty_with, empty_in, AreCounted, IsOver, IsReadOut, StopsAtEnd, StopsWith, Polled, Ran}
+use Rattle.logstash_top.specs.Runs.{line_limit, pieces_in, empty_with, empty_in, AreCounted, IsOver, IsReadOut, StopsAtEnd, StopsWith, Polled, RunResult}
 
 abbrev pub poll_of : ℤ → Piece → Poll
 poll_of moment piece = record { moment = moment; piece = piece }
@@ -184,13 +184,13 @@ module _ {I O K : Type 0} (source : SourceWords I) (sink : SinkWords O) (clock :
   Took batches old new = TookBatches config draws may batches (sink.taken old) (sink.taken new)
 
   abbrev TookPart : List (List Ev) → O → O → Type 0
-  TookPart batches old new = TookFirst config draws may batches (sink.taken old) (sink.taken new)
+  TookPart batches old new = WrotePrefix config draws may batches (sink.taken old) (sink.taken new)
 
   -- a run that isn't done
   pub stopped : (old new : ThinWorld I O K) (is_done is_cut_off : Type 0) (polls : List Poll) → Polled source sink clock input old new polls → StopsWith input polls
       → TookPart (batches_in line_limit input polls) old.stdout new.stdout
       → (is_cut_off → Took (batches_in line_limit input polls) old.stdout new.stdout) → (is_done → ⊥)
-      → Ran source sink clock input config draws may old new is_done is_cut_off
+      → RunResult source sink clock input config draws may old new is_done is_cut_off
   stopped old new is_done is_cut_off polls polled stops wrote whole other = record { polls = polls; polled = polled; stops = stops; wrote = wrote; cut_off = whole; done = λ is. absurd (other is) }
 
   -- the batches of one more poll, which brings these events
@@ -219,7 +219,7 @@ module _ {I O K : Type 0} (source : SourceWords I) (sink : SinkWords O) (clock :
       → Polled source sink clock input old new (polls ++ poll ∷ [])
       → Took (batches_in line_limit input polls) old.stdout mid.stdout → TookPart (batches_of es) mid.stdout new.stdout
       → (is_cut_off → Took (batches_of es) mid.stdout new.stdout) → (is_done → ⊥)
-      → Ran source sink clock input config draws may old new is_done is_cut_off
+      → RunResult source sink clock input config draws may old new is_done is_cut_off
   stopped_in_part old mid new is_done is_cut_off polls poll es are stops polled before part whole other =
       stopped old new is_done is_cut_off (polls ++ poll ∷ []) polled stops
       (took_some old.stdout mid.stdout new.stdout polls poll es are before part)
@@ -227,7 +227,7 @@ module _ {I O K : Type 0} (source : SourceWords I) (sink : SinkWords O) (clock :
 
   -- a run of which all batches were written, behind whose polls the input is at its end
   pub all_polled : (old new : ThinWorld I O K) (is_done is_cut_off : Type 0) (polls : List Poll) → StopsWith input polls → Polled source sink clock input old new polls → IsOver source input new.stdin polls
-      → Took (batches_in line_limit input polls) old.stdout new.stdout → (is_cut_off → ⊥) → Ran source sink clock input config draws may old new is_done is_cut_off
+      → Took (batches_in line_limit input polls) old.stdout new.stdout → (is_cut_off → ⊥) → RunResult source sink clock input config draws may old new is_done is_cut_off
   all_polled old new is_done is_cut_off polls stops polled over took other =
       let batches = batches_in line_limit input polls in
       let a = sink.taken old.stdout in
@@ -236,7 +236,7 @@ module _ {I O K : Type 0} (source : SourceWords I) (sink : SinkWords O) (clock :
         polls = polls;
         polled = polled;
         stops = stops;
-        wrote = subst (λ t. TookFirst config draws may t a b) (append-nil batches) (first_then config draws may batches [] a b b took (none_took config draws may [] b));
+        wrote = subst (λ t. WrotePrefix config draws may t a b) (append-nil batches) (first_then config draws may batches [] a b b took (none_took config draws may [] b));
         cut_off = λ is. absurd (other is);
         done = λ ok. record { over = over; wrote = took };
       }
@@ -246,7 +246,7 @@ module _ {I O K : Type 0} (source : SourceWords I) (sink : SinkWords O) (clock :
       → StopsWith input (polls ++ poll ∷ []) → Polled source sink clock input old new (polls ++ poll ∷ []) → IsOver source input new.stdin (polls ++ poll ∷ [])
       → Took (batches_in line_limit input polls) old.stdout mid.stdout
       → OnOk result (Took (batches_of es) mid.stdout new.stdout) → TookPart (batches_of es) mid.stdout new.stdout → (is_cut_off → ⊥)
-      → Ran source sink clock input config draws may old new (IsOk result) is_cut_off
+      → RunResult source sink clock input config draws may old new (IsOk result) is_cut_off
   ended old mid new result is_cut_off polls poll es are stops polled over before whole part other = record {
     polls = polls ++ poll ∷ [];
     polled = polled;
@@ -257,8 +257,8 @@ module _ {I O K : Type 0} (source : SourceWords I) (sink : SinkWords O) (clock :
   }
 
   -- and a flush behind it
-  pub flushed_after : (old mid : ThinWorld I O K) (out : O) (is_done is_cut_off : Type 0) → Grows (sink.taken mid.stdout) (sink.taken out) [] → Ran source sink clock input config draws may old mid is_done is_cut_off
-      → Ran source sink clock input config draws may old (record mid { stdout = out }) is_done is_cut_off
+  pub flushed_after : (old mid : ThinWorld I O K) (out : O) (is_done is_cut_off : Type 0) → Grows (sink.taken mid.stdout) (sink.taken out) [] → RunResult source sink clock input config draws may old mid is_done is_cut_off
+      → RunResult source sink clock input config draws may old (record mid { stdout = out }) is_done is_cut_off
   flushed_after old mid out is_done is_cut_off none r =
       let batches = batches_in line_limit input r.polls in
       let a = sink.taken old.stdout in
@@ -274,8 +274,8 @@ module _ {I O K : Type 0} (source : SourceWords I) (sink : SinkWords O) (clock :
       }
 
   -- which failed
-  pub unflushed_after : (old mid : ThinWorld I O K) (out : O) (was_done was_cut_off is_done is_cut_off : Type 0) → Grows (sink.taken mid.stdout) (sink.taken out) [] → Ran source sink clock input config draws may old mid was_done was_cut_off
-      → (is_done → ⊥) → (is_cut_off → ⊥) → Ran source sink clock input config draws may old (record mid { stdout = out }) is_done is_cut_off
+  pub unflushed_after : (old mid : ThinWorld I O K) (out : O) (was_done was_cut_off is_done is_cut_off : Type 0) → Grows (sink.taken mid.stdout) (sink.taken out) [] → RunResult source sink clock input config draws may old mid was_done was_cut_off
+      → (is_done → ⊥) → (is_cut_off → ⊥) → RunResult source sink clock input config draws may old (record mid { stdout = out }) is_done is_cut_off
   unflushed_after old mid out was_done was_cut_off is_done is_cut_off none r not_done not_cut_off =
       stopped old (record mid { stdout = out }) is_done is_cut_off r.polls (record { asked = r.polled.asked; took = r.polled.took }) r.stops
       (first_still config draws may (batches_in line_limit input r.polls) (sink.taken old.stdout) (sink.taken mid.stdout) (sink.taken out) r.wrote none) (λ is. absurd (not_cut_off is)) not_done

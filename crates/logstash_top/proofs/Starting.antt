@@ -7,7 +7,7 @@ use Rattle.config_parse.specs.declared.fault.ConfigFault.TheVariants as text_fau
 use Rattle.foreign_parts.specs.Boxes.{Keeps, Stand}
 use Rattle.foreign_parts.specs.Links.{addresses_of}
 use Rattle.foreign_parts.specs.declared.links.LinkPlace.{LinkPlace}
-use Rattle.foreign_parts.specs.declared.boxes.Kind.{Kind}
+use Rattle.foreign_parts.specs.declared.boxes.BoxKind.{BoxKind}
 use Rattle.graph_checks.specs.Answers.{Checked, Refuses}
 use Rattle.graph_checks.specs.Whole.{Given, checked}
 use Rattle.graph_checks.specs.declared.fault.GraphFault.{GraphFault}
@@ -97,7 +97,7 @@ memory_or (graph.NoSpare name wanted left) = inr (record { told = λ said is. is
 memory_or graph.Memory = inl refl
 
 -- what is handed in stays the same
-pub same_given : {B : Type 0} (stand : B → Kind → Stand) (links : B → List LinkPlace) (old new : B) → Keeps stand links old new → given_by stand links new ≡ given_by stand links old
+pub same_given : {B : Type 0} (stand : B → BoxKind → Stand) (links : B → List LinkPlace) (old new : B) → Keeps stand links old new → given_by stand links new ≡ given_by stand links old
 same_given stand links old new keeps = λ i. record { stand = λ k. keeps.stands k i; links = addresses_of (keeps.links_stand i); workers = workers }
 
 module _ (given : Given) (words : List (List ℕ)) where

@@ -30,7 +30,7 @@ use Rattle.logstash_top.specs.Given.{workers}
 use Rattle.logstash_top.specs.Inputs.{input_of}
 use Rattle.in_lines.specs.declared.input.LineInput.{LineInput}
 use Rattle.logstash_top.specs.Outcomes.{RanAs, RanConfig, RanPlan, RunsBy}
-use Rattle.logstash_top.specs.Runs.{Ran}
+use Rattle.logstash_top.specs.Runs.{RunResult}
 use Rattle.logstash_top.specs.Status.{IsInputFault, IsOutputFault, IsRefused, status_of}
 use Rattle.logstash_top.specs.declared.start.Job.{Job}
 use Rattle.logstash_top.specs.declared.run_fault.RunFault.{RunFault}
@@ -80,13 +80,13 @@ ran_config source sink clock may given filter_number number numbered fs os new_f
 module _ {I O K : Type 0} (source : SourceWords I) (sink : SinkWords O) (clock : ClockWords K) (input : LineInput) (config : Config) (draws : Draws) (may : ℕ → Ev → Verdict → Type 0) where
   -- a run by other words for how it ended
   pub ran_as : (old new : ThinWorld I O K) (is_done is_cut_off as_done as_cut_off : Type 0) → (as_done → is_done) → (as_cut_off → is_cut_off)
-      → Ran source sink clock input config draws may old new is_done is_cut_off → Ran source sink clock input config draws may old new as_done as_cut_off
+      → RunResult source sink clock input config draws may old new is_done is_cut_off → RunResult source sink clock input config draws may old new as_done as_cut_off
   ran_as old new is_done is_cut_off as_done as_cut_off ended cut r =
       record { polls = r.polls; polled = r.polled; stops = r.stops; wrote = r.wrote; cut_off = λ is. r.cut_off (cut is); done = λ is. r.done (ended is) }
 
   -- and with what stderr took behind it
   ran_told : (old new : ThinWorld I O K) (err : O) (is_done is_cut_off : Type 0)
-      → Ran source sink clock input config draws may old new is_done is_cut_off → Ran source sink clock input config draws may old (record new { stderr = err }) is_done is_cut_off
+      → RunResult source sink clock input config draws may old new is_done is_cut_off → RunResult source sink clock input config draws may old (record new { stderr = err }) is_done is_cut_off
   ran_told old new err is_done is_cut_off r = record {
     polls = r.polls;
     polled = record { asked = r.polled.asked; took = r.polled.took };

@@ -19,7 +19,7 @@ use Rattle.io_traits.specs.declared.sinks.Sink.{Ghosts as SinkWords}
 use Rattle.io_traits.specs.declared.clocks.Clock.{Ghosts as ClockWords}
 use Rattle.logstash_top.specs.Given.{workers}
 use Rattle.logstash_top.specs.Inputs.{input_of}
-use Rattle.logstash_top.specs.Runs.{IsUntouched, Ran}
+use Rattle.logstash_top.specs.Runs.{IsUntouched, RunResult}
 use Rattle.logstash_top.specs.Sinks.{AllFlushed, Faulted, Took}
 use Rattle.logstash_top.specs.Answers.{Completes, Orders}
 use Rattle.logstash_top.specs.Status.{IsInputFault, IsOutputFault, test_output_fault}
@@ -45,7 +45,7 @@ module _ {I O K F : Type 0} (source : SourceWords I) (sink : SinkWords O) (clock
   pub record RanPlan (config : Config) (draws : Draws) (kits : List (List (Option (Drawn F)))) (old new : ThinWorld I O K) (status : Status) : Type 0 where
     pub boxes : List (Option (Drawn F))
     pub kit : Contains kits boxes
-    pub ran : Ran source sink clock (input_of config) config draws (MayAt (λ d. may d.plugged) boxes) old new (status ≡ Done) (IsInputFault status)
+    pub ran : RunResult source sink clock (input_of config) config draws (MayAt (λ d. may d.plugged) boxes) old new (status ≡ Done) (IsInputFault status)
 
   module _ (given : Given) where
     -- a run that ended so: nothing was read and written, or the configuration that the words order was run, with these boxes
@@ -56,7 +56,7 @@ module _ {I O K F : Type 0} (source : SourceWords I) (sink : SinkWords O) (clock
       pub draws : Draws
       pub boxes : List (Option (Drawn F))
       pub runs_by : by config draws boxes
-      pub ran : Ran source sink clock (input_of config) config draws (MayAt (λ d. may d.plugged) boxes) old new (status ≡ Done) (IsInputFault status)
+      pub ran : RunResult source sink clock (input_of config) config draws (MayAt (λ d. may d.plugged) boxes) old new (status ≡ Done) (IsInputFault status)
 
     abbrev pub RanAs : (Config → Draws → List (Option (Drawn F)) → Type 0) → ThinWorld I O K → ThinWorld I O K → List (List ℕ) → Status → Type 0
     RanAs by old new words status =

@@ -17,7 +17,7 @@ use Rattle.config_tree.specs.declared.tree.Config.{Config}
 use Rattle.event_tree.specs.Events.{Ev}
 use Rattle.event_flow.specs.Places.{Draws}
 use Rattle.foreign_parts.specs.declared.filter.Verdict.{Verdict}
-use Rattle.batch_rows.specs.Batches.{TookBatches, TookFirst}
+use Rattle.batch_rows.specs.Batches.{TookBatches, WrotePrefix}
 use Rattle.logstash_top.specs.Rows.{batches_in}
 use Rattle.logstash_top.specs.Sinks.{AllFlushed, Faulted}
 use Rattle.logstash_top.specs.declared.run_fault.RunFault.{RunFault}
@@ -94,18 +94,18 @@ module _ {I O K : Type 0} (source : SourceWords I) (sink : SinkWords O) (clock :
 
     -- a run, which is done, or which a read that failed ended, or neither: stdout took a first part of what it gets of the batches of what
     -- was polled, from the first on, and nothing else
-    pub record Ran (old new : ThinWorld I O K) (is_done is_cut_off : Type 0) : Type 0 where
+    pub record RunResult (old new : ThinWorld I O K) (is_done is_cut_off : Type 0) : Type 0 where
       pub polls : List Poll
       pub polled : Polled old new polls
       pub stops : StopsWith input polls
-      pub wrote : TookFirst config draws may (batches_in line_limit input polls) (sink.taken old.stdout) (sink.taken new.stdout)
+      pub wrote : WrotePrefix config draws may (batches_in line_limit input polls) (sink.taken old.stdout) (sink.taken new.stdout)
       -- where a read failed, all batches of what came before it were written
       pub cut_off : is_cut_off → TookBatches config draws may (batches_in line_limit input polls) (sink.taken old.stdout) (sink.taken new.stdout)
       pub done : is_done → Finished old new polls
 
     -- a run with this result
     abbrev pub RanTo : {U : Type 0} → ThinWorld I O K → ThinWorld I O K → Result U RunFault → Type 0
-    RanTo old new result = Ran old new (IsOk result) (result ≡ Err Input)
+    RanTo old new result = RunResult old new (IsOk result) (result ≡ Err Input)
 
 module _ {I O K : Type 0} (source : SourceWords I) where
   -- the count of stdin's faults rose where there was this fault, and in no other case

@@ -8,8 +8,8 @@ use Rattle.settings_lines.specs.declared.orders.QueueTool.TheVariants as tool
 use Rattle.logstash_settings.specs.declared.fault.WordsFault.{WordsFault}
 use Rattle.logstash_settings.specs.Words.{Answer, answer_of}
 use Rattle.logstash_top.specs.declared.words.Command.{Command}
-use Rattle.logstash_top.specs.declared.calls.Which.{Which}
-use Rattle.logstash_top.specs.declared.calls.Which.TheVariants.{Run, Test, Apart, Check, Repair}
+use Rattle.logstash_top.specs.declared.requested_call.Which.{Which}
+use Rattle.logstash_top.specs.declared.requested_call.Which.TheVariants.{Run, Test, Apart, Check, Repair}
 
 -- the text of `-e`
 abbrev pub text_of : ConfigSource → Option (List ℕ)

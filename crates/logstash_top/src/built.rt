@@ -1,3 +1,4 @@
+// Whether a configuration is one that the program can run.
 ghost use Rattle.std.specs.Prelude.{◌≡◌, IfOk};
 ghost use Rattle.std.specs.List.{list_all};
 ghost use Rattle.logstash_top.specs.Built as spec;

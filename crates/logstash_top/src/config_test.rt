@@ -1,3 +1,4 @@
+// `-t`: tests a configuration and runs nothing.
 ghost use Rattle.std.specs.Prelude.{◌≡◌, ◌⊎◌, IsErr, OnOk, map, string_bytes};
 ghost use Rattle.io_traits.specs.Counts.{HasCause};
 ghost use Rattle.foreign_parts.specs.Boxes.{Keeps};
@@ -8,9 +9,9 @@ ghost use Rattle.logstash_top.specs.Sinks.{Took, TookInPart, AllFlushed, Faulted
 ghost use Rattle.logstash_top.specs.Status.{IsRefused, test_output_fault, line_of};
 
 use crate::line::tell;
-use crate::parts::write_parts;
 use crate::start::{Job, WORKERS, refused, start};
 use crate::status::Status;
+use crate::text_parts::write_parts;
 use graph_checks::{Boxes, check};
 use io_traits::{Failed, Sink};
 use plain_data::Text;

@@ -9,7 +9,7 @@ ghost use Rattle.in_lines.specs.Generators.{events_from, progress_at};
 ghost use Rattle.in_lines.specs.Inputs.{poll_limit};
 ghost use Rattle.in_lines.specs.declared.input.LineInput.TheVariants.{Generated};
 ghost use Rattle.plugin_graph.specs.Kits.{MayAt};
-ghost use Rattle.batch_rows.specs.Batches.{TookBatches, TookFirst};
+ghost use Rattle.batch_rows.specs.Batches.{TookBatches, WrotePrefix};
 ghost use Rattle.batch_rows.specs.Running.{IsRunnerOf, batches_of};
 ghost use Rattle.logstash_top.specs.Generating.{IsBehind};
 ghost use Rattle.logstash_top.specs.Runs.{RanTo, StdoutHasCause};
@@ -19,7 +19,7 @@ use crate::rows::{add_event, finish};
 use crate::run_fault::RunFault;
 use crate::world::ThinWorld;
 use batch_rows::Runner;
-use foreign_parts::Asked;
+use foreign_parts::FilterCall;
 use in_lines::{Generator, Progress};
 use io_traits::{Clock, Sink, Source};
 use std::alloc::Global;
@@ -30,7 +30,7 @@ use time_instant::Instant;
 const POLL_LIMIT: usize = 125;
 
 /// Runs the events of a generator until it gave all. It doesn't touch stdin.
-pub(crate) fn generate<R: Wait, I: Source, O: Sink, K: Clock, X: Asked>(
+pub(crate) fn generate<R: Wait, I: Source, O: Sink, K: Clock, X: FilterCall>(
     rt: &R,
     alloc: Global,
     generator: &Generator,
@@ -69,7 +69,7 @@ pub(crate) fn generate<R: Wait, I: Source, O: Sink, K: Clock, X: Asked>(
 }
 
 /// Runs the next events, 125 of them where it gives so many, and flushes what stdout took.
-fn poll<X: Asked, O: Sink>(
+fn poll<X: FilterCall, O: Sink>(
     alloc: Global,
     generator: &Generator,
     moment: Instant,
@@ -86,7 +86,7 @@ fn poll<X: Asked, O: Sink>(
         (O.taken stdout.old) (O.taken stdout.new)) }
     ensures part { (config : Config) (draws : Draws) (boxes : List (Option X))
         → IsRunnerOf X.may config draws boxes runner.old
-        → TookFirst config draws (MayAt X.may boxes)
+        → WrotePrefix config draws (MayAt X.may boxes)
         (batches_of (events_from generator.now moment progress.old.events poll_limit))
         (O.taken stdout.old) (O.taken stdout.new) }
     ensures stays { (config : Config) (draws : Draws) (boxes : List (Option X))
@@ -106,7 +106,7 @@ fn poll<X: Asked, O: Sink>(
 }
 
 /// Runs them; what stdout took may not be flushed.
-fn run_next<X: Asked, O: Sink>(
+fn run_next<X: FilterCall, O: Sink>(
     alloc: Global,
     generator: &Generator,
     moment: Instant,
@@ -123,7 +123,7 @@ fn run_next<X: Asked, O: Sink>(
         (O.taken stdout.old) (O.taken stdout.new)) }
     ensures part { (config : Config) (draws : Draws) (boxes : List (Option X))
         → IsRunnerOf X.may config draws boxes runner.old
-        → TookFirst config draws (MayAt X.may boxes)
+        → WrotePrefix config draws (MayAt X.may boxes)
         (batches_of (events_from generator.now moment progress.old.events poll_limit))
         (O.taken stdout.old) (O.taken stdout.new) }
     ensures stays { (config : Config) (draws : Draws) (boxes : List (Option X))

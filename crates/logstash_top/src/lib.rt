@@ -3,26 +3,26 @@
 #![tactic(auto)]
 
 mod built;
-mod calls;
 mod config_test;
 mod generate;
 mod inputs;
 mod line;
-mod parts;
 mod pump;
+mod requested_call;
 mod rows;
 mod run_fault;
 mod start;
 mod status;
+mod text_parts;
 mod top;
 mod words;
 mod world;
 
-pub use calls::Which;
 pub use config_test::test_config;
-pub use foreign_parts::{Rack, Stockroom};
+pub use foreign_parts::{BoxPool, Rack};
 pub use graph_checks::GraphFault;
 pub use logstash_settings::{RangedOption, WordsFault};
+pub use requested_call::Which;
 pub use status::Status;
 pub use top::logstash;
 pub use words::{which, workers_wanted};

@@ -5,8 +5,8 @@ ghost use Rattle.io_traits.specs.Counts.{HasCause};
 ghost use Rattle.logstash_top.specs.Sinks.{Took, TookInPart, AllFlushed};
 ghost use Rattle.logstash_top.specs.Status.{config_line, named_line, placed_line, refused_line, setting_line, spare_line, whole_line, words_line, line_of};
 
-use crate::parts::write_parts;
 use crate::status::Status;
+use crate::text_parts::write_parts;
 use config_parse::ConfigFault;
 use config_tree::SettingFault;
 use graph_checks::GraphFault;

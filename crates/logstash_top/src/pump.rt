@@ -1,3 +1,4 @@
+// Running the lines of stdin until its end.
 ghost use Rattle.std.specs.Prelude.{◌≡◌, [], false, List, Option, Err, OnOk};
 ghost use Rattle.byte_lines.specs.Unread.{lines_left, rest_of};
 ghost use Rattle.io_traits.specs.Counts.{HasCause};
@@ -5,7 +6,7 @@ ghost use Rattle.config_tree.specs.declared.tree.Config.{Config};
 ghost use Rattle.event_flow.specs.Places.{Draws};
 ghost use Rattle.plugin_graph.specs.Kits.{MayAt};
 ghost use Rattle.in_lines.specs.declared.input.LineInput.TheVariants.{Stdin};
-ghost use Rattle.batch_rows.specs.Batches.{TookBatches, TookFirst};
+ghost use Rattle.batch_rows.specs.Batches.{TookBatches, WrotePrefix};
 ghost use Rattle.batch_rows.specs.Running.{IsRunnerOf, batches_of};
 ghost use Rattle.logstash_top.specs.Rows.{events_left, fed};
 ghost use Rattle.logstash_top.specs.Runs.{RanTo, FlushedUnlessFaulted, ReadHasCause, StdinHasCause, StdoutHasCause};
@@ -17,7 +18,7 @@ use crate::run_fault::RunFault;
 use crate::world::ThinWorld;
 use batch_rows::Runner;
 use byte_lines::LineReader;
-use foreign_parts::Asked;
+use foreign_parts::FilterCall;
 use in_lines::{EventSettings, LINE_LIMIT, LineInput};
 use io_traits::{Clock, Sink, Source, Step};
 use std::alloc::Global;
@@ -29,7 +30,7 @@ const READ_LEN: usize = 65_536;
 
 /// Runs the events of the input until its end, in batches of at most 125, none with events of two polls, and flushes
 /// what stdout took, also where it stops before. No event is held before.
-pub(crate) fn run<R: Wait, I: Source, O: Sink, K: Clock, X: Asked>(
+pub(crate) fn run<R: Wait, I: Source, O: Sink, K: Clock, X: FilterCall>(
     rt: &R,
     alloc: Global,
     input: &LineInput,
@@ -55,7 +56,7 @@ pub(crate) fn run<R: Wait, I: Source, O: Sink, K: Clock, X: Asked>(
 }
 
 /// Runs these events; what stdout took last may not be flushed.
-fn run_input<R: Wait, I: Source, O: Sink, K: Clock, X: Asked>(
+fn run_input<R: Wait, I: Source, O: Sink, K: Clock, X: FilterCall>(
     rt: &R,
     alloc: Global,
     input: &LineInput,
@@ -72,13 +73,13 @@ fn run_input<R: Wait, I: Source, O: Sink, K: Clock, X: Asked>(
     ensures stderr { world.new.stderr ≡ world.old.stderr }
 {
     match input {
-        LineInput::Stdin(settings) => pump(rt, alloc, settings, world, runner),
+        LineInput::Stdin(settings) => read_stdin(rt, alloc, settings, world, runner),
         LineInput::Generated(generator) => generate(rt, alloc, generator, world, runner),
     }
 }
 
 /// Runs the events of the lines of stdin until its end.
-fn pump<R: Wait, I: Source, O: Sink, K: Clock, X: Asked>(
+fn read_stdin<R: Wait, I: Source, O: Sink, K: Clock, X: FilterCall>(
     rt: &R,
     alloc: Global,
     settings: &EventSettings,
@@ -101,7 +102,7 @@ fn pump<R: Wait, I: Source, O: Sink, K: Clock, X: Asked>(
         match world.stdin.read(&mut room) {
             Ok(Step::Bytes(count)) => {
                 let bytes = &room[..count];
-                match take_piece(
+                match run_piece(
                     alloc,
                     settings,
                     &mut reader,
@@ -134,7 +135,7 @@ fn pump<R: Wait, I: Source, O: Sink, K: Clock, X: Asked>(
 
 /// Takes the next bytes of the input, runs the events of the lines that they make whole, and flushes what stdout
 /// took, so that whoever waits for it has it before the next read.
-fn take_piece<X: Asked, O: Sink>(
+fn run_piece<X: FilterCall, O: Sink>(
     alloc: Global,
     settings: &EventSettings,
     reader: &mut LineReader,
@@ -153,7 +154,7 @@ fn take_piece<X: Asked, O: Sink>(
         (O.taken stdout.old) (O.taken stdout.new)) }
     ensures part { (config : Config) (draws : Draws) (boxes : List (Option X))
         → IsRunnerOf X.may config draws boxes runner.old
-        → TookFirst config draws (MayAt X.may boxes)
+        → WrotePrefix config draws (MayAt X.may boxes)
         (batches_of (events_left settings.now moment (fed reader.old bytes.now)))
         (O.taken stdout.old) (O.taken stdout.new) }
     ensures stays { (config : Config) (draws : Draws) (boxes : List (Option X))

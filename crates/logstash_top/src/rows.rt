@@ -1,3 +1,4 @@
+// Running the events of the lines that a reader has.
 ghost use Rattle.std.specs.Prelude.{◌≡◌, ◌≤◌, ◌<◌, ◌∷◌, [], List, Option, Err, OnOk, length};
 ghost use Rattle.byte_lines.specs.Unread.{KeepsRest, lines_left};
 ghost use Rattle.event_tree.specs.Events.{Ev};
@@ -5,7 +6,7 @@ ghost use Rattle.config_tree.specs.declared.tree.Config.{Config};
 ghost use Rattle.event_flow.specs.Places.{Draws};
 ghost use Rattle.io_traits.specs.Counts.{HasCause};
 ghost use Rattle.plugin_graph.specs.Kits.{MayAt};
-ghost use Rattle.batch_rows.specs.Batches.{TookBatches, TookFirst};
+ghost use Rattle.batch_rows.specs.Batches.{TookBatches, WrotePrefix};
 ghost use Rattle.batch_rows.specs.Running.{IsRunnerOf, RanUpTo, batch_limit, batches_behind, batches_of};
 ghost use Rattle.in_lines.specs.Settings.{event_with};
 ghost use Rattle.logstash_top.specs.Rows.{events_left};
@@ -14,7 +15,7 @@ use crate::run_fault::RunFault;
 use batch_rows::Runner;
 use byte_lines::LineReader;
 use event_tree::Event;
-use foreign_parts::Asked;
+use foreign_parts::FilterCall;
 use in_lines::EventSettings;
 use io_traits::Sink;
 use std::alloc::Global;
@@ -22,7 +23,7 @@ use time_instant::Instant;
 
 /// Runs the events of the lines that the reader has left, as the settings of the input make them, in batches. No event is held before the call, and
 /// none behind it where it succeeds.
-pub(crate) fn run_lines<X: Asked, O: Sink>(
+pub(crate) fn run_lines<X: FilterCall, O: Sink>(
     alloc: Global,
     settings: &EventSettings,
     reader: &mut LineReader,
@@ -38,7 +39,7 @@ pub(crate) fn run_lines<X: Asked, O: Sink>(
         (O.taken stdout.old) (O.taken stdout.new)) }
     ensures part { (config : Config) (draws : Draws) (boxes : List (Option X))
         → IsRunnerOf X.may config draws boxes runner.old
-        → TookFirst config draws (MayAt X.may boxes) (batches_of (events_left settings.now moment reader.old))
+        → WrotePrefix config draws (MayAt X.may boxes) (batches_of (events_left settings.now moment reader.old))
         (O.taken stdout.old) (O.taken stdout.new) }
     ensures stays { (config : Config) (draws : Draws) (boxes : List (Option X))
         → IsRunnerOf X.may config draws boxes runner.old
@@ -72,7 +73,7 @@ pub(crate) fn run_lines<X: Asked, O: Sink>(
 }
 
 /// Takes the event of a line.
-fn add_line<X: Asked, O: Sink>(
+fn add_line<X: FilterCall, O: Sink>(
     alloc: Global,
     settings: &EventSettings,
     line: &str,
@@ -89,7 +90,7 @@ fn add_line<X: Asked, O: Sink>(
         (batches_behind runner.new.held es) (O.taken stdout.old) (O.taken stdout.new)) }
     ensures part { (config : Config) (draws : Draws) (boxes : List (Option X))
         → IsRunnerOf X.may config draws boxes runner.old → (es : List Ev)
-        → TookFirst config draws (MayAt X.may boxes)
+        → WrotePrefix config draws (MayAt X.may boxes)
         (batches_behind runner.old.held (event_with settings.now (record { line = line.now; moment = moment }) ∷ es))
         (O.taken stdout.old) (O.taken stdout.new) }
     ensures stays { (config : Config) (draws : Draws) (boxes : List (Option X))
@@ -105,7 +106,7 @@ fn add_line<X: Asked, O: Sink>(
 }
 
 /// Takes an event.
-pub(crate) fn add_event<X: Asked, O: Sink>(
+pub(crate) fn add_event<X: FilterCall, O: Sink>(
     event: Event,
     runner: &mut Runner<X>,
     stdout: &mut O,
@@ -117,7 +118,7 @@ pub(crate) fn add_event<X: Asked, O: Sink>(
         (batches_behind runner.new.held es) (O.taken stdout.old) (O.taken stdout.new)) }
     ensures part { (config : Config) (draws : Draws) (boxes : List (Option X))
         → IsRunnerOf X.may config draws boxes runner.old → (es : List Ev)
-        → TookFirst config draws (MayAt X.may boxes)
+        → WrotePrefix config draws (MayAt X.may boxes)
         (batches_behind runner.old.held (event ∷ es)) (O.taken stdout.old) (O.taken stdout.new) }
     ensures stays { (config : Config) (draws : Draws) (boxes : List (Option X))
         → IsRunnerOf X.may config draws boxes runner.old
@@ -132,7 +133,7 @@ pub(crate) fn add_event<X: Asked, O: Sink>(
 }
 
 /// Runs the events that are still held.
-pub(crate) fn finish<X: Asked, O: Sink>(
+pub(crate) fn finish<X: FilterCall, O: Sink>(
     runner: &mut Runner<X>,
     stdout: &mut O,
 ) -> Result<(), RunFault>
@@ -142,7 +143,7 @@ pub(crate) fn finish<X: Asked, O: Sink>(
         (O.taken stdout.old) (O.taken stdout.new)) }
     ensures part { (config : Config) (draws : Draws) (boxes : List (Option X))
         → IsRunnerOf X.may config draws boxes runner.old
-        → TookFirst config draws (MayAt X.may boxes) (batches_behind runner.old.held [])
+        → WrotePrefix config draws (MayAt X.may boxes) (batches_behind runner.old.held [])
         (O.taken stdout.old) (O.taken stdout.new) }
     ensures stays { (config : Config) (draws : Draws) (boxes : List (Option X))
         → IsRunnerOf X.may config draws boxes runner.old

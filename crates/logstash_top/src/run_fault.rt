@@ -1,3 +1,4 @@
+// Why a run stopped before its end.
 ghost use Rattle.std.specs.Prelude.{◌≡◌};
 ghost use Rattle.logstash_top.specs.declared.run_fault.RunFault.TheVariants.{Memory, Output};
 

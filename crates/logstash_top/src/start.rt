@@ -1,3 +1,4 @@
+// What stands before each run and test: the words and the configuration are read.
 ghost use Rattle.std.specs.Prelude.{◌≡◌, ◌⊎◌, Err, map, string_bytes};
 ghost use Rattle.foreign_parts.specs.Boxes.{Keeps};
 ghost use Rattle.graph_checks.specs.Whole.{checked};
@@ -7,7 +8,7 @@ ghost use Rattle.logstash_top.specs.Status.{status_of_fault, status_of_refusal};
 
 use crate::built::is_built;
 use crate::status::Status;
-use crate::words::{Command, ordered};
+use crate::words::{Command, command_of_words};
 use config_parse::{ConfigFault, parse};
 use config_tree::Config;
 use graph_checks::{Boxes, GraphFault, check};
@@ -32,7 +33,7 @@ pub(crate) fn start<B: Boxes>(alloc: Global, words: &[String], boxes: &mut B) ->
         result }
     ensures keeps { Keeps B.stand B.links boxes.old boxes.new }
 {
-    let Command { pipeline, text } = ordered(alloc, words)?;
+    let Command { pipeline, text } = command_of_words(alloc, words)?;
     match parse(alloc, text.as_str()) {
         Ok(config) => begin(alloc, pipeline, config, boxes),
         Err(fault) => Err(refused_text(pipeline, fault)),

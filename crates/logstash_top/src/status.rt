@@ -1,3 +1,4 @@
+// How a call ended, with its status number.
 ghost use Rattle.std.specs.Prelude.{◌≡◌};
 ghost use Rattle.logstash_top.specs.Status.{number_of};
 

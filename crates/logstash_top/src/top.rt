@@ -1,6 +1,7 @@
+// The top call: runs what the words of the command line ask for.
 ghost use Rattle.std.specs.Prelude.{◌≡◌, ◌⊎◌, ℕ, IfOk, map, string_bytes};
 ghost use Rattle.foreign_parts.specs.Boxes.{Keeps};
-ghost use Rattle.foreign_parts.specs.declared.boxes.Kind.TheVariants as kind;
+ghost use Rattle.foreign_parts.specs.declared.boxes.BoxKind.TheVariants as kind;
 ghost use Rattle.logstash_top.specs.Answers.{Answers, MayRun};
 ghost use Rattle.plugin_graph.specs.Graphs.{boxes_in};
 ghost use Rattle.graph_checks.specs.OwnIds.{HaveOwnIds};
@@ -22,10 +23,10 @@ use crate::run_fault::RunFault;
 use crate::start::{Job, WORKERS, refused, start};
 use crate::status::Status;
 use crate::world::ThinWorld;
-use batch_rows::{Closed, OutputCodec, Runner, close_kit, codecs_of_config};
+use batch_rows::{Close, OutputCodec, Runner, close_kit, codecs_of_config};
 use built_plugins::plugin_id;
 use config_tree::{Config, Plugin};
-use foreign_parts::{Asked, Stockroom};
+use foreign_parts::{BoxPool, FilterCall};
 use graph_checks::{Plan, compile};
 use in_lines::LineInput;
 use io_traits::{Clock, Sink, Source};
@@ -71,13 +72,14 @@ use std::sync::Wait;
 ///   whole.
 ///
 /// Nothing is read behind the end of stdin.
-pub fn logstash<R: Wait, I: Source, O: Sink, K: Clock, F: Asked + Closed, B: Stockroom<Filter = F>>(
-    rt: &R,
-    alloc: Global,
-    words: &[String],
-    world: &mut ThinWorld<I, O, K>,
-    rack: &mut B,
-) -> Status
+pub fn logstash<
+    R: Wait,
+    I: Source,
+    O: Sink,
+    K: Clock,
+    F: FilterCall + Close,
+    B: BoxPool<Filter = F>,
+>(rt: &R, alloc: Global, words: &[String], world: &mut ThinWorld<I, O, K>, rack: &mut B) -> Status
     ensures answers { Answers (given_by B.stand B.links rack.old) (map string_bytes words.now)
         MayRun result }
     ensures refused { IsRefused result → IsUntouched world.old world.new }
@@ -111,7 +113,7 @@ pub fn logstash<R: Wait, I: Source, O: Sink, K: Clock, F: Asked + Closed, B: Sto
 }
 
 /// The status, before its line is told.
-fn outcome<R: Wait, I: Source, O: Sink, K: Clock, F: Asked + Closed, B: Stockroom<Filter = F>>(
+fn outcome<R: Wait, I: Source, O: Sink, K: Clock, F: FilterCall + Close, B: BoxPool<Filter = F>>(
     rt: &R,
     alloc: Global,
     words: &[String],
@@ -151,7 +153,7 @@ fn outcome<R: Wait, I: Source, O: Sink, K: Clock, F: Asked + Closed, B: Stockroo
 
 /// Runs a plan with the kit of one worker, whose outputs to stdout have these codecs, over the events of its input, and
 /// closes the boxes of all kits.
-fn run_plan<R: Wait, I: Source, O: Sink, K: Clock, F: Asked + Closed, P: Drop>(
+fn run_plan<R: Wait, I: Source, O: Sink, K: Clock, F: FilterCall + Close, P: Drop>(
     rt: &R,
     alloc: Global,
     pipeline: Text,
@@ -194,7 +196,7 @@ fn run_plan<R: Wait, I: Source, O: Sink, K: Clock, F: Asked + Closed, P: Drop>(
 }
 
 /// Closes each box of some kits once.
-fn close_kits<F: Closed>(kits: &mut Vec<Kit<F>>)
+fn close_kits<F: Close>(kits: &mut Vec<Kit<F>>)
     ensures { closes_in F.closes kits.new.items
         ≡ all_once_more (closes_in F.closes kits.old.items) }
 {

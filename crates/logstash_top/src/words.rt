@@ -6,7 +6,7 @@ ghost use Rattle.logstash_top.specs.Answers.{asked};
 ghost use Rattle.logstash_top.specs.Words as spec;
 ghost use Rattle.logstash_top.specs.Words.{which_of, workers_of};
 
-use crate::calls::Which;
+use crate::requested_call::Which;
 use crate::status::Status;
 use logstash_settings::{ConfigSource, Orders, QueueTool, WordsFault, read_words};
 use plain_data::Text;
@@ -65,7 +65,7 @@ pub fn workers_wanted(alloc: Global, words: &[String]) -> Result<u32, AllocError
 }
 
 /// The text that the words run, or why there is none.
-pub(crate) fn ordered(alloc: Global, words: &[String]) -> Result<Command, Status>
+pub(crate) fn command_of_words(alloc: Global, words: &[String]) -> Result<Command, Status>
     ensures { (result ≡ asked (answer_of (map string_bytes words.now)))
         ⊎ (result ≡ Err Status.NoMemory) }
 {

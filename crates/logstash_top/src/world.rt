@@ -1,3 +1,4 @@
+// The objects of the outside that a run takes.
 /// The outside of a run.
 #[derive(Drop)]
 pub struct ThinWorld<I, O, K> {

@@ -35,15 +35,15 @@ mod told;
 mod words;
 mod written;
 
-use batch_rows::Closed;
-use foreign_parts::{Asked, Rack, Stockroom};
+use batch_rows::Close;
+use foreign_parts::{BoxPool, FilterCall, Rack};
 use std::alloc::AllocError;
 use std::sync::Wait;
 use std::{fs, io};
 
 /// What the rows of a table are.
 #[derive(Clone, Copy)]
-enum Table {
+enum RunTable {
     Runs,
     Configured,
     Tests,
@@ -56,31 +56,31 @@ enum Table {
     Paths,
 }
 
-const TABLES: [(&str, Table); 24] = [
-    ("texts", Table::Runs),
-    ("lines", Table::Runs),
-    ("words_refused", Table::Runs),
-    ("words_run", Table::Runs),
-    ("texts_refused", Table::Runs),
-    ("long_texts", Table::Runs),
-    ("faults", Table::Runs),
-    ("pauses", Table::Runs),
-    ("long_lines", Table::Runs),
-    ("defined", Table::Runs),
-    ("worked", Table::Configured),
-    ("configurations", Table::Configured),
-    ("inputs", Table::Configured),
-    ("failing", Table::Configured),
-    ("named", Table::Configured),
-    ("tests", Table::Tests),
-    ("refused", Table::Configured),
-    ("calls", Table::Calls),
-    ("decoded", Table::Decoded),
-    ("samples", Table::Samples),
-    ("words", Table::Words),
-    ("pipelines", Table::Pipelines),
-    ("defaults", Table::Defaults),
-    ("paths", Table::Paths),
+const TABLES: [(&str, RunTable); 24] = [
+    ("texts", RunTable::Runs),
+    ("lines", RunTable::Runs),
+    ("words_refused", RunTable::Runs),
+    ("words_run", RunTable::Runs),
+    ("texts_refused", RunTable::Runs),
+    ("long_texts", RunTable::Runs),
+    ("faults", RunTable::Runs),
+    ("pauses", RunTable::Runs),
+    ("long_lines", RunTable::Runs),
+    ("defined", RunTable::Runs),
+    ("worked", RunTable::Configured),
+    ("configurations", RunTable::Configured),
+    ("inputs", RunTable::Configured),
+    ("failing", RunTable::Configured),
+    ("named", RunTable::Configured),
+    ("tests", RunTable::Tests),
+    ("refused", RunTable::Configured),
+    ("calls", RunTable::Calls),
+    ("decoded", RunTable::Decoded),
+    ("samples", RunTable::Samples),
+    ("words", RunTable::Words),
+    ("pipelines", RunTable::Pipelines),
+    ("defaults", RunTable::Defaults),
+    ("paths", RunTable::Paths),
 ];
 
 fn main(rt: HostRuntime) -> io::Result<()> {
@@ -97,23 +97,23 @@ fn main(rt: HostRuntime) -> io::Result<()> {
     Ok(())
 }
 
-fn add_answer<R: Wait, F: Asked + Closed, B: Stockroom<Filter = F>>(
+fn add_answer<R: Wait, F: FilterCall + Close, B: BoxPool<Filter = F>>(
     rt: &R,
     to: &mut String,
-    table: Table,
+    table: RunTable,
     row: &str,
     rack: &mut B,
 ) -> Result<(), AllocError> {
     match table {
-        Table::Runs => runs::add_run(rt, to, row, rack),
-        Table::Configured => runs::add_configured(rt, to, row, rack),
-        Table::Tests => words::add_test(to, row, rack),
-        Table::Calls => words::add_call(to, row),
-        Table::Decoded => decoded::add_decoded(to, row),
-        Table::Samples => decoded::add_sample(to, row),
-        Table::Words => settings::add_words(to, row),
-        Table::Pipelines => settings::add_pipelines(to, "", row),
-        Table::Defaults => settings::add_defaults(to, row),
-        Table::Paths => settings::add_match(to, row),
+        RunTable::Runs => runs::add_run(rt, to, row, rack),
+        RunTable::Configured => runs::add_configured(rt, to, row, rack),
+        RunTable::Tests => words::add_test(to, row, rack),
+        RunTable::Calls => words::add_call(to, row),
+        RunTable::Decoded => decoded::add_decoded(to, row),
+        RunTable::Samples => decoded::add_sample(to, row),
+        RunTable::Words => settings::add_words(to, row),
+        RunTable::Pipelines => settings::add_pipelines(to, "", row),
+        RunTable::Defaults => settings::add_defaults(to, row),
+        RunTable::Paths => settings::add_match(to, row),
     }
 }

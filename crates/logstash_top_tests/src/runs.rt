@@ -7,21 +7,21 @@ ghost use Rattle.io_memory.specs.Gave.{piece_of as given_piece};
 use crate::objects::{PausedClock, new_year, sink, source};
 use crate::told::add_sink;
 use crate::written::{bytes_of, cut, words_of};
-use batch_rows::Closed;
-use foreign_parts::{Asked, Stockroom};
+use batch_rows::Close;
+use foreign_parts::{BoxPool, FilterCall};
 use in_lines::{LINE_LIMIT, Piece, Poll, events_of_polls, write_row};
 use logstash_top::{ThinWorld, logstash};
 use std::alloc::{AllocError, Global};
 use std::sync::Wait;
-use store_disk::{Gave, Instant, MemorySink, MemorySource};
+use store_disk::{Instant, MemorySink, MemorySource, SourceEvent};
 
-type World = ThinWorld<MemorySource, MemorySink, PausedClock>;
+type MemoryWorld = ThinWorld<MemorySource, MemorySink, PausedClock>;
 
 /// How many bytes of stdout are compared with those that the definition of rows gives.
 const COMPARED: usize = 4_000;
 
 /// Adds what a run leaves, and whether stdout holds the rows that the definition gives for what stdin gave.
-pub fn add_run<R: Wait, F: Asked + Closed, B: Stockroom<Filter = F>>(
+pub fn add_run<R: Wait, F: FilterCall + Close, B: BoxPool<Filter = F>>(
     rt: &R,
     to: &mut String,
     row: &str,
@@ -32,7 +32,7 @@ pub fn add_run<R: Wait, F: Asked + Closed, B: Stockroom<Filter = F>>(
 }
 
 /// Adds what a run leaves.
-pub fn add_configured<R: Wait, F: Asked + Closed, B: Stockroom<Filter = F>>(
+pub fn add_configured<R: Wait, F: FilterCall + Close, B: BoxPool<Filter = F>>(
     rt: &R,
     to: &mut String,
     row: &str,
@@ -43,12 +43,12 @@ pub fn add_configured<R: Wait, F: Asked + Closed, B: Stockroom<Filter = F>>(
 }
 
 /// Adds what a run leaves, and gives it.
-fn ran<R: Wait, F: Asked + Closed, B: Stockroom<Filter = F>>(
+fn ran<R: Wait, F: FilterCall + Close, B: BoxPool<Filter = F>>(
     rt: &R,
     to: &mut String,
     row: &str,
     rack: &mut B,
-) -> Result<World, AllocError> {
+) -> Result<MemoryWorld, AllocError> {
     let alloc = *to.allocator();
     let (objects, asked) = cut(row, " | ");
     let (words, stdin) = cut(asked, " | ");
@@ -59,7 +59,7 @@ fn ran<R: Wait, F: Asked + Closed, B: Stockroom<Filter = F>>(
     Ok(world)
 }
 
-fn world(alloc: Global, objects: &str, stdin: &str) -> Result<World, AllocError> {
+fn world(alloc: Global, objects: &str, stdin: &str) -> Result<MemoryWorld, AllocError> {
     let (reads, sinks) = cut(objects, ", ");
     let (stdout, stderr) = cut(sinks, ", ");
     Ok(ThinWorld {
@@ -70,7 +70,7 @@ fn world(alloc: Global, objects: &str, stdin: &str) -> Result<World, AllocError>
     })
 }
 
-fn add_left(to: &mut String, status: u8, world: &World) -> Result<(), AllocError> {
+fn add_left(to: &mut String, status: u8, world: &MemoryWorld) -> Result<(), AllocError> {
     let reads = world.stdin.script().made();
     let pauses = world.clock.pauses();
     write!(to, "{status}; {reads} reads {pauses} pauses")?;
@@ -78,7 +78,7 @@ fn add_left(to: &mut String, status: u8, world: &World) -> Result<(), AllocError
     add_sink(to, "stderr", &world.stderr)
 }
 
-fn add_comparison(to: &mut String, given: &[Gave], taken: &[u8]) -> Result<(), AllocError> {
+fn add_comparison(to: &mut String, given: &[SourceEvent], taken: &[u8]) -> Result<(), AllocError> {
     if taken.len() > COMPARED {
         return Ok(());
     }
@@ -90,7 +90,7 @@ fn add_comparison(to: &mut String, given: &[Gave], taken: &[u8]) -> Result<(), A
     })
 }
 
-fn defined_rows(alloc: Global, given: &[Gave]) -> Result<Vec<u8>, AllocError> {
+fn defined_rows(alloc: Global, given: &[SourceEvent]) -> Result<Vec<u8>, AllocError> {
     let polls = polls_of(alloc, given)?;
     let mut rows = Vec::new(alloc);
     for event in events_of_polls(alloc, LINE_LIMIT, &polls)?.as_slice() {
@@ -99,7 +99,7 @@ fn defined_rows(alloc: Global, given: &[Gave]) -> Result<Vec<u8>, AllocError> {
     Ok(rows)
 }
 
-fn polls_of(alloc: Global, given: &[Gave]) -> Result<Vec<Poll>, AllocError> {
+fn polls_of(alloc: Global, given: &[SourceEvent]) -> Result<Vec<Poll>, AllocError> {
     let mut polls = Vec::new(alloc);
     for gave in given {
         polls.push(poll_of(new_year(), gave)?)?;
@@ -108,13 +108,13 @@ fn polls_of(alloc: Global, given: &[Gave]) -> Result<Vec<Poll>, AllocError> {
 }
 
 /// The poll of a source that gave this at the moment, for the definition of what a run writes.
-fn poll_of(moment: Instant, gave: &Gave) -> Result<Poll, AllocError>
+fn poll_of(moment: Instant, gave: &SourceEvent) -> Result<Poll, AllocError>
     ensures moment { IfOk result (λ poll. poll.moment ≡ moment) }
     ensures piece { IfOk result (λ poll. piece_of poll.piece ≡ given_piece gave.now) }
 {
     let piece = match gave {
-        Gave::Bytes(bytes) => Piece::Bytes(bytes.clone()?),
-        Gave::End => Piece::End,
+        SourceEvent::Bytes(bytes) => Piece::Bytes(bytes.clone()?),
+        SourceEvent::End => Piece::End,
     };
     Ok(Poll { moment, piece })
 }

@@ -11,29 +11,29 @@ use Rattle.monitor_core.specs.Kept.{Owns, AreApart, Kept, ReadsOwn, with_word, a
 use Rattle.monitor_core.specs.Places.{place}
 use Rattle.monitor_core.specs.declared.counter.Counter.{Counter}
 use Rattle.monitor_core.specs.declared.counter.Counter.TheVariants as counter
-use Rattle.monitor_core.specs.declared.rule.Counting.{Counting}
+use Rattle.monitor_core.specs.declared.rule.CounterView.{CounterView}
 
 -- what the last place of a longer list holds
-at_end : (l : List Counting) (a b : Counting) (j : ℕ) → get_elem? (l ++ a ∷ []) j ≡ some b → (get_elem? l j ≡ some b) ⊎ ((j ≡ length l) × (a ≡ b))
+at_end : (l : List CounterView) (a b : CounterView) (j : ℕ) → get_elem? (l ++ a ∷ []) j ≡ some b → (get_elem? l j ≡ some b) ⊎ ((j ≡ length l) × (a ≡ b))
 at_end [] a b zero e = inr (refl, some-injective a b e)
 at_end [] a b (suc j) e = absurd (some-ne-none b (sym e))
 at_end (x ∷ xs) a b zero e = inl e
 at_end (x ∷ xs) a b (suc j) e = ⊎_elim (λ h. inl h) (λ h. inr (ap suc h.0, h.1)) (at_end xs a b j e)
 
 -- a view with the words of an old one, or with some of them
-pub record Within (v u : Counting) : Type 0 where
+pub record Within (v u : CounterView) : Type 0 where
   pub begins : v.from ≤ u.from
   pub ends : u.from + length u.counts ≤ v.from + length v.counts
 
-within_itself : (v : Counting) → Within v v
+within_itself : (v : CounterView) → Within v v
 within_itself v = record { begins = omega arith; ends = omega arith }
 
-apart_within : (v w a b : Counting) → Within v a → Within w b → AreApart v w → AreApart a b
+apart_within : (v w a b : CounterView) → Within v a → Within w b → AreApart v w → AreApart a b
 apart_within v w a b f g h = ⊎_elim (λ e. inl (omega (arith, e, f.begins, f.ends, g.begins, g.ends))) (λ e. inr (omega (arith, e, f.begins, f.ends, g.begins, g.ends))) h
 
 -- ---- loads
 
-pub reads : (slots id : ℕ) (me : Me Unit Counting) (i : ℕ) → Allows Kept slots id me i (λ n. n) (λ n after. (after ≡ me) × ReadsOwn me.0 i n)
+pub reads : (slots id : ℕ) (me : Me Unit CounterView) (i : ℕ) → Allows Kept slots id me i (λ n. n) (λ n after. (after ≡ me) × ReadsOwn me.0 i n)
 reads slots id me i s kept homes there fits = (me.0, keeps, tt, same, (refl, own))
   where
     words : set s.words i (get_or s.words i 0) ≡ s.words
@@ -50,7 +50,7 @@ reads slots id me i s kept homes there fits = (me.0, keeps, tt, same, (refl, own
 
 -- ---- stores
 
-module _ (s : State Unit Counting) (id : ℕ) (v : Counting) (i n : ℕ) (kept : Kept s) (there : get_elem? s.views id ≡ some v) (lo : v.from ≤ i) (hi : i < v.from + length v.counts) where
+module _ (s : State Unit CounterView) (id : ℕ) (v : CounterView) (i n : ℕ) (kept : Kept s) (there : get_elem? s.views id ≡ some v) (lo : v.from ≤ i) (hi : i < v.from + length v.counts) where
   own_set : Owns (set s.words i n) (with_word v i n)
   own_set = record {
     within = omega (arith, length-set s.words i n, length-set v.counts (i - v.from) n, (kept.owned id v there).within);
@@ -63,13 +63,13 @@ module _ (s : State Unit Counting) (id : ℕ) (v : Counting) (i n : ℕ) (kept :
           (λ e. get_or-set_other s.words i (v.from + j) n 0 (λ f. e.1 (omega (arith, f))) ∙ (kept.owned id v there).same j (omega (arith, h, length-set v.counts (i - v.from) n)) ∙ sym (get_or-set_other v.counts (i - v.from) j n 0 e.1))
           (eqb_tells j (i - v.from))
 
-  other_set : (k : ℕ) (u : Counting) → k ≢ id → get_elem? s.views k ≡ some u → Owns (set s.words i n) u
+  other_set : (k : ℕ) (u : CounterView) → k ≢ id → get_elem? s.views k ≡ some u → Owns (set s.words i n) u
   other_set k u ne at = record {
     within = omega (arith, length-set s.words i n, (kept.owned k u at).within);
     same = λ j h. get_or-set_other s.words i (u.from + j) n 0 (λ e. ⊎_elim (λ l. absurd (omega (arith, l, e))) (λ l. absurd (omega (arith, l, e))) (kept.apart k id u v ne at there)) ∙ (kept.owned k u at).same j h;
   }
 
-  old_of : (k : ℕ) (u : Counting) → get_elem? (set s.views id (with_word v i n)) k ≡ some u → (w : Counting) × (get_elem? s.views k ≡ some w) × Within w u
+  old_of : (k : ℕ) (u : CounterView) → get_elem? (set s.views id (with_word v i n)) k ≡ some u → (w : CounterView) × (get_elem? s.views k ≡ some w) × Within w u
   old_of k u e = ⊎_elim
       (λ h. (v, ap (get_elem? s.views) h.0 ∙ there, subst (λ x. Within v x) h.1 (record { begins = omega arith; ends = omega (arith, length-set v.counts (i - v.from) n) })))
       (λ h. (u, h.1, within_itself u))
@@ -82,13 +82,13 @@ module _ (s : State Unit Counting) (id : ℕ) (v : Counting) (i n : ℕ) (kept :
         apart_within old.0 other.0 a b old.2 other.2 (kept.apart k l old.0 other.0 ne old.1 other.1);
   }
 
-pub stores : (slots id : ℕ) (me : Me Unit Counting) (i n : ℕ) → me.0.from ≤ i → i < me.0.from + length me.0.counts
+pub stores : (slots id : ℕ) (me : Me Unit CounterView) (i n : ℕ) → me.0.from ≤ i → i < me.0.from + length me.0.counts
     → Allows Kept slots id me i (λ _. n) (λ _ after. after ≡ (with_word me.0 i n, me.1))
 stores slots id me i n lo hi s kept homes there fits = (with_word me.0 i n, keeps, tt, stored s id me.0 i n kept there lo hi s.homes, refl)
 
 -- ---- a new seat
 
-module _ (s : State Unit Counting) (id : ℕ) (v : Counting) (kept : Kept s) (there : get_elem? s.views id ≡ some v) where
+module _ (s : State Unit CounterView) (id : ℕ) (v : CounterView) (kept : Kept s) (there : get_elem? s.views id ≡ some v) where
   owns_front : Owns s.words (all_but_four v)
   owns_front = record {
     within = omega (arith, length-take (length v.counts - 4) v.counts, (kept.owned id v there).within);
@@ -112,29 +112,29 @@ module _ (s : State Unit Counting) (id : ℕ) (v : Counting) (kept : Kept s) (th
   four_behind = inl (omega (arith, length-take (length v.counts - 4) v.counts))
 
   -- a view behind the split: one of before, but for the words that were given away, or the new one
-  data Comes (k : ℕ) (u : Counting) : Type 0 where
-    Kept_as : (w : Counting) → get_elem? s.views k ≡ some w → k ≢ id → w ≡ u → Comes k u
+  data Comes (k : ℕ) (u : CounterView) : Type 0 where
+    Kept_as : (w : CounterView) → get_elem? s.views k ≡ some w → k ≢ id → w ≡ u → Comes k u
     Front : k ≡ id → all_but_four v ≡ u → Comes k u
     New : k ≡ length (set s.views id (all_but_four v)) → last_four v ≡ u → Comes k u
 
-  comes : (k : ℕ) (u : Counting) → get_elem? (set s.views id (all_but_four v) ++ last_four v ∷ []) k ≡ some u → Comes k u
+  comes : (k : ℕ) (u : CounterView) → get_elem? (set s.views id (all_but_four v) ++ last_four v ∷ []) k ≡ some u → Comes k u
   comes k u e = ⊎_elim
       (λ h. ⊎_elim (λ g. Front g.0 g.1) (λ g. Kept_as u g.1 g.0 refl) (at_set s.views id k (all_but_four v) u h))
       (λ h. New h.0 h.1)
       (at_end (set s.views id (all_but_four v)) (last_four v) u k e)
 
-  owned_by : (k : ℕ) (u : Counting) → Comes k u → Owns s.words u
+  owned_by : (k : ℕ) (u : CounterView) → Comes k u → Owns s.words u
   owned_by k u (Kept_as w at ne e) = subst (λ x. Owns s.words x) e (kept.owned k w at)
   owned_by k u (Front e f) = subst (λ x. Owns s.words x) f owns_front
   owned_by k u (New e f) = subst (λ x. Owns s.words x) f owns_four
 
-  swap_apart : (a b : Counting) → AreApart a b → AreApart b a
+  swap_apart : (a b : CounterView) → AreApart a b → AreApart b a
   swap_apart a b h = ⊎_elim (λ e. inr e) (λ e. inl e) h
 
-  beside_old : (k : ℕ) (w u : Counting) → k ≢ id → get_elem? s.views k ≡ some w → Within v u → AreApart w u
+  beside_old : (k : ℕ) (w u : CounterView) → k ≢ id → get_elem? s.views k ≡ some w → Within v u → AreApart w u
   beside_old k w u nw at within = apart_within w v w u (within_itself w) within (kept.apart k id w v nw at there)
 
-  beside : (k l : ℕ) (a b : Counting) → k ≢ l → Comes k a → Comes l b → AreApart a b
+  beside : (k l : ℕ) (a b : CounterView) → k ≢ l → Comes k a → Comes l b → AreApart a b
   beside k l a b ne (Kept_as w at nw e) (Kept_as x bt nx f) = subst (λ y. AreApart y b) e (subst (λ y. AreApart w y) f (kept.apart k l w x ne at bt))
   beside k l a b ne (Kept_as w at nw e) (Front g f) = subst (λ y. AreApart y b) e (subst (λ y. AreApart w y) f (beside_old k w (all_but_four v) nw at front_within))
   beside k l a b ne (Kept_as w at nw e) (New g f) = subst (λ y. AreApart y b) e (subst (λ y. AreApart w y) f (beside_old k w (last_four v) nw at four_within))
@@ -145,7 +145,7 @@ module _ (s : State Unit Counting) (id : ℕ) (v : Counting) (kept : Kept s) (th
   beside k l a b ne (New g f) (Front h e) = subst (λ y. AreApart y b) f (subst (λ y. AreApart (last_four v) y) e (swap_apart (all_but_four v) (last_four v) four_behind))
   beside k l a b ne (New g f) (New h e) = absurd (ne (g ∙ sym h))
 
-pub splits : (id : ℕ) (v : Counting) → Splits Kept id v (all_but_four v) (last_four v)
+pub splits : (id : ℕ) (v : CounterView) → Splits Kept id v (all_but_four v) (last_four v)
 splits id v s kept there = record {
   owned = λ k u e. owned_by s id v kept there k u (comes s id v kept there k u e);
   apart = λ k l a b ne f g. beside s id v kept there k l a b ne (comes s id v kept there k a f) (comes s id v kept there l b g);
@@ -153,7 +153,7 @@ splits id v s kept there = record {
 
 -- ---- the table at the start
 
-abbrev first : ℕ → Counting
+abbrev first : ℕ → CounterView
 first n = record { from = 0; counts = replicate n 0 }
 
 pub opens : (n : ℕ) → Kept (opening (replicate n 0) [] (first n))

@@ -1,3 +1,4 @@
+// What is counted, and sums over all seats.
 ghost use Rattle.std.specs.Prelude.{◌≡◌, ◌<◌, ◌+◌, ◌^◌, ◌==◌, ◌||◌};
 ghost use Rattle.monitor_core.specs.Places.{place, last};
 

@@ -1,7 +1,8 @@
+// A table of counters that threads add to, each at its own seat.
 ghost use Rattle.std.specs.Prelude.{◌≡◌, ◌≤◌, ◌<◌, ◌+◌, ◌*◌, [], All, length, replicate, slice_set, IfOk};
 
 use crate::counter::{Counter, Total, Totals};
-use crate::rule::{Counting, GivesFour, Keeping, Reads, Sets};
+use crate::rule::{CounterRule, CounterView, LoadStep, SplitStep, StoreStep};
 use atomic_table::{Seat, Table};
 use plain_data::Items;
 use std::alloc::{AllocError, Global};
@@ -12,7 +13,7 @@ const WORDS: usize = 4;
 /// The right to add to the counters of one seat. It has no words of its own: they lie in the monitor.
 #[derive(Drop)]
 pub struct CountSeat {
-    pub(crate) seat: Seat<(), Counting>,
+    pub(crate) seat: Seat<(), CounterView>,
     /// Which of the monitor's seats it is, from 0 on.
     pub(crate) number: usize,
     ghost holds_no_slot: { seat.me.1 ≡ [] },
@@ -26,7 +27,7 @@ pub type CountSeats = Items<CountSeat>;
 /// A table of counters that threads add to and read side by side.
 #[derive(Drop)]
 pub struct Monitor {
-    pub(crate) table: Table<(), Counting, usize, Keeping, Global>,
+    pub(crate) table: Table<(), CounterView, usize, CounterRule, Global>,
     pub(crate) seats: usize,
     ghost words: { table.shared.table_id.words ≡ 4 * seats },
     ghost some: { 0 < seats },
@@ -46,8 +47,8 @@ impl CountSeat {
 
     /// The seat of the last four words that the first seat holds.
     fn split_off(
-        table: &Table<(), Counting, usize, Keeping, Global>,
-        first: &mut Seat<(), Counting>,
+        table: &Table<(), CounterView, usize, CounterRule, Global>,
+        first: &mut Seat<(), CounterView>,
         number: usize,
     ) -> CountSeat
         requires table { first.old.table_id ≡ table.now.shared.table_id }
@@ -58,12 +59,12 @@ impl CountSeat {
         ensures own { result.seat.table_id ≡ first.old.table_id }
         ensures nothing { counts result ≡ replicate 4 0 }
     {
-        let seat = table.shared.split_seat::<GivesFour>(first);
+        let seat = table.shared.split_seat::<SplitStep>(first);
         CountSeat { seat, number }
     }
 
     /// The first seat, with its own four words alone.
-    fn rest(first: Seat<(), Counting>) -> CountSeat
+    fn rest(first: Seat<(), CounterView>) -> CountSeat
         requires within { 4 ≤ first.table_id.words }
         requires unused { first.me ≡ (unused 1, []) }
         ensures own { result.seat.table_id ≡ first.table_id }
@@ -124,7 +125,9 @@ impl Monitor {
         ensures own { IsSeatOf self.now seat.new }
     {
         let word = WORDS * seat.number + counter.place();
-        self.table.shared.store::<Sets>(&mut seat.seat, word, count);
+        self.table
+            .shared
+            .store::<StoreStep>(&mut seat.seat, word, count);
     }
 
     /// What the seat counted.
@@ -134,7 +137,7 @@ impl Monitor {
         ensures same { seat.new ≡ seat.old }
     {
         let word = WORDS * seat.number + counter.place();
-        self.table.shared.load::<Reads>(&mut seat.seat, word)
+        self.table.shared.load::<LoadStep>(&mut seat.seat, word)
     }
 
     /// The sum of a counter over all seats, each read at one moment of the call: the seat's own adds are in it

@@ -6,38 +6,38 @@ use atomic_table::{Play, Split, TableRule};
 use std::collections::LinkedList;
 
 /// What a seat knows: where its words begin, and what they hold. No value of it is made.
-pub struct Counting {
+pub struct CounterView {
     pub from: u64,
     pub counts: LinkedList<u64>,
 }
 
 /// The key is the number of words.
-pub(crate) struct Keeping;
+pub(crate) struct CounterRule;
 
-impl TableRule<(), Counting, usize> for Keeping {
+impl TableRule<(), CounterView, usize> for CounterRule {
     ghost holds = { λ _. Kept };
 
     ghost first = { λ words. record { from = 0; counts = replicate words 0 } };
 }
 
 /// A load: nothing changes, and a word of the seat's own holds what the seat counted.
-pub(crate) struct Reads;
+pub(crate) struct LoadStep;
 
-impl Play<(), Counting> for Reads {
+impl Play<(), CounterView> for LoadStep {
     ghost then = { λ step me found after. (after ≡ me) × ReadsOwn me.0 step.word found };
 }
 
 /// A store into a word of the seat's own.
-pub(crate) struct Sets;
+pub(crate) struct StoreStep;
 
-impl Play<(), Counting> for Sets {
+impl Play<(), CounterView> for StoreStep {
     ghost then = { λ step me _ after. after ≡ (with_word me.0 step.word step.first, me.1) };
 }
 
 /// The last four words go to a new seat.
-pub(crate) struct GivesFour;
+pub(crate) struct SplitStep;
 
-impl Split<Counting> for GivesFour {
+impl Split<CounterView> for SplitStep {
     ghost left = { all_but_four };
 
     ghost right = { last_four };

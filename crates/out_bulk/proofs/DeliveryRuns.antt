@@ -11,7 +11,7 @@ use Rattle.bulk_replies.specs.Answers.{Answer, said_of}
 use Rattle.bulk_replies.specs.Replies.{IsGood, Says}
 use Rattle.bulk_replies.specs.declared.reply.Reply.{Reply}
 use Rattle.bulk_replies.specs.declared.reply.Reply.TheVariants as r
-use Rattle.bulk_replies.specs.declared.said.Said.{Said}
+use Rattle.bulk_replies.specs.declared.item_result.ItemResult.{ItemResult}
 use Rattle.event_tree.specs.Events.{Ev}
 use Rattle.foreign_parts.specs.Delivering.{Delivers, taken}
 use Rattle.foreign_parts.specs.declared.output.Delivery.{Delivery}
@@ -68,7 +68,7 @@ heard_from asked events old begun heard request bytes reply begins of_these is h
   sends = subst (λ b. Grows (asked begun.peer) (asked heard.peer) (exchange begun.target.host b (Some reply.items) ∷ [])) same sends;
 }
 
-pub says_good : (count : ℕ) (bytes reply : List ℕ) (found : Reply) (said : List Said) → bytes ≡ reply → found ≡ r.Good said → Says count bytes found → Says count reply (r.Good said)
+pub says_good : (count : ℕ) (bytes reply : List ℕ) (found : Reply) (said : List ItemResult) → bytes ≡ reply → found ≡ r.Good said → Says count bytes found → Says count reply (r.Good said)
 says_good count bytes reply found said same is says = subst (Says count reply) is (subst (λ b. Says count b found) same says)
 
 -- memory ran out before the request was written
@@ -107,14 +107,14 @@ module _ {Q : Type 0} (asked : Q → Option (List Exchange)) (events : List Ev) 
   kept_now = kept_later begun.target (asked begun.peer) (asked heard.peer) _ (record { events = events; settled = begun.kept.settled }) h.sends h.of_these
 
   -- what is said of the events that were sent
-  pub was_answered : (said : List Said) (answers : List Answer) → IsGood count reply answers → said ≡ map said_of answers → WasAnswered asked events heard said
+  pub was_answered : (said : List ItemResult) (answers : List Answer) → IsGood count reply answers → said ≡ map said_of answers → WasAnswered asked events heard said
   was_answered said answers good is =
       let good_reply : IsGood (length sent) reply answers = subst (λ n. IsGood n reply answers) h.is_count good in
       let one : WasAnswered asked events (record begun { peer = heard.peer }) said = record { of_these = kept_now; reply = reply; answers = answers; made = made; good = good_reply; said_is = is } in
       subst (λ (s : Standing Q). WasAnswered asked events s said) (sym h.hears) one
 
   -- and what is made of that
-  module _ (new : Standing Q) (said : List Said) (answers : List Answer) (good : IsGood count reply answers) (is : said ≡ map said_of answers) where
+  module _ (new : Standing Q) (said : List ItemResult) (answers : List Answer) (good : IsGood count reply answers) (is : said ≡ map said_of answers) where
     abbrev all : Settled
     all = filled begun.kept.settled (map fate_of answers)
 

@@ -6,7 +6,7 @@ use Rattle.std.proofs.lemmas.List.{drop_more, drop_all, append-nil}
 use Rattle.foreign_parts.specs.declared.output.Fate.{Fate}
 use Rattle.foreign_parts.specs.Delivering.{taken}
 use Rattle.foreign_parts.specs.declared.output.Fate.TheVariants as fate
-use Rattle.bulk_replies.specs.declared.said.Said.{Said}
+use Rattle.bulk_replies.specs.declared.item_result.ItemResult.{ItemResult}
 use Rattle.event_tree.specs.Events.{Ev}
 use Rattle.out_bulk.specs.Fates.{Settled, all_settled, filled, held_of, left_of, next_of, settled_by}
 
@@ -61,8 +61,8 @@ module _ (xs : Settled) (i : ℕ) (whole : Settled) where
   filled_end all news end so_far = so_far ∙ ap (λ ys. all ++ filled ys news) (drop_all i xs end)
 
 -- and what is added behind them
-module _ (ss : List Said) (i : ℕ) (whole : Settled) where
-  pub left_more : (s : Said) (all : Settled) (y : Option Fate) → i < length ss → s ≡ get_or ss i s → whole ≡ all ++ map settled_by (drop i ss) → y ≡ settled_by s → whole ≡ (all ++ y ∷ []) ++ map settled_by (drop (i + 1) ss)
+module _ (ss : List ItemResult) (i : ℕ) (whole : Settled) where
+  pub left_more : (s : ItemResult) (all : Settled) (y : Option Fate) → i < length ss → s ≡ get_or ss i s → whole ≡ all ++ map settled_by (drop i ss) → y ≡ settled_by s → whole ≡ (all ++ y ∷ []) ++ map settled_by (drop (i + 1) ss)
   left_more s all y below is so_far here = so_far ∙ ap (λ xs. all ++ map settled_by xs) (front ss i s below is) ∙ ap (λ z. all ++ (z ∷ map settled_by (drop (i + 1) ss))) (sym here) ∙ sym (append_assoc all (y ∷ []) (map settled_by (drop (i + 1) ss)))
 
   pub left_end : (all : Settled) → length ss ≤ i → whole ≡ all ++ map settled_by (drop i ss) → all ≡ whole

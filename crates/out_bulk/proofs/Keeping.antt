@@ -8,9 +8,9 @@ use Rattle.out_bulk.proofs.RequestRuns.{open_nothing}
 use Rattle.std.proofs.lemmas.List.Elements.{Contains-append_left}
 use Rattle.io_traits.specs.Telling.{Grows}
 use Rattle.bulk_replies.specs.Answers.{Answer, cut, said_of}
-use Rattle.bulk_replies.specs.declared.said.Said.{Said}
+use Rattle.bulk_replies.specs.declared.item_result.ItemResult.{ItemResult}
 use Rattle.bulk_replies.specs.Replies.{IsGood}
-use Rattle.bulk_replies.specs.declared.said.Said.TheVariants as said
+use Rattle.bulk_replies.specs.declared.item_result.ItemResult.TheVariants as said
 use Rattle.bulk_replies.proofs.AnswerLaws.{cut_within, good_length}
 use Rattle.event_tree.specs.Events.{Ev}
 use Rattle.foreign_parts.specs.Delivering.{AreFates}
@@ -111,7 +111,7 @@ module _ (t : Target) (told : List Exchange) (sent : List Ev) (reply : List ℕ)
   are_filled es fs is are = fill_from es fs answers 0 is refl (good_length (length sent) reply answers good ∙ ap length is) are
 
 -- there is a fate for each event
-short_case : (b c : Bool) (status : ℕ) (reason : List ℕ) → length reason ≤ 65536 → IsShort (settled_by (if b then said.Took else (if c then said.Rejected status reason else said.Again)))
+short_case : (b c : Bool) (status : ℕ) (reason : List ℕ) → length reason ≤ 65536 → IsShort (settled_by (if b then said.Took else (if c then said.Rejected status reason else said.Retry)))
 short_case true c status reason within = tt
 short_case false true status reason within = within
 short_case false false status reason within = tt
@@ -154,7 +154,7 @@ module _ (t : Target) (told : Option (List Exchange)) (es : List Ev) (fs : Settl
   now_kept = record { witnessed = now_witnessed; are_for = or_none es (filled fs (map fate_of answers)) now_for }
 
 -- what is said is what the answers settle
-pub said_fates : (answers : List Answer) (said : List Said) → said ≡ map said_of answers → map settled_by said ≡ map fate_of answers
+pub said_fates : (answers : List Answer) (said : List ItemResult) → said ≡ map said_of answers → map settled_by said ≡ map fate_of answers
 said_fates answers said is = ap (map settled_by) is ∙ map-map settled_by said_of answers
 
 -- the fates of a batch that is finished
@@ -179,7 +179,7 @@ short_fates (e ∷ es) (f.Rejected status reason ∷ fates) are = (are.0, short_
 pub are_fates : (es : List Ev) (all : Settled) (fates : List Fate) → all_settled all ≡ Some fates → AreFor es all → AreFates fates es
 are_fates es all fates is are = short_fates es fates (subst (AreFor es) (settled_are all fates is) are)
 
-pub settled_kept : {Q : Type 0} (asked : Q → Option (List Exchange)) (events : List Ev) (s : Standing Q) (said : List Said) → WasAnswered asked events s said → (es : List Ev) (fs all : Settled) → es ≡ events → fs ≡ s.kept.settled → all ≡ filled fs (map settled_by said) → IsKept s.target (asked s.peer) (record { events = es; settled = all })
+pub settled_kept : {Q : Type 0} (asked : Q → Option (List Exchange)) (events : List Ev) (s : Standing Q) (said : List ItemResult) → WasAnswered asked events s said → (es : List Ev) (fs all : Settled) → es ≡ events → fs ≡ s.kept.settled → all ≡ filled fs (map settled_by said) → IsKept s.target (asked s.peer) (record { events = es; settled = all })
 settled_kept asked events s said a es fs all es_is fs_is all_is =
     let is : filled s.kept.settled (map fate_of a.answers) ≡ all = ap₂ filled (sym fs_is) (sym (said_fates a.answers said a.said_is)) ∙ sym all_is in
     subst (λ (k : Kept). IsKept s.target (asked s.peer) k) (ap₂ (λ x y. record { events = x; settled = y }) (sym es_is) is) (now_kept s.target (asked s.peer) events s.kept.settled a.of_these a.reply a.answers a.made a.good)

@@ -1,17 +1,17 @@
 -- The fates of the events of a batch: those that are settled, and what a reply says of the others.
 use Rattle.std.specs.Prelude.{List, [], ◌∷◌, drop, Bool, true, false, Option, Some, None, option_map, option_and_then}
 use Rattle.bulk_replies.specs.Answers.{Answer, said_of}
-use Rattle.bulk_replies.specs.declared.said.Said.{Said}
-use Rattle.bulk_replies.specs.declared.said.Said.TheVariants as said
+use Rattle.bulk_replies.specs.declared.item_result.ItemResult.{ItemResult}
+use Rattle.bulk_replies.specs.declared.item_result.ItemResult.TheVariants as said
 use Rattle.event_tree.specs.Events.{Ev}
 use Rattle.foreign_parts.specs.declared.output.Fate.{Fate}
 use Rattle.foreign_parts.specs.declared.output.Fate.TheVariants.{Took, Rejected}
 
 -- the fate that is settled by what is said of an event, where it is
-abbrev pub settled_by : Said → Option Fate
+abbrev pub settled_by : ItemResult → Option Fate
 settled_by said.Took = Some Took
 settled_by (said.Rejected status reason) = Some (Rejected status reason)
-settled_by said.Again = None
+settled_by said.Retry = None
 
 abbrev pub fate_of : Answer → Option Fate
 fate_of a = settled_by (said_of a)

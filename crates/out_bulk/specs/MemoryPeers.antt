@@ -3,7 +3,7 @@ use Rattle.std.specs.Prelude.{ℕ, List, [], ◌∷◌, ◌++◌, drop, option_m
 use Rattle.std.specs.declared.alloc.Global.{Global}
 use Rattle.io_memory.specs.Scripts.{Course, worked, failed}
 use Rattle.out_bulk.specs.Exchanges.{Exchange, exchange}
-use Rattle.out_bulk.specs.declared.memory_peer.Asked.{Asked}
+use Rattle.out_bulk.specs.declared.memory_peer.PeerRequest.{PeerRequest}
 use Rattle.out_bulk.specs.declared.peer.PeerFault.{PeerFault}
 use Rattle.out_bulk.specs.declared.peer.PeerFault.TheVariants.{Failed, Memory}
 
@@ -16,7 +16,7 @@ pub record Replying : Type 0 where
 abbrev pub bytes_of : Vec ℕ Global → List ℕ
 bytes_of v = v.items
 
-abbrev pub exchange_of : Asked → Exchange
+abbrev pub exchange_of : PeerRequest → Exchange
 exchange_of a = exchange a.host a.request.items (option_map bytes_of a.reply)
 
 -- the next reply: an empty one once none is left

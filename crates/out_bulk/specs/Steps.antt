@@ -4,7 +4,7 @@ use Rattle.std.specs.declared.alloc.AllocError.{AllocError}
 use Rattle.io_traits.specs.Counts.{one_more}
 use Rattle.bulk_replies.specs.Answers.{Answer, said_of}
 use Rattle.bulk_replies.specs.Replies.{IsGood}
-use Rattle.bulk_replies.specs.declared.said.Said.{Said}
+use Rattle.bulk_replies.specs.declared.item_result.ItemResult.{ItemResult}
 use Rattle.event_tree.specs.Events.{Ev}
 use Rattle.foreign_parts.specs.Delivering.{taken}
 use Rattle.foreign_parts.specs.declared.output.Delivery.{Delivery}
@@ -20,7 +20,7 @@ use Rattle.config_tree.specs.Joining.{Entries}
 
 module _ {Q : Type 0} (asked : Q → Option (List Exchange)) (events : List Ev) where
   -- the events that aren't settled were sent, and a good reply says this of them
-  pub record WasAnswered (s : Standing Q) (said : List Said) : Type 0 where
+  pub record WasAnswered (s : Standing Q) (said : List ItemResult) : Type 0 where
     pub of_these : IsKept s.target (asked s.peer) (record { events = events; settled = s.kept.settled })
     pub reply : List ℕ
     pub answers : List Answer

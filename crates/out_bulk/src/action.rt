@@ -1,3 +1,4 @@
+// The action lines of bulk requests, with the index of each event's day.
 ghost use Rattle.std.specs.Prelude.{◌≡◌, ℤ, None, Some, IfOk, IsTrue, OnOk};
 ghost use Rattle.event_text.specs.Template.{day_in, moment_of, text};
 ghost use Rattle.out_bulk.specs.Requests as spec;

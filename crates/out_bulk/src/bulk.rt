@@ -1,3 +1,4 @@
+// The output `elasticsearch`: sends events in bulk requests and tells their fates.
 ghost use Rattle.std.specs.Prelude.{◌≡◌, ◌+◌, ◌++◌, None, Some, [], Ok, Err, option_map};
 ghost use Rattle.io_traits.specs.Counts.{one_more};
 ghost use Rattle.foreign_parts.specs.Configuring.{Answers};
@@ -6,7 +7,7 @@ use crate::fates::{Settled, all_settled, are_same, copies, fill, taken};
 use crate::peer::Peer;
 use crate::request::{Request, host_of, request_to};
 use crate::settings::BulkSettings;
-use bulk_replies::{Reply, Said, read_reply};
+use bulk_replies::{ItemResult, Reply, read_reply};
 use event_tree::{Event, Events};
 use foreign_parts::{DeliverFault, Delivery, Fate, FromFault, Settings};
 use plain_data::Items;
@@ -222,7 +223,7 @@ impl<Q: Peer> Bulk<Q> {
     }
 
     // What became of events, by what is said of those that weren't settled.
-    fn settle(&mut self, events: &[Event], said: &[Said]) -> Result<Delivery, AllocError>
+    fn settle(&mut self, events: &[Event], said: &[ItemResult]) -> Result<Delivery, AllocError>
         requires { WasAnswered Q.asked events.now self.old said.now }
         ensures { Settling events.now (filled self.old.kept.settled (map settled_by said.now))
             self.old self.new result }

@@ -1,8 +1,9 @@
+// The fates of a batch's events, settled reply by reply.
 ghost use Rattle.std.specs.Prelude.{◌≡◌, ◌↔◌, ◌++◌, drop, map, IfOk, IsTrue, OnOk};
 ghost use Rattle.foreign_parts.specs.Delivering.{taken};
 ghost use Rattle.out_bulk.specs.Fates as spec;
 
-use bulk_replies::Said;
+use bulk_replies::ItemResult;
 use event_tree::{Event, Events};
 use foreign_parts::{Fate, Fates};
 use plain_data::Items;
@@ -26,7 +27,7 @@ pub(crate) fn is_settled(settled: &[Option<Fate>], place: usize) -> bool
 pub(crate) fn fill(
     alloc: Global,
     settled: &[Option<Fate>],
-    said: &[Said],
+    said: &[ItemResult],
 ) -> Result<Settled, AllocError>
     ensures { IfOk result (λ all. all ≡ spec.filled settled.now (map spec.settled_by said.now)) }
 {
@@ -41,7 +42,7 @@ pub(crate) fn fill(
 }
 
 #[tactic(auto, using(crate::proofs::FateRuns::filling))]
-fn add_all(to: &mut Settled, said: &[Said]) -> Result<(), AllocError>
+fn add_all(to: &mut Settled, said: &[ItemResult]) -> Result<(), AllocError>
     ensures { OnOk result (to.new ≡ to.old ++ map spec.settled_by said.now) }
 {
     for one in said {
@@ -51,7 +52,7 @@ fn add_all(to: &mut Settled, said: &[Said]) -> Result<(), AllocError>
 }
 
 // What stands at a place where this stood.
-fn next_of(fate: &Option<Fate>, said: &[Said]) -> Result<Option<Fate>, AllocError>
+fn next_of(fate: &Option<Fate>, said: &[ItemResult]) -> Result<Option<Fate>, AllocError>
     ensures { IfOk result (λ next. next ≡ spec.next_of fate.now (map spec.settled_by said.now)) }
 {
     match fate {
@@ -64,7 +65,7 @@ fn next_of(fate: &Option<Fate>, said: &[Said]) -> Result<Option<Fate>, AllocErro
 }
 
 // What is then left to be filled in.
-fn left_of<'a>(fate: &Option<Fate>, said: &'a [Said]) -> &'a [Said]
+fn left_of<'a>(fate: &Option<Fate>, said: &'a [ItemResult]) -> &'a [ItemResult]
     ensures { map spec.settled_by result.now ≡ spec.left_of fate.now (map spec.settled_by said.now) }
 {
     match fate {
@@ -74,7 +75,7 @@ fn left_of<'a>(fate: &Option<Fate>, said: &'a [Said]) -> &'a [Said]
 }
 
 // All but the first.
-fn behind(said: &[Said]) -> &[Said]
+fn behind(said: &[ItemResult]) -> &[ItemResult]
     ensures { result.now ≡ drop 1 said.now }
 {
     match said.split_first() {
@@ -83,13 +84,13 @@ fn behind(said: &[Said]) -> &[Said]
     }
 }
 
-fn settled_by(said: &Said) -> Result<Option<Fate>, AllocError>
+fn settled_by(said: &ItemResult) -> Result<Option<Fate>, AllocError>
     ensures { IfOk result (λ fate. fate ≡ spec.settled_by said.now) }
 {
     match said {
-        Said::Took => Ok(Some(Fate::Took)),
-        Said::Rejected(status, reason) => Ok(Some(Fate::Rejected(*status, reason.copy()?))),
-        Said::Again => Ok(None),
+        ItemResult::Took => Ok(Some(Fate::Took)),
+        ItemResult::Rejected(status, reason) => Ok(Some(Fate::Rejected(*status, reason.copy()?))),
+        ItemResult::Retry => Ok(None),
     }
 }
 

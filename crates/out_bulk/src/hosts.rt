@@ -1,3 +1,4 @@
+// Whether texts are hosts with a port.
 ghost use Rattle.std.specs.Prelude.{◌≡◌};
 ghost use Rattle.std.specs.List.{list_all};
 ghost use Rattle.out_bulk.specs.Hosts as spec;

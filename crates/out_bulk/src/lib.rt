@@ -13,7 +13,7 @@ mod settings;
 mod tcp_peer;
 
 pub use bulk::Bulk;
-pub use memory_peer::{Asked, MemoryPeer};
+pub use memory_peer::{MemoryPeer, PeerRequest};
 pub use peer::{Peer, PeerFault};
 pub use settings::BulkSettings;
 pub use tcp_peer::TcpPeer;

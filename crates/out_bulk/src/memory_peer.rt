@@ -1,3 +1,4 @@
+// A peer that gives listed replies and keeps the requests that it was sent.
 ghost use Rattle.std.specs.Prelude.{◌≡◌, [], Some, IfOk, IsErr, IsTrue, OnOk, drop, map};
 ghost use Rattle.io_memory.specs.Scripts.{CountsFault, fails_next};
 ghost use Rattle.out_bulk.specs.Exchanges.{HasFailed};
@@ -11,7 +12,7 @@ use std::marker::Model;
 
 /// A request that a peer in memory was sent.
 #[derive(Drop)]
-pub struct Asked {
+pub struct PeerRequest {
     pub host: Text,
     pub request: Vec<u8>,
     /// The reply; none where the call failed.
@@ -25,7 +26,7 @@ pub struct MemoryPeer {
     alloc: Global,
     replies: Vec<Vec<u8>>,
     next: usize,
-    asked: Vec<Asked>,
+    asked: Vec<PeerRequest>,
     script: Script,
 }
 
@@ -59,7 +60,7 @@ impl MemoryPeer {
     }
 
     /// The requests that it was sent, in their order.
-    pub fn asked(&self) -> &[Asked]
+    pub fn asked(&self) -> &[PeerRequest]
         ensures { map exchange_of result.now ≡ self.now.asked }
     {
         &self.asked
@@ -95,11 +96,11 @@ impl MemoryPeer {
     }
 
     // The request with the next reply.
-    fn answered(&self, host: &str, request: &[u8]) -> Result<Asked, AllocError>
+    fn answered(&self, host: &str, request: &[u8]) -> Result<PeerRequest, AllocError>
         ensures { IfOk result (λ asked. exchange_of asked
             ≡ record { host = host.now; request = request.now; reply = Some (next_reply self.now) }) }
     {
-        Ok(Asked {
+        Ok(PeerRequest {
             host: Text::of(self.alloc, host)?,
             request: Vec::from_slice(self.alloc, request)?,
             reply: Some(Vec::from_slice(self.alloc, self.next())?),

@@ -1,3 +1,4 @@
+// The output `elasticsearch` as a box for a rack.
 use crate::bulk::Bulk;
 use crate::peer::Peer;
 use event_tree::Event;

@@ -1,3 +1,4 @@
+// The trait of what bulk requests are sent to.
 use foreign_parts::DeliverFault;
 use std::alloc::AllocError;
 use thiserror::Error;

@@ -1,3 +1,4 @@
+// The HTTP request that sends the events of a batch that aren't settled.
 ghost use Rattle.std.specs.Prelude.{◌≡◌, ◌++◌, length, IfOk, OnOk};
 ghost use Rattle.std.specs.Fmt.{decimal};
 ghost use Rattle.out_bulk.specs.Fates.{open_in};

@@ -1,3 +1,4 @@
+// The settings of the output `elasticsearch`.
 ghost use Rattle.std.specs.Prelude.{◌≡◌, IfOk};
 ghost use Rattle.filter_settings.specs.Settings.{Gives, wanted};
 ghost use Rattle.out_bulk.specs.Settings as spec;

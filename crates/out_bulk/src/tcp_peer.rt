@@ -1,3 +1,4 @@
+// Hosts that are asked over TCP, with a connection for each request.
 ghost use Rattle.std.specs.Prelude.{◌≡◌, None};
 
 use crate::peer::{Peer, PeerFault};

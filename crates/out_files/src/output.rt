@@ -1,3 +1,4 @@
+// An output file that is cut back to its recorded position when it is opened.
 ghost use Rattle.std.specs.Prelude.{◌≡◌, ◌≢◌, ◌≤◌, ◌⊎◌, ◌++◌, IsTrue, IsErr, Ok, Err, length, take, IfOk, OnOk, OnErr};
 ghost use Rattle.io_traits.specs.Counts.{HasCause};
 ghost use Rattle.io_traits.specs.Reads.{bytes_of, file_length};

@@ -1,3 +1,4 @@
+// Whether a name matches a pattern with `*`.
 ghost use Rattle.std.specs.Prelude.{◌≡◌, ◌+◌, ◌==◌, ◌&&◌, List, Bool, ℕ, IfOk, length};
 ghost use Rattle.std.specs.List.{list_any};
 ghost use Rattle.path_pattern.specs.Matching as spec;

@@ -1,3 +1,4 @@
+// A compiled pattern with the buffers that its searches write to.
 ghost use Rattle.std.specs.Prelude.{◌≡◌, ◌∷◌, ◌+◌, ◌-◌, ◌*◌, ◌^◌, ◌≤◌, ◌++◌, true, map, length, vec_len, string_bytes, option_map, IfOk, IfErr, OnOk, IsOk, IfSome, IsUtf8, Some, None};
 ghost use Rattle.std.specs.List.{range_with_len};
 ghost use Rattle.regex_hir.specs.Find.{find, find_str, find_all_str};

@@ -1,3 +1,4 @@
+// Regular expressions that clauses see, and the spans of a match.
 ghost use Rattle.std.specs.Prelude.{◌≡◌, ◌+◌, ◌*◌, ◌^◌, ◌≤◌, option_map, IfOk, IfErr, IsOk, IfSome, None};
 ghost use Rattle.regex_hir.specs.Find.{find_str, find_all_str};
 ghost use Rattle.regex.specs.Replace.{replaced_by};

@@ -1,3 +1,4 @@
+// The parts of a text that replaces a match.
 use plain_data::{Items, Text};
 
 /// A part of what is written in the place of a match.

@@ -1,3 +1,4 @@
+// The search of a compiled pattern: by lazy tables, and state by state where these are full.
 ghost use Rattle.std.specs.Prelude.{◌≡◌, ◌+◌, ◌-◌, ◌*◌, ◌^◌, ◌≤◌, length, vec_len, option_map, IfOk, IfSome};
 ghost use Rattle.regex_hir.specs.Find.{find};
 ghost use Rattle.regex_hir.specs.Meaning.{meaning};

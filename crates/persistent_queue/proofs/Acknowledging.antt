@@ -10,7 +10,7 @@ use Rattle.persistent_queue.specs.Acknowledging.{acknowledged_page, acknowledged
 use Rattle.persistent_queue.specs.Bits.{with_range}
 use Rattle.persistent_queue.specs.Calls.{with_acknowledged, behind_acknowledge}
 use Rattle.persistent_queue.specs.Opens.{Climb, TailsSlotted, IsSlotted, IsPageOf, ArePagesOf, AreLong, IsAmong, IsOfFiles}
-use Rattle.persistent_queue.specs.Views.{OpenPage, QueueView}
+use Rattle.persistent_queue.specs.Views.{OpenPageView, QueueView}
 use Rattle.persistent_queue.specs.declared.limits.Numbers.{Numbers}
 use Rattle.persistent_queue.proofs.Ranges.{long_range}
 
@@ -69,7 +69,7 @@ module _ (numbers : Numbers) where
 
   -- ---- pages that are open
 
-  page_of : (o : OpenPage) (p : Page) → IsPageOf o p → IsPageOf (with_acknowledged numbers o) (page p)
+  page_of : (o : OpenPageView) (p : Page) → IsPageOf o p → IsPageOf (with_acknowledged numbers o) (page p)
   page_of o p is = record {
     number = is.number;
     version = is.version;
@@ -81,17 +81,17 @@ module _ (numbers : Numbers) where
     long = is.long;
   }
 
-  pages_of : (os : List OpenPage) (ps : List Page) → ArePagesOf os ps → ArePagesOf (map (with_acknowledged numbers) os) (map page ps)
+  pages_of : (os : List OpenPageView) (ps : List Page) → ArePagesOf os ps → ArePagesOf (map (with_acknowledged numbers) os) (map page ps)
   pages_of [] [] are = tt
   pages_of [] (p ∷ ps) are = are
   pages_of (o ∷ os) [] are = are
   pages_of (o ∷ os) (p ∷ ps) are = (page_of o p are.0, pages_of os ps are.1)
 
-  long_still : (folder : List ℕ) (os : List OpenPage) (content : Content) → AreLong folder os content → AreLong folder (map (with_acknowledged numbers) os) content
+  long_still : (folder : List ℕ) (os : List OpenPageView) (content : Content) → AreLong folder os content → AreLong folder (map (with_acknowledged numbers) os) content
   long_still folder [] content are = tt
   long_still folder (o ∷ os) content are = (are.0, long_still folder os content are.1)
 
-  among_still : (n : ℕ) (os : List OpenPage) → IsAmong n (map (with_acknowledged numbers) os) → IsAmong n os
+  among_still : (n : ℕ) (os : List OpenPageView) → IsAmong n (map (with_acknowledged numbers) os) → IsAmong n os
   among_still n [] among = among
   among_still n (o ∷ os) (inl is) = inl is
   among_still n (o ∷ os) (inr rest) = inr (among_still n os rest)
@@ -107,11 +107,11 @@ module _ (numbers : Numbers) where
 -- ---- checkpoints
 
 module _ (numbers : Numbers) where
-  still_climb : (from top : ℕ) (tails : List OpenPage) → Climb from top tails → Climb from top (map (with_acknowledged numbers) tails)
+  still_climb : (from top : ℕ) (tails : List OpenPageView) → Climb from top tails → Climb from top (map (with_acknowledged numbers) tails)
   still_climb from top [] climb = climb
   still_climb from top (o ∷ tails) climb = (climb.0, still_climb (suc o.number) top tails climb.1)
 
-  tails_still : (folder : List ℕ) (content : Content) (tails : List OpenPage) → TailsSlotted folder tails content → TailsSlotted folder (map (with_acknowledged numbers) tails) content
+  tails_still : (folder : List ℕ) (content : Content) (tails : List OpenPageView) → TailsSlotted folder tails content → TailsSlotted folder (map (with_acknowledged numbers) tails) content
   tails_still folder content [] slotted = slotted
   tails_still folder content (o ∷ tails) slotted = (slotted.0, tails_still folder content tails slotted.1)
 

@@ -8,7 +8,7 @@ use Rattle.store_trait.specs.Moments.{ReadsBeside}
 use Rattle.store_trait.specs.declared.stores.Store.{Ghosts as StoreWords}
 use Rattle.queue_page.specs.Blocks.{IsPart}
 use Rattle.queue_page.specs.Grammar.{IsElement}
-use Rattle.queue_page.specs.Views.{BlockView}
+use Rattle.queue_page.specs.Views.{PageBufferView}
 use Rattle.queue_page.specs.declared.row.PageRow.{PageRow}
 use Rattle.queue_laws.specs.Folders.{head, page, checkpoint, names_in}
 use Rattle.queue_laws.specs.Kept.{Page, Queue, AreNumbered, IsSound, Rising}
@@ -20,7 +20,7 @@ use Rattle.queue_core.specs.Writes.{NoneShorter}
 use Rattle.queue_core.proofs.TornMarks.{number_of}
 use Rattle.persistent_queue.specs.Calls.{end_of}
 use Rattle.persistent_queue.specs.Opens.{AreLong, Climb, HasPage, IsReady, Opens, TailsSlotted, place_behind}
-use Rattle.persistent_queue.specs.Views.{OpenPage, QueueView}
+use Rattle.persistent_queue.specs.Views.{OpenPageView, QueueView}
 use Rattle.persistent_queue.specs.Writing.{behind_append}
 use Rattle.persistent_queue.proofs.BitLists.{leads_still}
 
@@ -51,7 +51,7 @@ rising_with number end (p ∷ tails) top row rising sound = (rising.0, rising.1,
 -- ---- files
 
 -- a part of a file is one of the file with more bytes
-pub part_grown : (file more : List ℕ) (block : BlockView) → IsPart file block → IsPart (file ++ more) block
+pub part_grown : (file more : List ℕ) (block : PageBufferView) → IsPart file block → IsPart (file ++ more) block
 part_grown file more block is = by block.bytes is
   where
     by : (bytes : List ℕ) → bytes ≡ take (length bytes) (drop block.place file) → bytes ≡ take (length bytes) (drop block.place (file ++ more))
@@ -62,7 +62,7 @@ part_grown file more block is = by block.bytes is
         let within : block.place ≤ length file = omega (arith, enough, length-drop block.place file) in
         part ∙ sym (ap (take n) (drop-append-le block.place file more within) ∙ take-append-le n (drop block.place file) more enough)
 
-pub climb_order : (from end : ℕ) (tails : List OpenPage) → Climb from end tails → from ≤ end
+pub climb_order : (from end : ℕ) (tails : List OpenPageView) → Climb from end tails → from ≤ end
 climb_order from end [] climb = climb
 climb_order from end (o ∷ tails) climb = omega (arith, climb.0, climb_order (suc o.number) end tails climb.1)
 
@@ -73,13 +73,13 @@ behind_more place (r ∷ rows) row = behind_more r.next rows row
 
 -- pages below a number have the same files
 module _ (folder : List ℕ) (old new : Content) (end : ℕ) (same : (n : ℕ) → n < end → new (names_in folder (page n)) ≡ old (names_in folder (page n))) where
-  pub long_still : (from : ℕ) (tails : List OpenPage) → Climb from end tails → AreLong folder tails old → AreLong folder tails new
+  pub long_still : (from : ℕ) (tails : List OpenPageView) → Climb from end tails → AreLong folder tails old → AreLong folder tails new
   long_still from [] climb long = tt
   long_still from (o ∷ tails) climb long =
       (omega (arith, long.0, ap file_length (same o.number (omega (arith, climb_order (suc o.number) end tails climb.1)))), long_still (suc o.number) tails climb.1 long.1)
 
 -- checkpoints become no shorter
-pub slotted_still : (folder : List ℕ) (old new : Content) → NoneShorter old new → (tails : List OpenPage) → TailsSlotted folder tails old → TailsSlotted folder tails new
+pub slotted_still : (folder : List ℕ) (old new : Content) → NoneShorter old new → (tails : List OpenPageView) → TailsSlotted folder tails old → TailsSlotted folder tails new
 slotted_still folder old new longer [] slotted = tt
 slotted_still folder old new longer (o ∷ tails) slotted = (omega (arith, slotted.0, longer (names_in folder (checkpoint o.number))), slotted_still folder old new longer tails slotted.1)
 

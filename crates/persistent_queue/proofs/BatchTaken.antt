@@ -13,7 +13,7 @@ use Rattle.store_disk.specs.declared.faults.QueueFault.TheVariants as f
 use Rattle.store_disk.proofs.Looking.{nothing_left}
 use Rattle.queue_page.specs.Blocks.{IsPart}
 use Rattle.queue_page.specs.Elements.{and_then}
-use Rattle.queue_page.specs.Views.{BlockView}
+use Rattle.queue_page.specs.Views.{PageBufferView}
 use Rattle.queue_laws.specs.Folders.{Names, page, folder_in, names_in}
 use Rattle.queue_laws.specs.Kept.{Queue, Kept}
 use Rattle.queue_laws.specs.Resting.{Held, Rests}
@@ -25,29 +25,29 @@ use Rattle.persistent_queue.specs.Batching.{Finds}
 use Rattle.persistent_queue.specs.Calls.{IsHeldQueue}
 use Rattle.persistent_queue.specs.Opens.{AreLong, HasPage, IsAmong, IsOfFiles, KeepsQueue, Opens}
 use Rattle.persistent_queue.specs.Taking.{Stand, begun, pages_read, rows_taken, batch_from, batch_of, rows_in, all_pages, with_block, behind_take, taken_of, IsThere, AreThere, WasRead}
-use Rattle.persistent_queue.specs.Views.{OpenPage, CursorView, QueueView}
-use Rattle.persistent_queue.specs.declared.batching.Batch.{Batch}
+use Rattle.persistent_queue.specs.Views.{OpenPageView, CursorView, QueueView}
+use Rattle.persistent_queue.specs.declared.batch.Batch.{Batch}
 use Rattle.persistent_queue.specs.declared.page_rows.QueueRow.{QueueRow}
-use Rattle.persistent_queue.specs.declared.page_rows.Reading.{Reading}
+use Rattle.persistent_queue.specs.declared.page_rows.BatchReader.{BatchReader}
 
 -- ---- the batch
 
-rows_from : (r : Reading) (rows : List QueueRow) → r.rows ≡ rows → rows_in (batch_from r (slice_get rows 0)) ≡ length rows
+rows_from : (r : BatchReader) (rows : List QueueRow) → r.rows ≡ rows → rows_in (batch_from r (slice_get rows 0)) ≡ length rows
 rows_from r [] is = refl
 rows_from r (x ∷ rows) is = ap (λ (l : List QueueRow). length l) is
 
-pub rows_in_batch : (r : Reading) → rows_in (batch_of r) ≡ length r.rows
+pub rows_in_batch : (r : BatchReader) → rows_in (batch_of r) ≡ length r.rows
 rows_in_batch r = rows_from r r.rows refl
 
 module _ (most : ℕ) (content : Content) (v : QueueView) (some : (v.unread == 0) ≡ false) where
   read_of : rows_taken most content v ≡ pages_read content (all_pages v) (begun most v.cursor)
   read_of = cond-false _ _ _ some
 
-  pub batch_taken : (s : Stand) (block : BlockView) (batch : Option Batch) (now : QueueView) → pages_read content (all_pages v) (begun most v.cursor) ≡ Ok s → batch ≡ batch_of s.reading → behind_take block s v ≡ now
+  pub batch_taken : (s : Stand) (block : PageBufferView) (batch : Option Batch) (now : QueueView) → pages_read content (all_pages v) (begun most v.cursor) ≡ Ok s → batch ≡ batch_of s.reading → behind_take block s v ≡ now
       → and_then (rows_taken most content v) (taken_of block v) ≡ Ok (batch, now)
   batch_taken s block batch now read is left = ap (λ q. and_then q (taken_of block v)) (read_of ∙ read) ∙ (λ i. Ok (sym is i, left i))
 
-  pub batch_lost : {X Y : Type 0} (view : X → Stand) (whole : Y → Option Batch × QueueView) (fault : QueueFault) (block : BlockView) → Finds view (Err fault) (pages_read content (all_pages v) (begun most v.cursor))
+  pub batch_lost : {X Y : Type 0} (view : X → Stand) (whole : Y → Option Batch × QueueView) (fault : QueueFault) (block : PageBufferView) → Finds view (Err fault) (pages_read content (all_pages v) (begun most v.cursor))
       → Finds whole (Err fault) (and_then (rows_taken most content v) (taken_of block v))
   batch_lost view whole (f.Damaged d) block lost = ap (λ q. and_then q (taken_of block v)) (read_of ∙ lost)
   batch_lost view whole f.Fault block lost = tt
@@ -64,7 +64,7 @@ others_of [] = []
 others_of (name ∷ names) = names
 
 module _ (folder : List ℕ) (content : Content) (cursor : CursorView) where
-  one_there : (o : OpenPage) → o.file ≡ names_in folder (page o.number) → o.page.state.length ≤ file_length (content (names_in folder (page o.number)))
+  one_there : (o : OpenPageView) → o.file ≡ names_in folder (page o.number) → o.page.state.length ≤ file_length (content (names_in folder (page o.number)))
       → (cursor.page ≡ o.number → IsPart (bytes_of (content (names_in folder (page cursor.page)))) cursor.block) → IsThere (λ n. names_in folder (page n)) content cursor.page cursor.block o
   one_there o file long part = record {
     file = file;
@@ -72,7 +72,7 @@ module _ (folder : List ℕ) (content : Content) (cursor : CursorView) where
     part = λ is. subst (λ (name : List ℕ). IsPart (bytes_of (content name)) cursor.block) (ap (λ n. names_in folder (page n)) is ∙ sym file) (part is);
   }
 
-  tails_there : (tails : List OpenPage) (top : OpenPage) → map (λ (o : OpenPage). o.file) tails ≡ map (λ (o : OpenPage). names_in folder (page o.number)) tails → AreLong folder tails content
+  tails_there : (tails : List OpenPageView) (top : OpenPageView) → map (λ (o : OpenPageView). o.file) tails ≡ map (λ (o : OpenPageView). names_in folder (page o.number)) tails → AreLong folder tails content
       → (IsAmong cursor.page tails → IsPart (bytes_of (content (names_in folder (page cursor.page)))) cursor.block) → IsThere (λ n. names_in folder (page n)) content cursor.page cursor.block top
       → AreThere (λ n. names_in folder (page n)) content cursor.page cursor.block (tails ++ top ∷ [])
   tails_there [] top files long part last = (last, tt)
@@ -98,7 +98,7 @@ module _ (v : QueueView) (content : Content) where
     within = within;
   }
 
-  pub files_lost : (block : BlockView) → ((file : List ℕ) → IsPart file v.cursor.block → IsPart file block) → IsOfFiles v content → IsOfFiles (with_block block v) content
+  pub files_lost : (block : PageBufferView) → ((file : List ℕ) → IsPart file v.cursor.block → IsPart file block) → IsOfFiles v content → IsOfFiles (with_block block v) content
   files_lost block lost files = record {
     tails = files.tails;
     top = files.top;

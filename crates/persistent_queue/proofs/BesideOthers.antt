@@ -16,15 +16,15 @@ use Rattle.queue_core.specs.Ready.{Ready}
 use Rattle.queue_core.proofs.Keeping.{at_rest_rests}
 use Rattle.persistent_queue.specs.Beside.{HoldsBeside, StaysOpen, StaysReady}
 use Rattle.persistent_queue.specs.Opens.{TailsSlotted, IsSlotted, AreLong, IsOfFiles, Opens}
-use Rattle.persistent_queue.specs.Views.{OpenPage, QueueView}
+use Rattle.persistent_queue.specs.Views.{OpenPageView, QueueView}
 
 -- what reads give of the files of a folder
 module _ (folder : List ℕ) (old new : Content) (same : (role : Role) → new (names_in folder role) ≡ old (names_in folder role)) where
-  tails_slotted : (tails : List OpenPage) → TailsSlotted folder tails old → TailsSlotted folder tails new
+  tails_slotted : (tails : List OpenPageView) → TailsSlotted folder tails old → TailsSlotted folder tails new
   tails_slotted [] slotted = tt
   tails_slotted (o ∷ tails) slotted = (subst (λ file. 48 ≤ file_length file) (sym (same (checkpoint o.number))) slotted.0, tails_slotted tails slotted.1)
 
-  are_long : (tails : List OpenPage) → AreLong folder tails old → AreLong folder tails new
+  are_long : (tails : List OpenPageView) → AreLong folder tails old → AreLong folder tails new
   are_long [] long = tt
   are_long (o ∷ tails) long = (subst (λ file. o.page.state.length ≤ file_length file) (sym (same (page o.number))) long.0, are_long tails long.1)
 

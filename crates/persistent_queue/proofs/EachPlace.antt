@@ -2,7 +2,7 @@
 use Rattle.std.proofs.Common.{◌≡◌, ◌≤◌, ◌<◌, ℕ, zero, suc, ◌+◌, true, List, [], ◌∷◌, length, map, get_or, slice_set, refl, ap, ◌∙◌, arith, add-one}
 use Rattle.queue_core.specs.declared.marking.Mark.{Mark}
 use Rattle.persistent_queue.specs.Calls.{is_due, mark_of, marks_of, tail_marks}
-use Rattle.persistent_queue.specs.Views.{OpenPage}
+use Rattle.persistent_queue.specs.Views.{OpenPageView}
 
 -- ---- one list
 
@@ -28,38 +28,38 @@ all_changed f (x ∷ xs) (suc n) past = ap (λ l. x ∷ l) (all_changed f xs n (
 
 -- ---- marks, each by its page
 
-abbrev pub marks_from : ℕ → List OpenPage → List Mark → List Mark
+abbrev pub marks_from : ℕ → List OpenPageView → List Mark → List Mark
 marks_from zero tails marks = tail_marks tails marks
 marks_from (suc n) [] marks = marks
 marks_from (suc n) (o ∷ tails) [] = []
 marks_from (suc n) (o ∷ tails) (m ∷ marks) = m ∷ marks_from n tails marks
 
-mark_at : (tails : List OpenPage) (marks : List Mark) (i : ℕ) (o : OpenPage) (m : Mark) → i < length tails → i < length marks → o ≡ get_or tails i o → m ≡ get_or marks i m
+mark_at : (tails : List OpenPageView) (marks : List Mark) (i : ℕ) (o : OpenPageView) (m : Mark) → i < length tails → i < length marks → o ≡ get_or tails i o → m ≡ get_or marks i m
     → marks_from (suc i) tails (slice_set marks i (mark_of o (is_due o) m)) ≡ marks_from i tails marks
 mark_at [] marks i o m less room is was = absurd (omega (arith, less))
 mark_at (p ∷ tails) [] i o m less room is was = absurd (omega (arith, room))
-mark_at (p ∷ tails) (n ∷ marks) zero o m less room is was = ap (λ (x : OpenPage). mark_of x (is_due x) m ∷ tail_marks tails marks) is ∙ ap (λ (x : Mark). mark_of p (is_due p) x ∷ tail_marks tails marks) was
+mark_at (p ∷ tails) (n ∷ marks) zero o m less room is was = ap (λ (x : OpenPageView). mark_of x (is_due x) m ∷ tail_marks tails marks) is ∙ ap (λ (x : Mark). mark_of p (is_due p) x ∷ tail_marks tails marks) was
 mark_at (p ∷ tails) (n ∷ marks) (suc i) o m less room is was = ap (λ l. n ∷ l) (mark_at tails marks i o m (omega (arith, less)) (omega (arith, room)) is was)
 
-pub one_marked : (tails : List OpenPage) (marks : List Mark) (i : ℕ) (o : OpenPage) (m new : Mark) → i < length tails → i < length marks → o ≡ get_or tails i o → m ≡ get_or marks i m → new ≡ mark_of o (is_due o) m
+pub one_marked : (tails : List OpenPageView) (marks : List Mark) (i : ℕ) (o : OpenPageView) (m new : Mark) → i < length tails → i < length marks → o ≡ get_or tails i o → m ≡ get_or marks i m → new ≡ mark_of o (is_due o) m
     → marks_from (i + 1) tails (slice_set marks i new) ≡ marks_from i tails marks
 one_marked tails marks i o m new less room is was changed =
     ap (λ x. marks_from (i + 1) tails (slice_set marks i x)) changed ∙ ap (λ n. marks_from n tails (slice_set marks i (mark_of o (is_due o) m))) (add-one i) ∙ mark_at tails marks i o m less room is was
 
-pub all_marked : (tails : List OpenPage) (marks : List Mark) (n : ℕ) → length tails ≤ n → marks_from n tails marks ≡ marks
+pub all_marked : (tails : List OpenPageView) (marks : List Mark) (n : ℕ) → length tails ≤ n → marks_from n tails marks ≡ marks
 all_marked [] marks zero past = refl
 all_marked [] marks (suc n) past = refl
 all_marked (o ∷ tails) marks zero past = absurd (omega (arith, past))
 all_marked (o ∷ tails) [] (suc n) past = refl
 all_marked (o ∷ tails) (m ∷ marks) (suc n) past = ap (λ l. m ∷ l) (all_marked tails marks n (omega (arith, past)))
 
-pub long_marks : (tails : List OpenPage) (marks : List Mark) → length (tail_marks tails marks) ≡ length marks
+pub long_marks : (tails : List OpenPageView) (marks : List Mark) → length (tail_marks tails marks) ≡ length marks
 long_marks [] marks = refl
 long_marks (o ∷ tails) [] = refl
 long_marks (o ∷ tails) (m ∷ marks) = ap suc (long_marks tails marks)
 
 -- the last one is that of the head page
-pub head_marked : (tails : List OpenPage) (top : OpenPage) (marks : List Mark) (m : Mark) → length marks ≡ length tails + 1 → m ≡ get_or (tail_marks tails marks) (length tails) m
+pub head_marked : (tails : List OpenPageView) (top : OpenPageView) (marks : List Mark) (m : Mark) → length marks ≡ length tails + 1 → m ≡ get_or (tail_marks tails marks) (length tails) m
     → slice_set (tail_marks tails marks) (length tails) (mark_of top true m) ≡ marks_of tails top marks
 head_marked [] top [] m long was = absurd (omega (arith, long))
 head_marked [] top (n ∷ []) m long was = ap (λ (x : Mark). mark_of top true x ∷ []) was

@@ -6,12 +6,12 @@ use Rattle.store_disk.specs.declared.faults.Damage.{Damage}
 use Rattle.event_tree.specs.Events.{Ev}
 use Rattle.io_traits.specs.Folders.{Content}
 use Rattle.queue_page.specs.Elements.{and_then}
-use Rattle.queue_page.specs.Views.{BlockView}
+use Rattle.queue_page.specs.Views.{PageBufferView}
 use Rattle.queue_page.specs.declared.row.PageRow.{PageRow}
 use Rattle.queue_laws.specs.Found.{Row}
 use Rattle.queue_laws.specs.Kept.{Queue, all_rows}
 use Rattle.queue_laws.specs.Steps.{marked}
-use Rattle.queue_core.specs.declared.opening.Opened.{Opened}
+use Rattle.queue_core.specs.declared.opening.OpenedQueue.{OpenedQueue}
 use Rattle.persistent_queue.specs.Acknowledging.{acknowledged}
 use Rattle.persistent_queue.specs.Calls.{behind_acknowledge, behind_mark, behind_purge, end_of, with_marked, with_recorded, without_spent}
 use Rattle.persistent_queue.specs.GivenOnce.{AreBehind, AreOpen, AreRising, Calls, GivesNext, IsBatch, IsGiven, RowsAreGivenOnce, StillGives, is_acknowledged, rows_of, with_batch, acknowledge, mark, no_batch, no_call, purge, take_batch, write}
@@ -21,13 +21,13 @@ use Rattle.persistent_queue.specs.QueueBatches.{AreNamed, AreUnread, CursorStand
 use Rattle.persistent_queue.specs.Taking.{Stand, all_pages, batch_from, batch_of, begun, behind_take, pages_read, rows_taken, taken_of, HasSameNext, with_block}
 use Rattle.persistent_queue.specs.Unread.{told}
 use Rattle.persistent_queue.specs.UnreadRows.{AreGiven, next_row}
-use Rattle.persistent_queue.specs.Views.{CursorView, OpenPage, QueueView}
+use Rattle.persistent_queue.specs.Views.{CursorView, OpenPageView, QueueView}
 use Rattle.persistent_queue.specs.Writing.{behind_append, behind_write, frame_size, made_ready, needs_page, next_top, sealed, with_open_row, with_written}
-use Rattle.persistent_queue.specs.declared.batching.Batch.{Batch}
+use Rattle.persistent_queue.specs.declared.batch.Batch.{Batch}
 use Rattle.persistent_queue.specs.declared.limits.Limits.{Limits}
 use Rattle.persistent_queue.specs.declared.limits.Numbers.{Numbers}
 use Rattle.persistent_queue.specs.declared.page_rows.QueueRow.{QueueRow}
-use Rattle.persistent_queue.specs.declared.page_rows.Reading.{Reading}
+use Rattle.persistent_queue.specs.declared.page_rows.BatchReader.{BatchReader}
 use Rattle.persistent_queue.proofs.OpenRows.{fresh_open, one_more_open, open_acknowledged, open_by, open_given, open_rest, tails_fresh, unset_behind, unset_marked, unset_page, unset_row, unset_spent, unset_with}
 use Rattle.persistent_queue.proofs.PageNumbers.{ok_same}
 use Rattle.persistent_queue.proofs.QueueBatch.{Takes, none_left, takes}
@@ -45,11 +45,11 @@ rows_with given (Some batch) = each given
     each [] = refl
     each (b ∷ given) = ap (λ (l : List Row). map told b.rows ++ l) (each given) ∙ sym (append_assoc (map told b.rows) (rows_of given) (rows_of (batch ∷ [])))
 
-rows_of_first : (r : Reading) (rows : List QueueRow) → r.rows ≡ rows → rows_of (with_batch [] (batch_from r (slice_get rows 0))) ≡ map told rows
+rows_of_first : (r : BatchReader) (rows : List QueueRow) → r.rows ≡ rows → rows_of (with_batch [] (batch_from r (slice_get rows 0))) ≡ map told rows
 rows_of_first r [] is = refl
 rows_of_first r (x ∷ rows) is = append-nil (map told r.rows) ∙ ap (map told) is
 
-batch_rows : (r : Reading) → rows_of (with_batch [] (batch_of r)) ≡ map told r.rows
+batch_rows : (r : BatchReader) → rows_of (with_batch [] (batch_of r)) ≡ map told r.rows
 batch_rows r = rows_of_first r r.rows refl
 
 -- ---- rows that are behind batches
@@ -59,7 +59,7 @@ behind_more [] batch rows end behind rise = (rise, tt)
 behind_more (b ∷ given) batch rows end behind rise = (behind.0, behind_more given batch rows end behind.1 rise)
 
 -- the row behind a batch has the number of the next one
-behind_first : (given : List Batch) (r : Reading) (read : List QueueRow) (rows : List Row) (end : ℕ) → AreBehind given rows end → AreRising r.number rows end → AreBehind (with_batch given (batch_from r (slice_get read 0))) rows end
+behind_first : (given : List Batch) (r : BatchReader) (read : List QueueRow) (rows : List Row) (end : ℕ) → AreBehind given rows end → AreRising r.number rows end → AreBehind (with_batch given (batch_from r (slice_get read 0))) rows end
 behind_first given r [] rows end behind rise = behind
 behind_first given r (x ∷ read) rows end behind rise =
     behind_more given (record { numbers = record { first = x.number; behind = r.number }; rows = r.rows }) rows end behind rise
@@ -80,11 +80,11 @@ behind_one [] batch rows end behind is = elim is [ ]
 behind_one (b ∷ given) batch rows end behind (inl same) = subst (λ (x : Batch). AreRising x.numbers.behind rows end) (sym same) behind.0
 behind_one (b ∷ given) batch rows end behind (inr is) = behind_one given batch rows end behind.1 is
 
-no_row : (r : Reading) (rows : List QueueRow) (rest : List Row) → map told rows ++ rest ≡ [] → batch_from r (slice_get rows 0) ≡ None
+no_row : (r : BatchReader) (rows : List QueueRow) (rest : List Row) → map told rows ++ rest ≡ [] → batch_from r (slice_get rows 0) ≡ None
 no_row r [] rest none = refl
 no_row r (x ∷ rows) rest none = absurd (omega (arith, ap length none))
 
-first_among : (tails : List OpenPage) (top : OpenPage) → IsAmong (cursor_at (first_of tails top)).page (tails ++ top ∷ [])
+first_among : (tails : List OpenPageView) (top : OpenPageView) → IsAmong (cursor_at (first_of tails top)).page (tails ++ top ∷ [])
 first_among [] top = inl refl
 first_among (o ∷ tails) top = inl refl
 
@@ -92,7 +92,7 @@ ok_pair : {x y : Option Batch × QueueView} → ◌≡◌ {A = Result (Option Ba
 ok_pair is = cc
 
 -- the next row stands where it stood, whatever was read last
-block_stands : (content : Content) (c : CursorView) (block : BlockView) (pages : List OpenPage) (rows : List (List PageRow)) → CursorStands content c pages rows → CursorStands content (record c { block = block }) pages rows
+block_stands : (content : Content) (c : CursorView) (block : PageBufferView) (pages : List OpenPageView) (rows : List (List PageRow)) → CursorStands content c pages rows → CursorStands content (record c { block = block }) pages rows
 block_stands content c block [] rows stands = tt
 block_stands content c block (o ∷ pages) [] stands = tt
 block_stands content c block (o ∷ pages) (rows ∷ others) stands = (stands.0, block_stands content c block pages others stands.1)
@@ -109,7 +109,7 @@ module _ (most : ℕ) (content : Content) (v : QueueView) where
 module _ {S : Type 0} (store : StoreWords S) where
   -- ---- an opening
 
-  opened_gives : (folder : List ℕ) (limits : Limits) (o : Opened) (old new : S) → IsTrue store.tells → (made : OpensAs store (queue_opened folder limits o) o old new)
+  opened_gives : (folder : List ℕ) (limits : Limits) (o : OpenedQueue) (old new : S) → IsTrue store.tells → (made : OpensAs store (queue_opened folder limits o) o old new)
       → GivesNext store (queue_opened folder limits o) made.queue (all_rows made.queue.tails made.queue.top) new
   opened_gives folder limits o old new tells made =
       let v = queue_opened folder limits o in

@@ -5,12 +5,12 @@ use Rattle.std.proofs.lemmas.Bool.Decides.{nat_tests}
 use Rattle.store_trait.specs.declared.stores.Store.{Ghosts as StoreWords}
 use Rattle.queue_page.specs.Views.{PageView}
 use Rattle.queue_laws.specs.Kept.{leading}
-use Rattle.queue_core.specs.declared.tails.Tail.{Tail}
+use Rattle.queue_core.specs.declared.sealed_pages.SealedPage.{SealedPage}
 use Rattle.persistent_queue.specs.Calls.{first_open, with_marked, with_recorded}
 use Rattle.persistent_queue.specs.NextBatch.{Rise}
 use Rattle.persistent_queue.specs.Opening.{below_number, cursor_at, first_of, page_opened, queue_opened, tails_opened}
 use Rattle.persistent_queue.specs.UnreadRows.{AllAreGiven, AreGiven, next_in}
-use Rattle.persistent_queue.specs.Views.{OpenPage, CursorView}
+use Rattle.persistent_queue.specs.Views.{OpenPageView, CursorView}
 use Rattle.persistent_queue.proofs.QueueBatch.{all_rise}
 
 -- what is acknowledged from the first row on is below the recorded number, or nothing is
@@ -31,7 +31,7 @@ led from number (suc count) = elim (cases_lt number from) [
       inr (omega (arith, none))
 ]
 
-next_is : (c : CursorView) (o : OpenPage) → (o.number ≡ c.page → c.number ≡ o.page.state.least) → next_in c o ≡ o.page.state.least
+next_is : (c : CursorView) (o : OpenPageView) → (o.number ≡ c.page → c.number ≡ o.page.state.least) → next_in c o ≡ o.page.state.least
 next_is c o first = elim (cases_Bool (o.number == c.page)) [
   | inl this ↦ cond-true _ _ _ this ∙ first (grind (arith, nat_tests, this))
   | inr other ↦ cond-false _ _ _ other
@@ -46,10 +46,10 @@ module _ (folder : List ℕ) (c : CursorView) where
       inr (⊎_elim (λ (recorded : first_open o ≤ from). inl recorded) (λ (none : first_open o ≤ view.state.least). inr (omega (arith, none, next))) (led from view.state.least view.state.count))
 
   module _ (number turn first_open_number : ℕ) (view : PageView) where
-    abbrev top : OpenPage
+    abbrev top : OpenPageView
     top = page_opened folder number turn first_open_number view
 
-    later_given : (from : ℕ) (tails : List Tail) (views : List PageView) → Rise from (tails_opened folder tails views ++ top ∷ []) → c.page < from → AreGiven c (tails_opened folder tails views ++ top ∷ [])
+    later_given : (from : ℕ) (tails : List SealedPage) (views : List PageView) → Rise from (tails_opened folder tails views ++ top ∷ []) → c.page < from → AreGiven c (tails_opened folder tails views ++ top ∷ [])
     later_given from [] views rise less = (one_given number turn first_open_number view (λ is. absurd (omega (arith, is, less, rise.0))), tt)
     later_given from (t ∷ tails) [] rise less = (one_given number turn first_open_number view (λ is. absurd (omega (arith, is, less, rise.0))), tt)
     later_given from (t ∷ tails) (v ∷ views) rise less = (
@@ -58,7 +58,7 @@ module _ (folder : List ℕ) (c : CursorView) where
     )
 
 module _ (folder : List ℕ) (number turn first_open_number : ℕ) (view : PageView) where
-  first_given : (tails : List Tail) (views : List PageView) → Rise 0 (tails_opened folder tails views ++ page_opened folder number turn first_open_number view ∷ [])
+  first_given : (tails : List SealedPage) (views : List PageView) → Rise 0 (tails_opened folder tails views ++ page_opened folder number turn first_open_number view ∷ [])
       → AreGiven (cursor_at (first_of (tails_opened folder tails views) (page_opened folder number turn first_open_number view))) (tails_opened folder tails views ++ page_opened folder number turn first_open_number view ∷ [])
   first_given [] views rise = (one_given folder (cursor_at (page_opened folder number turn first_open_number view)) number turn first_open_number view (λ is. refl), tt)
   first_given (t ∷ tails) [] rise = (one_given folder (cursor_at (page_opened folder number turn first_open_number view)) number turn first_open_number view (λ is. refl), tt)
@@ -66,7 +66,7 @@ module _ (folder : List ℕ) (number turn first_open_number : ℕ) (view : PageV
       let c = cursor_at (page_opened folder t.number t.turn t.state.first_open v) in
       (one_given folder c t.number t.turn t.state.first_open v (λ is. refl), later_given folder c number turn first_open_number view (suc t.number) tails views rise.1 (omega arith))
 
-marked_given : (c : CursorView) (tails : List OpenPage) (top : OpenPage) → AreGiven c (map with_marked tails ++ with_recorded top ∷ [])
+marked_given : (c : CursorView) (tails : List OpenPageView) (top : OpenPageView) → AreGiven c (map with_marked tails ++ with_recorded top ∷ [])
 marked_given c [] top = (inr (inl (omega arith)), tt)
 marked_given c (o ∷ tails) top = (inr (inl (omega arith)), marked_given c tails top)
 

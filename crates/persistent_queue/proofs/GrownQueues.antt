@@ -7,27 +7,27 @@ use Rattle.queue_page.specs.Pages.{with_element}
 use Rattle.queue_core.specs.declared.marking.Mark.{Mark}
 use Rattle.queue_core.specs.declared.rolling.NextPage.{NextPage}
 use Rattle.persistent_queue.specs.Calls.{IsHeldQueue, behind_mark, marks_of, tail_bytes, with_marked, with_recorded}
-use Rattle.persistent_queue.specs.Views.{OpenPage, QueueView}
+use Rattle.persistent_queue.specs.Views.{OpenPageView, QueueView}
 use Rattle.persistent_queue.specs.Writing.{behind_append, behind_roll, sealed}
 use Rattle.persistent_queue.proofs.HeldQueues.{long_named, marked_held, marks_held}
 use Rattle.persistent_queue.proofs.MarkRuns.{Named, first_file, other_files}
 
-tails_bytes_more : (tails : List OpenPage) (o : OpenPage) → tail_bytes (tails ++ o ∷ []) ≡ tail_bytes tails + o.page.state.length
+tails_bytes_more : (tails : List OpenPageView) (o : OpenPageView) → tail_bytes (tails ++ o ∷ []) ≡ tail_bytes tails + o.page.state.length
 tails_bytes_more [] o = omega arith
 tails_bytes_more (t ∷ tails) o = omega (arith, tails_bytes_more tails o)
 
-filed_more : (folder : List ℕ) (tails : List OpenPage) (o : OpenPage) → map (λ (x : OpenPage). x.file) tails ≡ map (λ (x : OpenPage). names_in folder (page x.number)) tails → o.file ≡ names_in folder (page o.number)
-    → map (λ (x : OpenPage). x.file) (tails ++ o ∷ []) ≡ map (λ (x : OpenPage). names_in folder (page x.number)) (tails ++ o ∷ [])
+filed_more : (folder : List ℕ) (tails : List OpenPageView) (o : OpenPageView) → map (λ (x : OpenPageView). x.file) tails ≡ map (λ (x : OpenPageView). names_in folder (page x.number)) tails → o.file ≡ names_in folder (page o.number)
+    → map (λ (x : OpenPageView). x.file) (tails ++ o ∷ []) ≡ map (λ (x : OpenPageView). names_in folder (page x.number)) (tails ++ o ∷ [])
 filed_more folder [] o filed is = ap (λ l. l ∷ []) is
 filed_more folder (t ∷ tails) o filed is = ap₂ (λ (x : List ℕ) (l : List (List ℕ)). x ∷ l) (first_file filed) (filed_more folder tails o (other_files filed) is)
 
-named_more : (folder : List ℕ) (tails : List OpenPage) (o : OpenPage) (marks : List Mark) (m : Mark) → Named folder tails marks → m.file ≡ names_in folder (checkpoint o.number) → Named folder (tails ++ o ∷ []) (insert marks (length tails) m)
+named_more : (folder : List ℕ) (tails : List OpenPageView) (o : OpenPageView) (marks : List Mark) (m : Mark) → Named folder tails marks → m.file ≡ names_in folder (checkpoint o.number) → Named folder (tails ++ o ∷ []) (insert marks (length tails) m)
 named_more folder [] o [] m named is = absurd (omega (arith, ap length named))
 named_more folder [] o (x ∷ marks) m named is = ap₂ (λ (x : List ℕ) (l : List (List ℕ)). x ∷ l) is named
 named_more folder (t ∷ tails) o [] m named is = absurd (omega (arith, ap length named))
 named_more folder (t ∷ tails) o (x ∷ marks) m named is = ap₂ (λ (x : List ℕ) (l : List (List ℕ)). x ∷ l) (first_file named) (named_more folder tails o marks m (other_files named) is)
 
-long_map : (f : OpenPage → OpenPage) (tails : List OpenPage) → length (map f tails) ≡ length tails
+long_map : (f : OpenPageView → OpenPageView) (tails : List OpenPageView) → length (map f tails) ≡ length tails
 long_map f [] = refl
 long_map f (o ∷ tails) = ap suc (long_map f tails)
 
@@ -46,15 +46,15 @@ rolled_held v marks bytes size m is held =
     }
 
 -- with room for more pages, and marks that are set
-pub reserved_held : (v : QueueView) (marks ms : List Mark) (bytes : ℕ) (tails : List OpenPage) → tails ≡ v.tails → ms ≡ marks_of v.tails v.top marks → IsHeldQueue v marks bytes → IsHeldQueue (record v { tails = tails }) ms bytes
+pub reserved_held : (v : QueueView) (marks ms : List Mark) (bytes : ℕ) (tails : List OpenPageView) → tails ≡ v.tails → ms ≡ marks_of v.tails v.top marks → IsHeldQueue v marks bytes → IsHeldQueue (record v { tails = tails }) ms bytes
 reserved_held v marks ms bytes tails is are held =
-    subst (λ (l : List OpenPage). IsHeldQueue (record v { tails = l }) ms bytes) (sym is) (subst (λ (m : List Mark). IsHeldQueue v m bytes) (sym are) (marks_held v marks bytes held))
+    subst (λ (l : List OpenPageView). IsHeldQueue (record v { tails = l }) ms bytes) (sym is) (subst (λ (m : List Mark). IsHeldQueue v m bytes) (sym are) (marks_held v marks bytes held))
 
 pub some_marks : (v : QueueView) (marks ms : List Mark) (bytes : ℕ) → ms ≡ marks_of v.tails v.top marks → IsHeldQueue v marks bytes → 0 < length ms
 some_marks v marks ms bytes are held = omega (arith, ap length are, long_named v.folder v.tails (marks_of v.tails v.top marks) (marks_held v marks bytes held).marks_are)
 
 -- a page with one row that was begun as this says
-abbrev pub begun_top : ℕ → NextPage → OpenPage
+abbrev pub begun_top : ℕ → NextPage → OpenPageView
 begun_top n x = record { number = x.state.page; file = x.file; page = with_element (record { version = 2; state = x.state }) n; acknowledged = false ∷ []; from = x.state.least; turn = x.turn }
 
 -- the same folder and pages

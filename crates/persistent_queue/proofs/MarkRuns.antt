@@ -22,7 +22,7 @@ use Rattle.queue_core.proofs.WriteLemmas.{beside_still}
 use Rattle.queue_core.proofs.Lengths.{longer_wrote}
 use Rattle.persistent_queue.specs.Calls.{behind_mark, first_open, is_due, mark_of, marks_of, state_of, tail_checkpoints, with_marked, with_recorded}
 use Rattle.persistent_queue.specs.Opens.{AreLong, ArePagesOf, Becomes, Climb, HasPage, IsAmong, IsPageOf, IsReady, KeepsQueue, Opens, TailsSlotted, place_behind}
-use Rattle.persistent_queue.specs.Views.{OpenPage, QueueView}
+use Rattle.persistent_queue.specs.Views.{OpenPageView, QueueView}
 
 -- ---- files
 
@@ -34,7 +34,7 @@ other_files is = ap (drop 1) is
 
 module _ (folder : List ℕ) where
   -- the marks of these pages are for their checkpoints
-  abbrev pub Named : List OpenPage → List Mark → Type 0
+  abbrev pub Named : List OpenPageView → List Mark → Type 0
   Named tails marks = map (λ (m : Mark). m.file) marks ≡ tail_checkpoints folder tails ++ names_in folder head ∷ []
 
   abbrev Other : List ℕ → Type 0
@@ -45,7 +45,7 @@ module _ (folder : List ℕ) where
   beside_due name false w writes other rest = rest
 
   -- a file that none of the marks is of: those from a number on
-  beside_from : (name : List ℕ) (from end : ℕ) (tails : List OpenPage) (top : OpenPage) (marks : List Mark) → Climb from end tails → Named tails marks → name ≢ names_in folder head
+  beside_from : (name : List ℕ) (from end : ℕ) (tails : List OpenPageView) (top : OpenPageView) (marks : List Mark) → Climb from end tails → Named tails marks → name ≢ names_in folder head
       → ((n : ℕ) → from ≤ n → name ≢ names_in folder (checkpoint n)) → IsBeside name (writes_of (marks_of tails top marks))
   beside_from name from end [] top [] climb named head_other others = tt
   beside_from name from end [] top (m ∷ marks) climb named head_other others =
@@ -66,7 +66,7 @@ module _ (folder : List ℕ) where
   can_due content true w writes fits beside rest = (fits, beside, rest)
   can_due content false w writes fits beside rest = rest
 
-  pub can_mark : (content : Content) (from end : ℕ) (tails : List OpenPage) (top : OpenPage) (marks : List Mark) → Climb from end tails → TailsSlotted folder tails content
+  pub can_mark : (content : Content) (from end : ℕ) (tails : List OpenPageView) (top : OpenPageView) (marks : List Mark) → Climb from end tails → TailsSlotted folder tails content
       → 48 ≤ file_length (content (names_in folder head)) → Named tails marks → CanWrite content (writes_of (marks_of tails top marks))
   can_mark content from end [] top [] climb slotted top_slotted named = tt
   can_mark content from end [] top (m ∷ []) climb slotted top_slotted named =
@@ -86,7 +86,7 @@ module _ (folder : List ℕ) where
       no_head n is = absurd cc
 
   -- pages stay
-  pub page_stays : (n : ℕ) (end : ℕ) (tails : List OpenPage) (top : OpenPage) (marks : List Mark) (old new : Content) → Climb 0 end tails → Named tails marks → Wrote (writes_of (marks_of tails top marks)) old new
+  pub page_stays : (n : ℕ) (end : ℕ) (tails : List OpenPageView) (top : OpenPageView) (marks : List Mark) (old new : Content) → Climb 0 end tails → Named tails marks → Wrote (writes_of (marks_of tails top marks)) old new
       → new (names_in folder (page n)) ≡ old (names_in folder (page n))
   page_stays n end tails top marks old new climb named wrote =
       let apart = names_apart folder in
@@ -110,13 +110,13 @@ elements_length version number place (r ∷ rows) bytes are =
 pub page_length : (version least : ℕ) (rows : List PageRow) (bytes : List ℕ) → IsPage bytes version least rows → length bytes ≡ place_behind 1 rows
 page_length version least rows bytes is = omega (arith, ap length is.begins, elements_length version least 1 rows is.elements is.are)
 
-open_is : (o : OpenPage) (p : Page) → IsPageOf o p → first_open_of p ≡ first_open o
+open_is : (o : OpenPageView) (p : Page) → IsPageOf o p → first_open_of p ≡ first_open o
 open_is o p is = ap₂ (λ (n : ℕ) (l : List Bool). n + leading l) is.least is.acknowledged
 
-state_is : (o : OpenPage) (p : Page) (len : ℕ) → IsPageOf o p → len ≡ o.page.state.length → state_of o ≡ state_at p (first_open_of p) p.rows len
+state_is : (o : OpenPageView) (p : Page) (len : ℕ) → IsPageOf o p → len ≡ o.page.state.length → state_of o ≡ state_at p (first_open_of p) p.rows len
 state_is o p len is long = λ i. record { page = sym is.number i; first_open = sym (open_is o p is) i; least = sym is.least i; count = sym is.count i; length = sym long i }
 
-due_is : (o : OpenPage) (p : Page) → IsPageOf o p → is_due o ≡ not (first_open_of p == p.from)
+due_is : (o : OpenPageView) (p : Page) → IsPageOf o p → is_due o ≡ not (first_open_of p == p.from)
 due_is o p is = ap₂ (λ (a b : ℕ). not (a == b)) (sym (open_is o p is)) (sym is.from)
 
 module _ (folder : List ℕ) (content : Content) where
@@ -126,10 +126,10 @@ module _ (folder : List ℕ) (content : Content) where
   abbrev now : Folder
   now = read_in names content
 
-  mark_is : (role : Role) (o : OpenPage) (p : Page) (len : ℕ) (due : Bool) (m : Mark) → IsPageOf o p → len ≡ o.page.state.length → m.file ≡ names role → IsMarkOf names role p len (mark_of o due m)
+  mark_is : (role : Role) (o : OpenPageView) (p : Page) (len : ℕ) (due : Bool) (m : Mark) → IsPageOf o p → len ≡ o.page.state.length → m.file ≡ names role → IsMarkOf names role p len (mark_of o due m)
   mark_is role o p len due m is long named = record { file = named; turn = ap next_turn (sym is.turn); state = state_is o p len is long }
 
-  pub marks_are : (top : OpenPage) (q_top : Page) (len : ℕ) (tails : List OpenPage) (pages : List Page) (marks : List Mark) (held : TailsHeld pages now) → ArePagesOf tails pages
+  pub marks_are : (top : OpenPageView) (q_top : Page) (len : ℕ) (tails : List OpenPageView) (pages : List Page) (marks : List Mark) (held : TailsHeld pages now) → ArePagesOf tails pages
       → IsPageOf top q_top → len ≡ top.page.state.length → Named folder tails marks → AreMarksOf names q_top len pages now held (marks_of tails top marks)
   marks_are top q_top len [] [] [] held are top_is top_long named = absurd (omega (arith, ap length named))
   marks_are top q_top len [] [] (m ∷ []) held are top_is top_long named = (mark_of top true m, refl, mark_is head top q_top len true m top_is top_long (first_file named), refl)
@@ -148,10 +148,10 @@ module _ (folder : List ℕ) (content : Content) where
 
 -- ---- what is open then
 
-recorded_is : (o : OpenPage) (p : Page) → IsPageOf o p → IsPageOf (with_recorded o) (recorded_page p)
+recorded_is : (o : OpenPageView) (p : Page) → IsPageOf o p → IsPageOf (with_recorded o) (recorded_page p)
 recorded_is o p is = record { number = is.number; version = is.version; least = is.least; count = is.count; acknowledged = is.acknowledged; from = open_is o p is; turn = ap next_turn is.turn; long = is.long }
 
-marked_is : (o : OpenPage) (p : Page) → IsPageOf o p → IsPageOf (with_marked o) (marked_page p)
+marked_is : (o : OpenPageView) (p : Page) → IsPageOf o p → IsPageOf (with_marked o) (marked_page p)
 marked_is o p is = record {
   number = is.number;
   version = is.version;
@@ -163,13 +163,13 @@ marked_is o p is = record {
   long = is.long;
 }
 
-all_marked_are : (tails : List OpenPage) (pages : List Page) → ArePagesOf tails pages → ArePagesOf (map with_marked tails) (marked_pages pages)
+all_marked_are : (tails : List OpenPageView) (pages : List Page) → ArePagesOf tails pages → ArePagesOf (map with_marked tails) (marked_pages pages)
 all_marked_are [] [] are = tt
 all_marked_are [] (p ∷ pages) are = absurd are
 all_marked_are (o ∷ tails) [] are = absurd are
 all_marked_are (o ∷ tails) (p ∷ pages) are = (marked_is o p are.0, all_marked_are tails pages are.1)
 
-among_marked : (n : ℕ) (tails : List OpenPage) → IsAmong n (map with_marked tails) → IsAmong n tails
+among_marked : (n : ℕ) (tails : List OpenPageView) → IsAmong n (map with_marked tails) → IsAmong n tails
 among_marked n [] among = absurd among
 among_marked n (o ∷ tails) (inl is) = inl is
 among_marked n (o ∷ tails) (inr among) = inr (among_marked n tails among)
@@ -178,16 +178,16 @@ has_marked : (n : ℕ) (v : QueueView) → HasPage n (behind_mark v) → HasPage
 has_marked n v (inl is) = inl is
 has_marked n v (inr among) = inr (among_marked n v.tails among)
 
-climb_marked : (from end : ℕ) (tails : List OpenPage) → Climb from end tails → Climb from end (map with_marked tails)
+climb_marked : (from end : ℕ) (tails : List OpenPageView) → Climb from end tails → Climb from end (map with_marked tails)
 climb_marked from end [] climb = climb
 climb_marked from end (o ∷ tails) climb = (climb.0, climb_marked (suc o.number) end tails climb.1)
 
 module _ (folder : List ℕ) (old new : Content) where
-  slots_stay : NoneShorter old new → (tails : List OpenPage) → TailsSlotted folder tails old → TailsSlotted folder (map with_marked tails) new
+  slots_stay : NoneShorter old new → (tails : List OpenPageView) → TailsSlotted folder tails old → TailsSlotted folder (map with_marked tails) new
   slots_stay longer [] slotted = tt
   slots_stay longer (o ∷ tails) slotted = (omega (arith, slotted.0, longer (names_in folder (checkpoint o.number))), slots_stay longer tails slotted.1)
 
-  long_stay : ((n : ℕ) → new (names_in folder (page n)) ≡ old (names_in folder (page n))) → (tails : List OpenPage) → AreLong folder tails old → AreLong folder (map with_marked tails) new
+  long_stay : ((n : ℕ) → new (names_in folder (page n)) ≡ old (names_in folder (page n))) → (tails : List OpenPageView) → AreLong folder tails old → AreLong folder (map with_marked tails) new
   long_stay same [] long = tt
   long_stay same (o ∷ tails) long = (omega (arith, long.0, ap file_length (same o.number)), long_stay same tails long.1)
 

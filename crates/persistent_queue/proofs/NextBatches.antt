@@ -14,8 +14,8 @@ use Rattle.persistent_queue.specs.Calls.{end_of, is_spent}
 use Rattle.persistent_queue.specs.NextBatch.{StandsAt, RowsStand, AllStand, Rise, left_in, unread_rows_in}
 use Rattle.persistent_queue.specs.Taking.{Stand, stand, at_first, entered, is_passed, rows_of, page_read, pages_read}
 use Rattle.persistent_queue.specs.Unread.{told, taken, taken_on}
-use Rattle.persistent_queue.specs.Views.{OpenPage}
-use Rattle.persistent_queue.specs.declared.page_rows.Reading.{Reading}
+use Rattle.persistent_queue.specs.Views.{OpenPageView}
+use Rattle.persistent_queue.specs.declared.page_rows.BatchReader.{BatchReader}
 use Rattle.persistent_queue.proofs.NextRows.{Reads, next_rows, nothing_on, still_on}
 use Rattle.persistent_queue.proofs.PagesRead.{page_found, page_passed, page_then}
 
@@ -43,7 +43,7 @@ none_since version number place from (row ∷ rows) bytes els below =
     cond-true _ _ _ t ∙ none_since version (number + 1) row.next from rows els.1 els.5 (omega (arith, below))
 
 -- a batch that is over takes none of further rows
-over_none : (r : Reading) → is_over r ≡ true → (more : List Row) → taken_on r more ≡ []
+over_none : (r : BatchReader) → is_over r ≡ true → (more : List Row) → taken_on r more ≡ []
 over_none r over more = elim (cases_Bool r.closed) [
   | inl closed ↦ cond-true _ _ _ closed
   | inr still ↦ cond-false _ _ _ still ∙ elim (cases_lt (length r.rows) r.most_rows) [
@@ -54,12 +54,12 @@ over_none r over more = elim (cases_Bool r.closed) [
   ]
 ]
 
-closed_not : (r : Reading) → is_over r ≡ false → r.closed ≡ false
+closed_not : (r : BatchReader) → is_over r ≡ false → r.closed ≡ false
 closed_not r not_over = or_left r.closed (not (nat_lt (length r.rows) r.most_rows)) not_over
 
 -- ---- one page
 
-module _ (content : Content) (o : OpenPage) (rows : List PageRow) where
+module _ (content : Content) (o : OpenPageView) (rows : List PageRow) where
   abbrev file : List ℕ
   file = bytes_of (content o.file)
 
@@ -90,7 +90,7 @@ module _ (content : Content) (o : OpenPage) (rows : List PageRow) where
   page_none s stands passed none = page_stays s stands passed (λ more. ap (λ (l : List Row). taken_on s.reading (l ++ more)) none) (λ not_over. none)
 
   -- it is read on from this row
-  module _ (s : Stand) (r : Reading) (stands : RowsStand content s o rows) (goes_on : is_passed o s ≡ false) (is : r ≡ entered o s) (above : s.page ≤ o.number) (here : StandsAt o rows (bytes_of (content o.file)) r.number r.place)
+  module _ (s : Stand) (r : BatchReader) (stands : RowsStand content s o rows) (goes_on : is_passed o s ≡ false) (is : r ≡ entered o s) (above : s.page ≤ o.number) (here : StandsAt o rows (bytes_of (content o.file)) r.number r.place)
       (left_is : left_in s o rows ≡ drop (r.number - o.page.state.least) rows) (same_rows : map told r.rows ≡ map told s.reading.rows) (same_on : (more : List Row) → taken_on r more ≡ taken_on s.reading more) (still : r.closed ≡ false) where
     abbrev tail : List PageRow
     tail = drop (r.number - o.page.state.least) rows
@@ -183,13 +183,13 @@ module _ (content : Content) (o : OpenPage) (rows : List PageRow) where
 -- ---- all pages
 
 module _ (content : Content) where
-  all_over : (pages : List OpenPage) (s : Stand) → is_over s.reading ≡ true → pages_read content pages s ≡ Ok s
+  all_over : (pages : List OpenPageView) (s : Stand) → is_over s.reading ≡ true → pages_read content pages s ≡ Ok s
   all_over [] s over = refl
   all_over (o ∷ pages) s over =
       page_then content o pages s s (page_passed content o s (ap (λ b. (nat_lt o.number s.page || is_spent o) || b) over ∙ or_true (nat_lt o.number s.page || is_spent o))) ∙ all_over pages s over
 
   -- of pages above two others, the rows are all left, wherever the next row stands in those
-  later_left : (from : ℕ) (pages : List OpenPage) (rows : List (List PageRow)) (s next : Stand) → Rise from pages → s.page < from → next.page < from → unread_rows_in next pages rows ≡ unread_rows_in s pages rows
+  later_left : (from : ℕ) (pages : List OpenPageView) (rows : List (List PageRow)) (s next : Stand) → Rise from pages → s.page < from → next.page < from → unread_rows_in next pages rows ≡ unread_rows_in s pages rows
   later_left from [] rows s next rise less less_then = refl
   later_left from (o ∷ pages) [] s next rise less less_then = refl
   later_left from (o ∷ pages) (rows ∷ others) s next rise less less_then =
@@ -202,7 +202,7 @@ module _ (content : Content) where
           let u : (o.number == x.page) ≡ false = grind (arith, nat_tests, below, rise.0) in
           cond-false _ _ _ t ∙ cond-false _ _ _ u
 
-  later_stand : (from : ℕ) (pages : List OpenPage) (rows : List (List PageRow)) (s next : Stand) → Rise from pages → next.page < from → AllStand content s pages rows → AllStand content next pages rows
+  later_stand : (from : ℕ) (pages : List OpenPageView) (rows : List (List PageRow)) (s next : Stand) → Rise from pages → next.page < from → AllStand content s pages rows → AllStand content next pages rows
   later_stand from [] [] s next rise less stands = tt
   later_stand from [] (rows ∷ others) s next rise less stands = elim stands [ ]
   later_stand from (o ∷ pages) [] s next rise less stands = elim stands [ ]
@@ -211,7 +211,7 @@ module _ (content : Content) where
     later_stand (suc o.number) pages others s next rise.1 (omega (arith, less, rise.0)) stands.1,
   )
 
-  pub record BatchReads (from : ℕ) (pages : List OpenPage) (rows : List (List PageRow)) (s : Stand) : Type 0 where
+  pub record BatchReads (from : ℕ) (pages : List OpenPageView) (rows : List (List PageRow)) (s : Stand) : Type 0 where
     pub next : Stand
     pub is : pages_read content pages s ≡ Ok next
     pub reach : (next ≡ s) ⊎ (from ≤ next.page)
@@ -220,7 +220,7 @@ module _ (content : Content) where
     pub goes_on : (more : List Row) → map told s.reading.rows ++ taken_on s.reading (unread_rows_in s pages rows ++ more) ≡ map told next.reading.rows ++ taken_on next.reading more
 
   -- the first page and then the others
-  module _ (from : ℕ) (o : OpenPage) (pages : List OpenPage) (rows : List PageRow) (others : List (List PageRow)) (s : Stand) (rise : Rise from (o ∷ pages)) (stands : AllStand content s (o ∷ pages) (rows ∷ others))
+  module _ (from : ℕ) (o : OpenPageView) (pages : List OpenPageView) (rows : List PageRow) (others : List (List PageRow)) (s : Stand) (rise : Rise from (o ∷ pages)) (stands : AllStand content s (o ∷ pages) (rows ∷ others))
       (step : PageReads content o rows s) where
     later : unread_rows_in step.next pages others ≡ unread_rows_in s pages others
     later = ⊎_elim
@@ -288,7 +288,7 @@ module _ (content : Content) where
         goes_on = λ more. first_goes_on more ∙ rest.goes_on more;
       }
 
-  pub batch_reads : (from : ℕ) (pages : List OpenPage) (rows : List (List PageRow)) (s : Stand) → Rise from pages → AllStand content s pages rows → BatchReads from pages rows s
+  pub batch_reads : (from : ℕ) (pages : List OpenPageView) (rows : List (List PageRow)) (s : Stand) → Rise from pages → AllStand content s pages rows → BatchReads from pages rows s
   batch_reads from [] [] s rise stands = record { next = s; is = refl; reach = inl refl; stands = tt; given = refl; goes_on = λ more. refl }
   batch_reads from [] (rows ∷ others) s rise stands = elim stands [ ]
   batch_reads from (o ∷ pages) [] s rise stands = elim stands [ ]
@@ -301,7 +301,7 @@ module _ (content : Content) where
       ]
 
   -- those that the batch has then
-  pub batch_got : (pages : List OpenPage) (rows : List (List PageRow)) (s next : Stand) → s.reading.closed ≡ false
+  pub batch_got : (pages : List OpenPageView) (rows : List (List PageRow)) (s next : Stand) → s.reading.closed ≡ false
       → ((more : List Row) → map told s.reading.rows ++ taken_on s.reading (unread_rows_in s pages rows ++ more) ≡ map told next.reading.rows ++ taken_on next.reading more)
       → map told next.reading.rows ≡ map told s.reading.rows ++ taken s.reading.most_bytes (s.reading.most_rows - length s.reading.rows) s.reading.bytes (unread_rows_in s pages rows)
   batch_got pages rows s next still goes_on =

@@ -19,7 +19,7 @@ use Rattle.queue_page.proofs.RunReads.{left_more}
 use Rattle.queue_laws.specs.Found.{Row, row_of, since}
 use Rattle.persistent_queue.specs.Batching.{given, with_more, is_over, passed, joined, behind_row, place_in, rows_read}
 use Rattle.persistent_queue.specs.Unread.{told, body_size, taken, taken_on, taken_with, IsReadOn}
-use Rattle.persistent_queue.specs.declared.page_rows.Reading.{Reading}
+use Rattle.persistent_queue.specs.declared.page_rows.BatchReader.{BatchReader}
 use Rattle.persistent_queue.proofs.RowReads.{rows_none, rows_over, row_step}
 
 pub spelled : (version : ℕ) (body : List ℕ) (origin : Origin) (event : Ev) → IsBody version body origin event → body_spelling origin event ≡ body
@@ -31,28 +31,28 @@ none_taken most zero bytes = refl
 none_taken most (suc count) bytes = refl
 
 -- what a batch that isn't closed takes of further rows, and of none
-pub still_on : (r : Reading) → r.closed ≡ false → (more : List Row) → taken_on r more ≡ taken r.most_bytes (r.most_rows - length r.rows) r.bytes more
+pub still_on : (r : BatchReader) → r.closed ≡ false → (more : List Row) → taken_on r more ≡ taken r.most_bytes (r.most_rows - length r.rows) r.bytes more
 still_on r still more = cond-false _ _ _ still
 
 none_if : (closed : Bool) (rows : List Row) → rows ≡ [] → (if closed then [] else rows) ≡ []
 none_if true rows none = refl
 none_if false rows none = none
 
-pub nothing_on : (r : Reading) → taken_on r [] ≡ []
+pub nothing_on : (r : BatchReader) → taken_on r [] ≡ []
 nothing_on r = none_if r.closed (taken r.most_bytes (r.most_rows - length r.rows) r.bytes []) (none_taken r.most_bytes (r.most_rows - length r.rows) r.bytes)
 
 module _ (name : List ℕ) (p : PageView) (from : ℕ) (file : List ℕ) (long : p.state.length ≤ length file) where
-  abbrev left : Reading → List ℕ
+  abbrev left : BatchReader → List ℕ
   left r = left_of file r.place p.state.length
 
   -- what is read of rows, and that the batch has those that it may have
-  pub record Reads (rows : List PageRow) (r : Reading) : Type 0 where
-    pub next : Reading
+  pub record Reads (rows : List PageRow) (r : BatchReader) : Type 0 where
+    pub next : BatchReader
     pub is : rows_read name p from file (length rows) r ≡ Ok next
     pub on : IsReadOn p from file rows r next
 
   -- a batch that has as many as it may
-  full : (rows : List PageRow) (r : Reading) → r.closed ≡ false → r.place ≤ p.state.length → AreElements p.version r.number r.place rows (left_of file r.place p.state.length) → r.most_rows ≤ length r.rows → Reads rows r
+  full : (rows : List PageRow) (r : BatchReader) → r.closed ≡ false → r.place ≤ p.state.length → AreElements p.version r.number r.place rows (left_of file r.place p.state.length) → r.most_rows ≤ length r.rows → Reads rows r
   full rows r still within els all =
       let t : nat_lt (length r.rows) r.most_rows ≡ false = grind (arith, nat_tests, all) in
       let over : is_over r ≡ true = ap (λ b. b || not (nat_lt (length r.rows) r.most_rows)) still ∙ ap not t in
@@ -76,7 +76,7 @@ module _ (name : List ℕ) (p : PageView) (from : ℕ) (file : List ℕ) (long :
       }
 
   -- the first row of those that stand there
-  module _ (row : PageRow) (rows : List PageRow) (r : Reading) (still : r.closed ≡ false) (room : length r.rows < r.most_rows) (within : r.place ≤ p.state.length)
+  module _ (row : PageRow) (rows : List PageRow) (r : BatchReader) (still : r.closed ≡ false) (room : length r.rows < r.most_rows) (within : r.place ≤ p.state.length)
       (els : AreElements p.version r.number r.place (row ∷ rows) (left r)) where
     abbrev front : List ℕ
     front = els.0
@@ -206,7 +206,7 @@ module _ (name : List ℕ) (p : PageView) (from : ℕ) (file : List ℕ) (long :
             };
           }
 
-  pub next_rows : (rows : List PageRow) (r : Reading) → r.closed ≡ false → r.place ≤ p.state.length → AreElements p.version r.number r.place rows (left_of file r.place p.state.length) → Reads rows r
+  pub next_rows : (rows : List PageRow) (r : BatchReader) → r.closed ≡ false → r.place ≤ p.state.length → AreElements p.version r.number r.place rows (left_of file r.place p.state.length) → Reads rows r
   next_rows [] r still within els = record {
     next = r;
     is = rows_none name p from file r;
@@ -236,7 +236,7 @@ module _ (name : List ℕ) (p : PageView) (from : ℕ) (file : List ℕ) (long :
       by late room (Some bytes) is again = one_joins row rows r still room within els late bytes is (again bytes)
 
   -- those that the batch has then
-  pub rows_got : (rows : List PageRow) (r next : Reading) → IsReadOn p from file rows r next → map told next.rows ≡ map told r.rows ++ taken r.most_bytes (r.most_rows - length r.rows) r.bytes (since from rows)
+  pub rows_got : (rows : List PageRow) (r next : BatchReader) → IsReadOn p from file rows r next → map told next.rows ≡ map told r.rows ++ taken r.most_bytes (r.most_rows - length r.rows) r.bytes (since from rows)
   rows_got rows r next on =
       sym (append-nil (map told next.rows)) ∙ ap (λ l. map told next.rows ++ l) (sym (nothing_on next)) ∙ sym (on.goes_on [])
       ∙ ap (λ (l : List Row). map told r.rows ++ taken r.most_bytes (r.most_rows - length r.rows) r.bytes l) (append-nil (since from rows))

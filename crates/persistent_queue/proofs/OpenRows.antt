@@ -11,7 +11,7 @@ use Rattle.queue_page.specs.Views.{PageView}
 use Rattle.queue_page.specs.declared.row.PageRow.{PageRow}
 use Rattle.queue_laws.specs.Found.{Row, row_of, since}
 use Rattle.queue_laws.specs.Kept.{Page, AreNumbered, IsSound, Rising, all_rows, leading}
-use Rattle.queue_core.specs.declared.tails.Tail.{Tail}
+use Rattle.queue_core.specs.declared.sealed_pages.SealedPage.{SealedPage}
 use Rattle.persistent_queue.specs.Bits.{is_among, with_range}
 use Rattle.persistent_queue.specs.Calls.{end_of, first_open, is_spent, with_acknowledged, with_marked, without_spent}
 use Rattle.persistent_queue.specs.GivenOnce.{AreOpen, AreRising, is_acknowledged, is_set_at}
@@ -21,7 +21,7 @@ use Rattle.persistent_queue.specs.Opens.{ArePagesOf, IsPageOf}
 use Rattle.persistent_queue.specs.QueueBatches.{CursorStands}
 use Rattle.persistent_queue.specs.Taking.{begun}
 use Rattle.persistent_queue.specs.UnreadRows.{AreGiven, next_in}
-use Rattle.persistent_queue.specs.Views.{CursorView, OpenPage}
+use Rattle.persistent_queue.specs.Views.{CursorView, OpenPageView}
 use Rattle.persistent_queue.specs.Writing.{with_open_row}
 use Rattle.persistent_queue.specs.declared.limits.Numbers.{Numbers}
 use Rattle.persistent_queue.proofs.Ranges.{leading_short}
@@ -86,27 +86,27 @@ set_in_front number n (true ∷ bits) less more = elim (cases_Bool (number == n)
 
 -- ---- rows of all pages
 
-pub open_by : (pages others : List OpenPage) (rows : List Row) → ((n : ℕ) → is_acknowledged pages n ≡ false → is_acknowledged others n ≡ false) → AreOpen pages rows → AreOpen others rows
+pub open_by : (pages others : List OpenPageView) (rows : List Row) → ((n : ℕ) → is_acknowledged pages n ≡ false → is_acknowledged others n ≡ false) → AreOpen pages rows → AreOpen others rows
 open_by pages others [] same still = tt
 open_by pages others (r ∷ rows) same still = (same r.number still.0, open_by pages others rows same still.1)
 
-open_then : (pages : List OpenPage) (front rows : List Row) → AreOpen pages front → AreOpen pages rows → AreOpen pages (front ++ rows)
+open_then : (pages : List OpenPageView) (front rows : List Row) → AreOpen pages front → AreOpen pages rows → AreOpen pages (front ++ rows)
 open_then pages [] rows still then_still = then_still
 open_then pages (r ∷ front) rows still then_still = (still.0, open_then pages front rows still.1 then_still)
 
-open_front : (pages : List OpenPage) (front rows : List Row) → AreOpen pages (front ++ rows) → AreOpen pages front
+open_front : (pages : List OpenPageView) (front rows : List Row) → AreOpen pages (front ++ rows) → AreOpen pages front
 open_front pages [] rows still = tt
 open_front pages (r ∷ front) rows still = (still.0, open_front pages front rows still.1)
 
-pub open_rest : (pages : List OpenPage) (front rows : List Row) → AreOpen pages (front ++ rows) → AreOpen pages rows
+pub open_rest : (pages : List OpenPageView) (front rows : List Row) → AreOpen pages (front ++ rows) → AreOpen pages rows
 open_rest pages [] rows still = still
 open_rest pages (r ∷ front) rows still = open_rest pages front rows still.1
 
-pub one_more_open : (pages : List OpenPage) (rows : List Row) (row : Row) → AreOpen pages rows → is_acknowledged pages row.number ≡ false → AreOpen pages (rows ++ row ∷ [])
+pub one_more_open : (pages : List OpenPageView) (rows : List Row) (row : Row) → AreOpen pages rows → is_acknowledged pages row.number ≡ false → AreOpen pages (rows ++ row ∷ [])
 one_more_open pages rows row still none = open_then pages rows (row ∷ []) still (none, tt)
 
 -- no row of pages has a number in front of them, or behind them
-unset_before : (n number end : ℕ) (tails : List OpenPage) (top : OpenPage) (pages : List Page) (last : Page) → ArePagesOf tails pages → IsPageOf top last → Rising number end pages last → n < end → is_acknowledged (tails ++ top ∷ []) n ≡ false
+unset_before : (n number end : ℕ) (tails : List OpenPageView) (top : OpenPageView) (pages : List Page) (last : Page) → ArePagesOf tails pages → IsPageOf top last → Rising number end pages last → n < end → is_acknowledged (tails ++ top ∷ []) n ≡ false
 unset_before n number end [] top [] last are is rising less =
     both_false (is_set_at top.page.state.least top.acknowledged n) false (unset_outside top.page.state.least top.acknowledged n (inl (omega (arith, less, rising.1, is.least)))) refl
 unset_before n number end [] top (p ∷ pages) last are is rising less = elim are [ ]
@@ -119,7 +119,7 @@ rising_most : (number end : ℕ) (pages : List Page) (last : Page) → Rising nu
 rising_most number end [] last rising = rising.1
 rising_most number end (p ∷ pages) last rising = let rest = rising_most (suc p.number) (p.least + length p.rows) pages last rising.4 in let here = rising.2 in omega (arith, rest, here)
 
-pub unset_behind : (n number end : ℕ) (tails : List OpenPage) (top : OpenPage) (pages : List Page) (last : Page) → ArePagesOf tails pages → IsPageOf top last → Rising number end pages last → end_of top ≤ n
+pub unset_behind : (n number end : ℕ) (tails : List OpenPageView) (top : OpenPageView) (pages : List Page) (last : Page) → ArePagesOf tails pages → IsPageOf top last → Rising number end pages last → end_of top ≤ n
     → is_acknowledged (tails ++ top ∷ []) n ≡ false
 unset_behind n number end [] top [] last are is rising most =
     let long : length top.acknowledged ≡ top.page.state.count = sym (ap length is.acknowledged) ∙ rising.2.each ∙ is.count in
@@ -133,7 +133,7 @@ unset_behind n number end (o ∷ tails) top (p ∷ pages) last are is rising mos
     (unset_outside o.page.state.least o.acknowledged n (inr (omega (arith, most, long, behind, are.0.least, are.0.count, is.least))))
     (unset_behind n (suc p.number) (p.least + length p.rows) tails top pages last are.1 is rising.4 most)
 
-unset_last : (n : ℕ) (pages : List OpenPage) (o : OpenPage) → is_acknowledged pages n ≡ false → is_set_at o.page.state.least o.acknowledged n ≡ false → is_acknowledged (pages ++ o ∷ []) n ≡ false
+unset_last : (n : ℕ) (pages : List OpenPageView) (o : OpenPageView) → is_acknowledged pages n ≡ false → is_set_at o.page.state.least o.acknowledged n ≡ false → is_acknowledged (pages ++ o ∷ []) n ≡ false
 unset_last n [] o none here = both_false (is_set_at o.page.state.least o.acknowledged n) false here refl
 unset_last n (p ∷ pages) o none here =
     let each = either_false (is_set_at p.page.state.least p.acknowledged n) (is_acknowledged pages n) none in
@@ -142,7 +142,7 @@ unset_last n (p ∷ pages) o none here =
 -- ---- what calls make of them
 
 -- rows are acknowledged that are all below these
-pub open_acknowledged : (numbers : Numbers) (tails : List OpenPage) (top : OpenPage) (from : ℕ) (rows : List Row) (end : ℕ) → numbers.behind ≤ from → AreRising from rows end → AreOpen (tails ++ top ∷ []) rows
+pub open_acknowledged : (numbers : Numbers) (tails : List OpenPageView) (top : OpenPageView) (from : ℕ) (rows : List Row) (end : ℕ) → numbers.behind ≤ from → AreRising from rows end → AreOpen (tails ++ top ∷ []) rows
     → AreOpen (map (with_acknowledged numbers) tails ++ with_acknowledged numbers top ∷ []) rows
 open_acknowledged numbers tails top from [] end less rise still = tt
 open_acknowledged numbers tails top from (r ∷ rows) end less rise still = (
@@ -153,15 +153,15 @@ open_acknowledged numbers tails top from (r ∷ rows) end less rise still = (
     none : is_among numbers.first numbers.behind r.number ≡ false
     none = among_below numbers.first numbers.behind r.number (let here = rise.0 in omega (arith, less, here))
 
-    same : (pages : List OpenPage) → is_acknowledged (map (with_acknowledged numbers) pages ++ with_acknowledged numbers top ∷ []) r.number ≡ is_acknowledged (pages ++ top ∷ []) r.number
+    same : (pages : List OpenPageView) → is_acknowledged (map (with_acknowledged numbers) pages ++ with_acknowledged numbers top ∷ []) r.number ≡ is_acknowledged (pages ++ top ∷ []) r.number
     same [] = ap (λ x. x || false) (set_beside numbers.first numbers.behind r.number top.page.state.least top.acknowledged none)
     same (o ∷ pages) = ap₂ (λ (x y : Bool). x || y) (set_beside numbers.first numbers.behind r.number o.page.state.least o.acknowledged none) (same pages)
 
-pub unset_marked : (n : ℕ) (tails : List OpenPage) → is_acknowledged (map with_marked tails) n ≡ is_acknowledged tails n
+pub unset_marked : (n : ℕ) (tails : List OpenPageView) → is_acknowledged (map with_marked tails) n ≡ is_acknowledged tails n
 unset_marked n [] = refl
 unset_marked n (o ∷ tails) = ap (λ x. is_set_at o.page.state.least o.acknowledged n || x) (unset_marked n tails)
 
-unset_top : (n : ℕ) (tails : List OpenPage) (top : OpenPage) → is_acknowledged (tails ++ top ∷ []) n ≡ false → (is_acknowledged tails n ≡ false) × (is_set_at top.page.state.least top.acknowledged n ≡ false)
+unset_top : (n : ℕ) (tails : List OpenPageView) (top : OpenPageView) → is_acknowledged (tails ++ top ∷ []) n ≡ false → (is_acknowledged tails n ≡ false) × (is_set_at top.page.state.least top.acknowledged n ≡ false)
 unset_top n [] top none = (refl, (either_false (is_set_at top.page.state.least top.acknowledged n) false none).0)
 unset_top n (o ∷ tails) top none =
     let each = either_false (is_set_at o.page.state.least o.acknowledged n) (is_acknowledged (tails ++ top ∷ []) n) none in
@@ -169,11 +169,11 @@ unset_top n (o ∷ tails) top none =
     (both_false (is_set_at o.page.state.least o.acknowledged n) (is_acknowledged tails n) each.0 rest.0, rest.1)
 
 -- what is acknowledged in the head page stays, with another page of the same numbers and these rows in its place
-pub unset_with : (n : ℕ) (tails others : List OpenPage) (top x : OpenPage) → (is_acknowledged tails n ≡ false → is_acknowledged others n ≡ false)
+pub unset_with : (n : ℕ) (tails others : List OpenPageView) (top x : OpenPageView) → (is_acknowledged tails n ≡ false → is_acknowledged others n ≡ false)
     → (is_set_at top.page.state.least top.acknowledged n ≡ false → is_set_at x.page.state.least x.acknowledged n ≡ false) → is_acknowledged (tails ++ top ∷ []) n ≡ false → is_acknowledged (others ++ x ∷ []) n ≡ false
 unset_with n tails others top x front last none = let each = unset_top n tails top none in unset_last n others x (front each.0) (last each.1)
 
-pub unset_spent : (n : ℕ) (tails : List OpenPage) → is_acknowledged tails n ≡ false → is_acknowledged (without_spent tails) n ≡ false
+pub unset_spent : (n : ℕ) (tails : List OpenPageView) → is_acknowledged tails n ≡ false → is_acknowledged (without_spent tails) n ≡ false
 unset_spent n [] none = refl
 unset_spent n (o ∷ tails) none =
     let each = either_false (is_set_at o.page.state.least o.acknowledged n) (is_acknowledged tails n) none in
@@ -183,10 +183,10 @@ unset_spent n (o ∷ tails) none =
     by true here rest left = rest
     by false here rest left = both_false (is_set_at o.page.state.least o.acknowledged n) (is_acknowledged (without_spent tails) n) here left
 
-pub unset_row : (n size : ℕ) (o : OpenPage) → is_set_at o.page.state.least o.acknowledged n ≡ false → is_set_at (with_open_row size o).page.state.least (with_open_row size o).acknowledged n ≡ false
+pub unset_row : (n size : ℕ) (o : OpenPageView) → is_set_at o.page.state.least o.acknowledged n ≡ false → is_set_at (with_open_row size o).page.state.least (with_open_row size o).acknowledged n ≡ false
 unset_row n size o none = unset_more o.page.state.least o.acknowledged n ∙ none
 
-pub unset_page : (n : ℕ) (pages : List OpenPage) (o : OpenPage) → o.acknowledged ≡ false ∷ [] → is_acknowledged pages n ≡ false → is_acknowledged (pages ++ o ∷ []) n ≡ false
+pub unset_page : (n : ℕ) (pages : List OpenPageView) (o : OpenPageView) → o.acknowledged ≡ false ∷ [] → is_acknowledged pages n ≡ false → is_acknowledged (pages ++ o ∷ []) n ≡ false
 unset_page n pages o first none = unset_last n pages o none (ap (λ (bits : List Bool). is_set_at o.page.state.least bits n) first)
 
 -- ---- a queue that was opened
@@ -204,14 +204,14 @@ unset_below from number (suc count) n less = both_false (nat_lt number from && (
     ]
 
 -- what is acknowledged of a page are the rows below its recorded number
-abbrev pub IsFresh : OpenPage → Type 0
+abbrev pub IsFresh : OpenPageView → Type 0
 IsFresh o = o.acknowledged ≡ below_number o.from o.page.state.least o.page.state.count
 
-abbrev pub AreFresh : List OpenPage → Type 0
+abbrev pub AreFresh : List OpenPageView → Type 0
 AreFresh [] = ⊤
 AreFresh (o ∷ pages) = IsFresh o × AreFresh pages
 
-fresh_rows : (o : OpenPage) (others : List OpenPage) (number : ℕ) (rows : List PageRow) → IsFresh o → AreNumbered number rows → number + length rows ≤ end_of o
+fresh_rows : (o : OpenPageView) (others : List OpenPageView) (number : ℕ) (rows : List PageRow) → IsFresh o → AreNumbered number rows → number + length rows ≤ end_of o
     → ((n : ℕ) → n < end_of o → is_acknowledged others n ≡ false) → AreOpen (o ∷ others) (since o.from rows)
 fresh_rows o others number [] fresh are within rest = tt
 fresh_rows o others number (r ∷ rows) fresh are within rest = by (nat_lt r.number o.from) refl (fresh_rows o others (suc number) rows fresh are.1 (omega (arith, within)) rest)
@@ -226,7 +226,7 @@ fresh_rows o others number (r ∷ rows) fresh are within rest = by (nat_lt r.num
           still,
         )
 
-later_open : (o : OpenPage) (others : List OpenPage) (from : ℕ) (rows : List Row) (end : ℕ) → length o.acknowledged ≡ o.page.state.count → end_of o ≤ from → AreRising from rows end → AreOpen others rows → AreOpen (o ∷ others) rows
+later_open : (o : OpenPageView) (others : List OpenPageView) (from : ℕ) (rows : List Row) (end : ℕ) → length o.acknowledged ≡ o.page.state.count → end_of o ≤ from → AreRising from rows end → AreOpen others rows → AreOpen (o ∷ others) rows
 later_open o others from [] end long less rise still = tt
 later_open o others from (r ∷ rows) end long less rise still =
     let here = rise.0 in (
@@ -234,7 +234,7 @@ later_open o others from (r ∷ rows) end long less rise still =
       later_open o others (suc r.number) rows end long (omega (arith, less, here)) rise.1 still.1,
     )
 
-pub fresh_open : (number end : ℕ) (tails : List OpenPage) (top : OpenPage) (pages : List Page) (last : Page) → ArePagesOf tails pages → IsPageOf top last → Rising number end pages last → AreFresh tails → IsFresh top
+pub fresh_open : (number end : ℕ) (tails : List OpenPageView) (top : OpenPageView) (pages : List Page) (last : Page) → ArePagesOf tails pages → IsPageOf top last → Rising number end pages last → AreFresh tails → IsFresh top
     → AreOpen (tails ++ top ∷ []) (all_rows pages last)
 fresh_open number end [] top [] last are is rising fresh top_fresh =
     subst (λ n. AreOpen (top ∷ []) (since n last.rows)) (sym is.from) (fresh_rows top [] last.least last.rows top_fresh rising.2.numbered (omega (arith, is.least, is.count)) (λ n less. refl))
@@ -250,7 +250,7 @@ fresh_open number end (o ∷ tails) top (p ∷ pages) last are is rising fresh t
     (λ n less. unset_before n (suc p.number) (p.least + length p.rows) tails top pages last are.1 is rising.4 (omega (arith, less, are.0.least, are.0.count)))))
     (later_open o (tails ++ top ∷ []) (p.least + length p.rows) (all_rows pages last) (end_of top) long (omega (arith, are.0.least, are.0.count)) rise rest)
 
-pub tails_fresh : (folder : List ℕ) (tails : List Tail) (views : List PageView) → AreFresh (tails_opened folder tails views)
+pub tails_fresh : (folder : List ℕ) (tails : List SealedPage) (views : List PageView) → AreFresh (tails_opened folder tails views)
 tails_fresh folder [] views = tt
 tails_fresh folder (t ∷ tails) [] = tt
 tails_fresh folder (t ∷ tails) (v ∷ views) = (refl, tails_fresh folder tails views)
@@ -258,7 +258,7 @@ tails_fresh folder (t ∷ tails) (v ∷ views) = (refl, tails_fresh folder tails
 -- ---- each acknowledged row was given, or is recorded
 
 -- a row that isn't below these numbers is among those that are left, and so isn't acknowledged
-left_unset : (o : OpenPage) (others : List OpenPage) (start n : ℕ) (rows : List PageRow) → AreNumbered start rows → start ≤ n → n < start + length rows → o.from ≤ n → AreOpen (o ∷ others) (since o.from rows)
+left_unset : (o : OpenPageView) (others : List OpenPageView) (start n : ℕ) (rows : List PageRow) → AreNumbered start rows → start ≤ n → n < start + length rows → o.from ≤ n → AreOpen (o ∷ others) (since o.from rows)
     → is_set_at o.page.state.least o.acknowledged n ≡ false
 left_unset o others start n [] are first within late still = absurd (omega (arith, first, within))
 left_unset o others start n (r ∷ rows) are first within late still = elim (cases_lt start n) [
@@ -275,7 +275,7 @@ left_unset o others start n (r ∷ rows) are first within late still = elim (cas
     behind false shown = shown.1
 
 module _ (content : Content) (c : CursorView) where
-  one_given : (o : OpenPage) (p : Page) (others : List OpenPage) → IsPageOf o p → IsSound p → (c.page ≡ o.number → StandsAt o p.rows (bytes_of (content o.file)) c.number c.place)
+  one_given : (o : OpenPageView) (p : Page) (others : List OpenPageView) → IsPageOf o p → IsSound p → (c.page ≡ o.number → StandsAt o p.rows (bytes_of (content o.file)) c.number c.place)
       → AreOpen (o ∷ others) (since o.from (left_in (begun 0 c) o p.rows)) → (o.number < c.page) ⊎ ((first_open o ≤ o.from) ⊎ (first_open o ≤ next_in c o))
   one_given o p others is sound stands still = elim (cases_lt o.number c.page) [
     | inl below ↦ inl below
@@ -319,7 +319,7 @@ module _ (content : Content) (c : CursorView) where
             absurd (true≢false (sym set ∙ unset))
       ]
 
-  pub open_given : (number end : ℕ) (tails : List OpenPage) (top : OpenPage) (pages : List Page) (last : Page) → ArePagesOf tails pages → IsPageOf top last → Rising number end pages last
+  pub open_given : (number end : ℕ) (tails : List OpenPageView) (top : OpenPageView) (pages : List Page) (last : Page) → ArePagesOf tails pages → IsPageOf top last → Rising number end pages last
       → CursorStands content c (tails ++ top ∷ []) (rows_with pages last) → AreOpen (tails ++ top ∷ []) (unread_rows_in (begun 0 c) (tails ++ top ∷ []) (rows_with pages last)) → AreGiven c (tails ++ top ∷ [])
   open_given number end [] top [] last are is rising stands still =
       (one_given top last [] is rising.2 stands.0 (subst (AreOpen (top ∷ [])) (append-nil (since top.from (left_in (begun 0 c) top last.rows))) still), tt)

@@ -27,15 +27,15 @@ use Rattle.queue_core.specs.Known.{AreStated, IsFirst, IsReadOf, WasOpened}
 use Rattle.queue_core.specs.Marks.{read_in}
 use Rattle.queue_core.specs.Queues.{ArePages, AreNewest, IsNewest, OpensReady, page_of}
 use Rattle.queue_core.specs.Reading.{AreStanding}
-use Rattle.queue_core.specs.declared.opening.Opened.{Opened}
-use Rattle.queue_core.specs.declared.tails.Tail.{Tail}
+use Rattle.queue_core.specs.declared.opening.OpenedQueue.{OpenedQueue}
+use Rattle.queue_core.specs.declared.sealed_pages.SealedPage.{SealedPage}
 use Rattle.queue_core.proofs.ScanReads.{found_rows, rows_found}
 use Rattle.queue_core.proofs.StandingPages.{pages_are_found}
 use Rattle.persistent_queue.specs.Bits.{bit_of, bits_from, is_among, with_range}
 use Rattle.persistent_queue.specs.Calls.{tail_checkpoints}
 use Rattle.persistent_queue.specs.Opening.{below_number, page_opened, queue_opened, tails_opened, unread_in, unread_of, FindsQueue, OpensAs, OpensFolder}
 use Rattle.persistent_queue.specs.Opens.{AreLong, ArePagesOf, Climb, IsPageOf, IsReady, TailsSlotted, place_behind}
-use Rattle.persistent_queue.specs.Views.{OpenPage, QueueView}
+use Rattle.persistent_queue.specs.Views.{OpenPageView, QueueView}
 use Rattle.persistent_queue.specs.declared.limits.Limits.{Limits}
 use Rattle.persistent_queue.proofs.MarkRuns.{page_length}
 use Rattle.persistent_queue.proofs.OpenedRows.{SameStates, all_count, below_same, few_unread, first_state, other_states}
@@ -74,25 +74,25 @@ range_below from number (suc count) = ap₂ (λ (b : Bool) (l : List Bool). b �
 
 -- ---- pages one by one
 
-pub state_there : (i : ℕ) (tails : List Tail) (views : List PageView) (t : Tail) (v : PageView) (rest : List Tail) (more : List PageView) → SameStates tails views → drop i tails ≡ t ∷ rest → drop i views ≡ v ∷ more → v.state ≡ t.state
-state_there zero tails views t v rest more same split parts = sym (first_state (sym (ap (map (λ (x : Tail). x.state)) split) ∙ same ∙ ap (map (λ (p : PageView). p.state)) parts))
+pub state_there : (i : ℕ) (tails : List SealedPage) (views : List PageView) (t : SealedPage) (v : PageView) (rest : List SealedPage) (more : List PageView) → SameStates tails views → drop i tails ≡ t ∷ rest → drop i views ≡ v ∷ more → v.state ≡ t.state
+state_there zero tails views t v rest more same split parts = sym (first_state (sym (ap (map (λ (x : SealedPage). x.state)) split) ∙ same ∙ ap (map (λ (p : PageView). p.state)) parts))
 state_there (suc i) [] views t v rest more same split parts = absurd (omega (arith, ap length split))
 state_there (suc i) (x ∷ tails) [] t v rest more same split parts = absurd (omega (arith, ap length same))
 state_there (suc i) (x ∷ tails) (y ∷ views) t v rest more same split parts = state_there i tails views t v rest more (other_states same) split parts
 
 module _ (folder : List ℕ) where
-  pub filed : (tails : List Tail) (views : List PageView)
-      → map (λ (o : OpenPage). o.file) (tails_opened folder tails views) ≡ map (λ (o : OpenPage). names_in folder (page o.number)) (tails_opened folder tails views)
+  pub filed : (tails : List SealedPage) (views : List PageView)
+      → map (λ (o : OpenPageView). o.file) (tails_opened folder tails views) ≡ map (λ (o : OpenPageView). names_in folder (page o.number)) (tails_opened folder tails views)
   filed [] views = refl
   filed (t ∷ tails) [] = refl
   filed (t ∷ tails) (v ∷ views) = ap (λ l. names_in folder (page t.number) ∷ l) (filed tails views)
 
-  pub slots_filed : (tails : List Tail) (views : List PageView) → SameStates tails views → map (λ (t : Tail). names_in folder (checkpoint t.number)) tails ≡ tail_checkpoints folder (tails_opened folder tails views)
+  pub slots_filed : (tails : List SealedPage) (views : List PageView) → SameStates tails views → map (λ (t : SealedPage). names_in folder (checkpoint t.number)) tails ≡ tail_checkpoints folder (tails_opened folder tails views)
   slots_filed [] views same = refl
   slots_filed (t ∷ tails) [] same = absurd (omega (arith, ap length same))
   slots_filed (t ∷ tails) (v ∷ views) same = ap (λ l. names_in folder (checkpoint t.number) ∷ l) (slots_filed tails views (other_states same))
 
-  climbs : (f : Folder) (from end : ℕ) (tails : List Tail) (views : List PageView) → SameStates tails views → from ≤ end → AreStanding from end f (map (λ t. t.number) tails) → Climb from end (tails_opened folder tails views)
+  climbs : (f : Folder) (from end : ℕ) (tails : List SealedPage) (views : List PageView) → SameStates tails views → from ≤ end → AreStanding from end f (map (λ t. t.number) tails) → Climb from end (tails_opened folder tails views)
   climbs f from end [] views same within stand = within
   climbs f from end (t ∷ tails) [] same within stand = absurd (omega (arith, ap length same))
   climbs f from end (t ∷ tails) (v ∷ views) same within stand = (stand.0, climbs f (suc t.number) end tails views (other_states same) (omega (arith, stand.1)) stand.4)
@@ -104,7 +104,7 @@ module _ (folder : List ℕ) where
       let place = found_within slots w.newest w.is.is in
       omega (arith, place.inside)
 
-  slotted : (content : Content) (tails : List Tail) (views : List PageView) → SameStates tails views → AreNewest (read_in (names_in folder) content) tails → TailsSlotted folder (tails_opened folder tails views) content
+  slotted : (content : Content) (tails : List SealedPage) (views : List PageView) → SameStates tails views → AreNewest (read_in (names_in folder) content) tails → TailsSlotted folder (tails_opened folder tails views) content
   slotted content [] views same newest = tt
   slotted content (t ∷ tails) [] same newest = absurd (omega (arith, ap length same))
   slotted content (t ∷ tails) (v ∷ views) same newest =
@@ -115,7 +115,7 @@ module _ (folder : List ℕ) where
   says_long is = cc
 
   -- a page has as many bytes as its rows say, and its file those and maybe more
-  tail_length : (content : Content) (t : Tail) (read : PageRows) → TailHeld (page_of t.number t.turn t.state read) (content (names_in folder (checkpoint t.number))) (content (names_in folder (page t.number)))
+  tail_length : (content : Content) (t : SealedPage) (read : PageRows) → TailHeld (page_of t.number t.turn t.state read) (content (names_in folder (checkpoint t.number))) (content (names_in folder (page t.number)))
       → IsNewest (bytes_of (content (names_in folder (checkpoint t.number)))) t.turn t.state → (t.state.length ≡ place_behind 1 read.rows) × (t.state.length ≤ file_length (content (names_in folder (page t.number))))
   tail_length content t read held newest =
       let slots = bytes_of (content (names_in folder (checkpoint t.number))) in
@@ -125,7 +125,7 @@ module _ (folder : List ℕ) where
         omega (arith, long, ap file_length held.stands, length-append held.bytes held.rest),
       )
 
-  longs : (content : Content) (tails : List Tail) (views : List PageView) (pages : List Page) → SameStates tails views → ArePages tails views pages → TailsHeld pages (read_in (names_in folder) content)
+  longs : (content : Content) (tails : List SealedPage) (views : List PageView) (pages : List Page) → SameStates tails views → ArePages tails views pages → TailsHeld pages (read_in (names_in folder) content)
       → AreNewest (read_in (names_in folder) content) tails → AreLong folder (tails_opened folder tails views) content
   longs content [] views pages same are held newest = tt
   longs content (t ∷ tails) [] pages same are held newest = absurd (omega (arith, ap length same))
@@ -142,7 +142,7 @@ module _ (folder : List ℕ) where
       → IsPageOf (page_opened folder number turn s.first_open (view_of s read)) (page_of number turn s read)
   page_is number turn s read numbered long = record { number = refl; version = refl; least = refl; count = refl; acknowledged = below_same s.first_open s.least read.rows numbered; from = refl; turn = refl; long = long }
 
-  pages_are : (content : Content) (number end : ℕ) (tails : List Tail) (views : List PageView) (pages : List Page) (top : Page) → Rising number end pages top → SameStates tails views → ArePages tails views pages
+  pages_are : (content : Content) (number end : ℕ) (tails : List SealedPage) (views : List PageView) (pages : List Page) (top : Page) → Rising number end pages top → SameStates tails views → ArePages tails views pages
       → TailsHeld pages (read_in (names_in folder) content) → AreNewest (read_in (names_in folder) content) tails → ArePagesOf (tails_opened folder tails views) pages
   pages_are content number end [] views pages top rising same are held newest = subst (λ ps. ArePagesOf [] ps) (sym are) tt
   pages_are content number end (t ∷ tails) views pages top rising same are held newest =
@@ -163,11 +163,11 @@ hands_on folder limits f result lost err is_lost =
 
 -- ---- what is known in any case
 
-module _ (folder : List ℕ) (o : Opened) (stated : AreStated o.state o.pages) where
-  abbrev tails : List OpenPage
+module _ (folder : List ℕ) (o : OpenedQueue) (stated : AreStated o.state o.pages) where
+  abbrev tails : List OpenPageView
   tails = tails_opened folder o.pages.tails.items o.pages.pages.items
 
-  abbrev top : OpenPage
+  abbrev top : OpenPageView
   top = page_opened folder o.state.page o.turn o.state.first_open o.pages.top
 
   least_same : o.pages.top.state.least ≡ o.state.least
@@ -181,7 +181,7 @@ module _ (folder : List ℕ) (o : Opened) (stated : AreStated o.state o.pages) w
 
 -- ---- what the store tells
 
-module _ {S : Type 0} (store : StoreWords S) (folder : List ℕ) (limits : Limits) (o : Opened) (old new : S) (stated : AreStated o.state o.pages) (was : WasOpened store (names_in folder) o old new) where
+module _ {S : Type 0} (store : StoreWords S) (folder : List ℕ) (limits : Limits) (o : OpenedQueue) (old new : S) (stated : AreStated o.state o.pages) (was : WasOpened store (names_in folder) o old new) where
   abbrev v : QueueView
   v = queue_opened folder limits o
 
@@ -256,7 +256,7 @@ module _ {S : Type 0} (store : StoreWords S) (folder : List ℕ) (limits : Limit
       read_count : IsReadOf f o → v.unread ≡ length rows.rows
       read_count reads =
           let s = reads.scanned in
-          let numbers = map (λ (t : Tail). t.number) o.pages.tails.items in
+          let numbers = map (λ (t : SealedPage). t.number) o.pages.tails.items in
           let rises = stated.rises f in
           let r = found_rows f o.state numbers o.pages.tails.items s.tails rises o.pages.pages.items s.pages o.pages.top s.top in
           let same : rows ≡ r.rows = ok_same (sym is ∙ pages_are_found f o.state numbers reads.tells reads.standing ∙ rows_found f o.state numbers o.pages.tails.items s.tails rises o.pages.pages.items s.pages o.pages.top r) in

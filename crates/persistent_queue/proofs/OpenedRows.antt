@@ -18,11 +18,11 @@ use Rattle.queue_laws.specs.Found.{Damaged, Found, Held, falling, opened_page, o
 use Rattle.queue_laws.specs.Kept.{AreNumbered, leading}
 use Rattle.queue_core.specs.Opening.{held_tail, view_at, views_of}
 use Rattle.queue_core.specs.Queues.{below}
-use Rattle.queue_core.specs.declared.tails.Tail.{Tail}
+use Rattle.queue_core.specs.declared.sealed_pages.SealedPage.{SealedPage}
 use Rattle.queue_core.proofs.QueueHead.{more_numbered}
 use Rattle.queue_core.proofs.QueuePages.{damage_ok}
 use Rattle.persistent_queue.specs.Opening.{below_number, page_opened, tails_opened, unread_in, unread_of}
-use Rattle.persistent_queue.specs.Views.{OpenPage}
+use Rattle.persistent_queue.specs.Views.{OpenPageView}
 
 -- ---- rows with consecutive numbers
 
@@ -105,10 +105,10 @@ ok_views : {x y : List PageView} → ◌≡◌ {A = Result (List PageView) Damag
 ok_views is = cc
 
 module _ (folder : List ℕ) (f : Folder) (top : Held) (number turn : ℕ) (v : PageView) (top_is : view_at true top ≡ Ok v) where
-  abbrev top_page : OpenPage
+  abbrev top_page : OpenPageView
   top_page = page_opened folder number turn top.state.first_open v
 
-  pub all_count : (tails : List Tail) (views : List PageView) (found : Found) → read_all (map (held_tail f) tails) top ≡ Ok found → views_of f tails ≡ Ok views
+  pub all_count : (tails : List SealedPage) (views : List PageView) (found : Found) → read_all (map (held_tail f) tails) top ≡ Ok found → views_of f tails ≡ Ok views
       → length found.rows ≡ unread_in (tails_opened folder tails views) + unread_of top_page
   all_count [] views found reads seen =
       let first = and_then_ok (opened_page true top) (λ read. Ok (top_found top read)) found reads in
@@ -145,8 +145,8 @@ none_falls end p rest none = elim (cases_Bool (nat_lt p.state.least end)) [
     some_none is = absurd cc
 
 -- the same states, one by one
-abbrev pub SameStates : List Tail → List PageView → Type 0
-SameStates tails views = map (λ (t : Tail). t.state) tails ≡ map (λ (p : PageView). p.state) views
+abbrev pub SameStates : List SealedPage → List PageView → Type 0
+SameStates tails views = map (λ (t : SealedPage). t.state) tails ≡ map (λ (p : PageView). p.state) views
 
 pub first_state : {x y : PageState} {xs ys : List PageState} → x ∷ xs ≡ y ∷ ys → x ≡ y
 first_state is = cc
@@ -154,13 +154,13 @@ first_state is = cc
 pub other_states : {x y : PageState} {xs ys : List PageState} → x ∷ xs ≡ y ∷ ys → xs ≡ ys
 other_states is = cc
 
-pub same_long : (tails : List Tail) (views : List PageView) → SameStates tails views → length tails ≡ length views
+pub same_long : (tails : List SealedPage) (views : List PageView) → SameStates tails views → length tails ≡ length views
 same_long [] [] same = refl
 same_long [] (v ∷ views) same = absurd (omega (arith, ap length same))
 same_long (t ∷ tails) [] same = absurd (omega (arith, ap length same))
 same_long (t ∷ tails) (v ∷ views) same = ap suc (same_long tails views (other_states same))
 
-pub few_unread : (folder : List ℕ) (f : Folder) (top : Held) (end : ℕ) (tails : List Tail) (views : List PageView) → SameStates tails views → falling end (map (held_tail f) tails ++ top ∷ []) ≡ None
+pub few_unread : (folder : List ℕ) (f : Folder) (top : Held) (end : ℕ) (tails : List SealedPage) (views : List PageView) → SameStates tails views → falling end (map (held_tail f) tails ++ top ∷ []) ≡ None
     → end + unread_in (tails_opened folder tails views) ≤ top.state.least
 few_unread folder f top end [] views same falls = omega (arith, (none_falls end top [] falls).0)
 few_unread folder f top end (t ∷ tails) [] same falls = absurd (omega (arith, ap length same))

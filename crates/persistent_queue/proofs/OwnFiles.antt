@@ -11,11 +11,11 @@ use Rattle.queue_core.specs.declared.marking.Mark.{Mark}
 use Rattle.queue_core.specs.declared.rolling.NextPage.{NextPage}
 use Rattle.queue_core.proofs.OtherFiles.{others_of, then_others}
 use Rattle.persistent_queue.specs.Calls.{checkpoints, marks_of, tail_checkpoints}
-use Rattle.persistent_queue.specs.Views.{OpenPage, QueueView}
+use Rattle.persistent_queue.specs.Views.{OpenPageView, QueueView}
 use Rattle.persistent_queue.specs.Writing.{IsPlan}
 use Rattle.persistent_queue.proofs.HeldQueues.{files_same, long_named}
 
-own_checkpoints : (folder : List ℕ) (tails : List OpenPage) → All (IsOwn (names_in folder)) (tail_checkpoints folder tails ++ names_in folder head ∷ [])
+own_checkpoints : (folder : List ℕ) (tails : List OpenPageView) → All (IsOwn (names_in folder)) (tail_checkpoints folder tails ++ names_in folder head ∷ [])
 own_checkpoints folder [] = All-cons (IsOwn (names_in folder)) (names_in folder head) [] (head, refl) (All-nil (IsOwn (names_in folder)))
 own_checkpoints folder (o ∷ tails) =
     All-cons (IsOwn (names_in folder)) (names_in folder (checkpoint o.number)) (tail_checkpoints folder tails ++ names_in folder head ∷ []) (checkpoint o.number, refl) (own_checkpoints folder tails)

@@ -8,11 +8,11 @@ use Rattle.queue_laws.specs.Kept.{Page, Rising}
 use Rattle.persistent_queue.specs.Opening.{first_of}
 use Rattle.persistent_queue.specs.Opens.{Climb, IsPageOf, ArePagesOf}
 use Rattle.persistent_queue.specs.Taking.{Stand, stand, entered, is_passed, rows_of, page_read, pages_read}
-use Rattle.persistent_queue.specs.Views.{OpenPage}
-use Rattle.persistent_queue.specs.declared.page_rows.Reading.{Reading}
+use Rattle.persistent_queue.specs.Views.{OpenPageView}
+use Rattle.persistent_queue.specs.declared.page_rows.BatchReader.{BatchReader}
 
 -- none of these is above this
-abbrev pub AreWithin : ℕ → List OpenPage → Type 0
+abbrev pub AreWithin : ℕ → List OpenPageView → Type 0
 AreWithin top [] = ⊤
 AreWithin top (o ∷ pages) = (o.number ≤ top) × AreWithin top pages
 
@@ -21,11 +21,11 @@ ok_same is = cc
 
 module _ (content : Content) (top : ℕ) where
   -- a reading ends in the page where it began, or in one of those that it goes through
-  after_rows : (o : OpenPage) (rows : Result Reading Damage) (next : Stand) → o.number ≤ top → and_then rows (λ r. Ok (stand o.number r)) ≡ Ok next → next.page ≤ top
+  after_rows : (o : OpenPageView) (rows : Result BatchReader Damage) (next : Stand) → o.number ≤ top → and_then rows (λ r. Ok (stand o.number r)) ≡ Ok next → next.page ≤ top
   after_rows o (Ok r) next within is = subst (λ (s : Stand). s.page ≤ top) (ok_same is) within
   after_rows o (Err d) next within is = absurd (cc)
 
-  page_within : (o : OpenPage) (s next : Stand) → o.number ≤ top → s.page ≤ top → page_read content o s ≡ Ok next → next.page ≤ top
+  page_within : (o : OpenPageView) (s next : Stand) → o.number ≤ top → s.page ≤ top → page_read content o s ≡ Ok next → next.page ≤ top
   unfolding page_read
   page_within o s next within from is = by_test (is_passed o s) is
     where
@@ -33,7 +33,7 @@ module _ (content : Content) (top : ℕ) where
       by_test true e = subst (λ (x : Stand). x.page ≤ top) (ok_same e) from
       by_test false e = after_rows o (rows_of content o (entered o s)) next within e
 
-  pub read_within : (pages : List OpenPage) (s next : Stand) → AreWithin top pages → s.page ≤ top → pages_read content pages s ≡ Ok next → next.page ≤ top
+  pub read_within : (pages : List OpenPageView) (s next : Stand) → AreWithin top pages → s.page ≤ top → pages_read content pages s ≡ Ok next → next.page ≤ top
   read_within [] s next all from is = subst (λ (x : Stand). x.page ≤ top) (ok_same is) from
   read_within (o ∷ pages) s next all from is = by_page (page_read content o s) refl is (λ mid less read. read_within pages mid next all.1 less read)
     where
@@ -42,18 +42,18 @@ module _ (content : Content) (top : ℕ) where
       by_page (Ok mid) first behind rest = rest mid (page_within o s mid all.0 from first) behind
       by_page (Err d) first behind rest = absurd (cc)
 
-pub all_within : (os : List OpenPage) (t : OpenPage) (ps : List Page) (top : Page) → ArePagesOf os ps → IsPageOf t top → (is : Rising 0 0 ps top) → AreWithin t.number (os ++ t ∷ [])
+pub all_within : (os : List OpenPageView) (t : OpenPageView) (ps : List Page) (top : Page) → ArePagesOf os ps → IsPageOf t top → (is : Rising 0 0 ps top) → AreWithin t.number (os ++ t ∷ [])
 all_within os t ps top are is rising = go 0 0 os ps are rising
   where
-    go : (number end : ℕ) (xs : List OpenPage) (ys : List Page) → ArePagesOf xs ys → Rising number end ys top → AreWithin t.number (xs ++ t ∷ [])
+    go : (number end : ℕ) (xs : List OpenPageView) (ys : List Page) → ArePagesOf xs ys → Rising number end ys top → AreWithin t.number (xs ++ t ∷ [])
     go number end [] ys a r = (omega arith, tt)
     go number end (x ∷ xs) [] a r = absurd a
     go number end (x ∷ xs) (y ∷ ys) a r = (let same = a.0.number in let less = r.1 in let last = is.number in omega (arith, same, less, last), go (suc y.number) (y.least + length y.rows) xs ys a.1 r.4)
 
-climb_most : (from top : ℕ) (os : List OpenPage) → Climb from top os → from ≤ top
+climb_most : (from top : ℕ) (os : List OpenPageView) → Climb from top os → from ≤ top
 climb_most from top [] climb = climb
 climb_most from top (o ∷ os) climb = let first = climb.0 in let rest = climb_most (suc o.number) top os climb.1 in omega (arith, first, rest)
 
-pub first_within : (os : List OpenPage) (t : OpenPage) → Climb 0 t.number os → (first_of os t).number ≤ t.number
+pub first_within : (os : List OpenPageView) (t : OpenPageView) → Climb 0 t.number os → (first_of os t).number ≤ t.number
 first_within [] t climb = omega arith
 first_within (o ∷ os) t climb = let rest = climb_most (suc o.number) t.number os climb.1 in omega (arith, rest)

@@ -8,7 +8,7 @@ use Rattle.queue_page.specs.declared.row.PageRow.{PageRow}
 use Rattle.queue_page.proofs.Fronts.{length-left}
 use Rattle.queue_page.proofs.RunReads.{left_more}
 use Rattle.persistent_queue.specs.NextBatch.{StandsAt}
-use Rattle.persistent_queue.specs.Views.{OpenPage}
+use Rattle.persistent_queue.specs.Views.{OpenPageView}
 use Rattle.persistent_queue.proofs.NextRows.{spelled}
 
 -- the place behind so many of these rows, the first of which stands at this one
@@ -65,7 +65,7 @@ one_place version number other_number place other end [] file long within inside
 one_place version number other_number place other end (row ∷ rows) file long within inside are too =
     omega (arith, are.4.next, too.4.next, same_size version place other row are.0 too.0 are.4 too.4)
 
-module _ (o : OpenPage) (rows : List PageRow) (file : List ℕ) (long : o.page.state.length ≤ length file) (first : StandsAt o rows file o.page.state.least 1) where
+module _ (o : OpenPageView) (rows : List PageRow) (file : List ℕ) (long : o.page.state.length ≤ length file) (first : StandsAt o rows file o.page.state.least 1) where
   -- the page has as many rows as these
   all_of : length rows ≡ o.page.state.count
   all_of = omega (arith, first.count, length-drop (o.page.state.least - o.page.state.least) rows)
@@ -88,7 +88,7 @@ module _ (o : OpenPage) (rows : List PageRow) (file : List ℕ) (long : o.page.s
             (subst (λ (l : List ℕ). AreElements o.page.version (o.page.state.least + k) at (drop k rows) l) left w.are);
       }
 
-module _ (o : OpenPage) (rows : List PageRow) (file : List ℕ) (long : o.page.state.length ≤ length file) (first : StandsAt o rows file o.page.state.least 1) (number place : ℕ) (here : StandsAt o rows file number place) where
+module _ (o : OpenPageView) (rows : List PageRow) (file : List ℕ) (long : o.page.state.length ≤ length file) (first : StandsAt o rows file o.page.state.least 1) (number place : ℕ) (here : StandsAt o rows file number place) where
   pub few_before : number - o.page.state.least ≤ length rows
   few_before = omega (arith, here.count, here.behind, all_of o rows file long first, length-drop (number - o.page.state.least) rows)
 
@@ -104,7 +104,7 @@ module _ (o : OpenPage) (rows : List PageRow) (file : List ℕ) (long : o.page.s
       (subst (λ n. AreElements o.page.version (o.page.state.least + k) (place_behind 1 k rows) (drop n rows) (left_of file (place_behind 1 k rows) o.page.state.length)) again s.are)
 
   -- and in another file it stands at the same place, with further rows behind it or without
-  pub stands_again : (x : OpenPage) (more : List PageRow) (new : List ℕ) → x.page.state.least ≡ o.page.state.least → x.page.state.length ≤ length new → StandsAt x (rows ++ more) new x.page.state.least 1
+  pub stands_again : (x : OpenPageView) (more : List PageRow) (new : List ℕ) → x.page.state.least ≡ o.page.state.least → x.page.state.length ≤ length new → StandsAt x (rows ++ more) new x.page.state.least 1
       → StandsAt x (rows ++ more) new number place
   stands_again x more new least new_long stands =
       let k = number - o.page.state.least in

@@ -20,15 +20,15 @@ use Rattle.queue_core.specs.declared.marking.Mark.{Mark}
 use Rattle.queue_core.proofs.TornMarks.{number_of}
 use Rattle.persistent_queue.specs.Calls.{behind_purge, first_spent, is_spent, spent_from, tail_bytes, without_spent}
 use Rattle.persistent_queue.specs.Opens.{AreLong, ArePagesOf, Climb, HasPage, IsAmong, IsOfFiles, IsPageOf, IsReady, KeepsQueue, Opens, TailsSlotted, purged, unspent}
-use Rattle.persistent_queue.specs.Views.{OpenPage, QueueView}
+use Rattle.persistent_queue.specs.Views.{OpenPageView, QueueView}
 use Rattle.persistent_queue.proofs.MarkRuns.{Named, first_file, other_files}
 
 -- ---- the page that goes
 
 -- the page of this place among those that are open goes: it is recorded as wholly acknowledged
-pub record Goes (tails : List OpenPage) (place : ℕ) (o : OpenPage) : Type 0 where
+pub record Goes (tails : List OpenPageView) (place : ℕ) (o : OpenPageView) : Type 0 where
   pub within : place < length tails
-  pub there : (x : OpenPage) → x ≡ get_or tails place x → x ≡ o
+  pub there : (x : OpenPageView) → x ≡ get_or tails place x → x ≡ o
   pub number : first_spent tails ≡ Some o.number
   pub left : remove tails place ≡ without_spent tails
   pub bytes : tail_bytes tails ≡ o.page.state.length + tail_bytes (without_spent tails)
@@ -48,7 +48,7 @@ none_some : {a : ℕ} → ◌≡◌ {A = Option ℕ} None (Some a) → ⊥
 none_some is = absurd cc
 
 -- none goes
-pub none_goes : (at : ℕ) (tails : List OpenPage) → spent_from at tails ≡ None → (first_spent tails ≡ None) × (without_spent tails ≡ tails)
+pub none_goes : (at : ℕ) (tails : List OpenPageView) → spent_from at tails ≡ None → (first_spent tails ≡ None) × (without_spent tails ≡ tails)
 none_goes at [] none = (refl, refl)
 none_goes at (o ∷ tails) none = elim (cases_Bool (is_spent o)) [
   | inl is ↦ absurd (none_some (sym none ∙ if_so (is_spent o) (Some at) (spent_from (at + 1) tails) is))
@@ -57,16 +57,16 @@ none_goes at (o ∷ tails) none = elim (cases_Bool (is_spent o)) [
       (if_not (is_spent o) (Some o.number) (first_spent tails) is ∙ rest.0, if_not (is_spent o) tails (o ∷ without_spent tails) is ∙ ap (λ l. o ∷ l) rest.1)
 ]
 
-goes_first : (o : OpenPage) (tails : List OpenPage) → is_spent o ≡ true → Goes (o ∷ tails) 0 o
+goes_first : (o : OpenPageView) (tails : List OpenPageView) → is_spent o ≡ true → Goes (o ∷ tails) 0 o
 goes_first o tails is = record {
   within = omega arith;
   there = λ x same. same;
   number = if_so (is_spent o) (Some o.number) (first_spent tails) is;
   left = sym (if_so (is_spent o) tails (o ∷ without_spent tails) is);
-  bytes = ap (λ (l : List OpenPage). o.page.state.length + tail_bytes l) (sym (if_so (is_spent o) tails (o ∷ without_spent tails) is));
+  bytes = ap (λ (l : List OpenPageView). o.page.state.length + tail_bytes l) (sym (if_so (is_spent o) tails (o ∷ without_spent tails) is));
 }
 
-goes_later : (o : OpenPage) (tails : List OpenPage) (i : ℕ) (x : OpenPage) → is_spent o ≡ false → Goes tails i x → Goes (o ∷ tails) (suc i) x
+goes_later : (o : OpenPageView) (tails : List OpenPageView) (i : ℕ) (x : OpenPageView) → is_spent o ≡ false → Goes tails i x → Goes (o ∷ tails) (suc i) x
 goes_later o tails i x is g =
     let left : without_spent (o ∷ tails) ≡ o ∷ without_spent tails = if_not (is_spent o) tails (o ∷ without_spent tails) is in
     record {
@@ -77,7 +77,7 @@ goes_later o tails i x is g =
       bytes = omega (arith, g.bytes, ap tail_bytes left);
     }
 
-pub one_goes : (at : ℕ) (tails : List OpenPage) (place : ℕ) → spent_from at tails ≡ Some place → (i : ℕ) × (place ≡ at + i) × (o : OpenPage) × Goes tails i o
+pub one_goes : (at : ℕ) (tails : List OpenPageView) (place : ℕ) → spent_from at tails ≡ Some place → (i : ℕ) × (place ≡ at + i) × (o : OpenPageView) × Goes tails i o
 one_goes at [] place is = absurd (none_some is)
 one_goes at (o ∷ tails) place some = elim (cases_Bool (is_spent o)) [
   | inl is ↦
@@ -88,7 +88,7 @@ one_goes at (o ∷ tails) place some = elim (cases_Bool (is_spent o)) [
       (suc rest.0, omega (arith, rest.1), rest.2, goes_later o tails rest.0 rest.2 is rest.3)
 ]
 
-pub goes_at : (tails : List OpenPage) (place : ℕ) → spent_from 0 tails ≡ Some place → (o : OpenPage) × Goes tails place o
+pub goes_at : (tails : List OpenPageView) (place : ℕ) → spent_from 0 tails ≡ Some place → (o : OpenPageView) × Goes tails place o
 goes_at tails place some =
     let g = one_goes 0 tails place some in
     let is : g.0 ≡ place = omega (arith, g.1) in
@@ -97,28 +97,28 @@ goes_at tails place some =
 -- ---- names
 
 module _ (folder : List ℕ) where
-  abbrev pub Filed : List OpenPage → Type 0
-  Filed tails = map (λ (o : OpenPage). o.file) tails ≡ map (λ (o : OpenPage). names_in folder (page o.number)) tails
+  abbrev pub Filed : List OpenPageView → Type 0
+  Filed tails = map (λ (o : OpenPageView). o.file) tails ≡ map (λ (o : OpenPageView). names_in folder (page o.number)) tails
 
-  pub file_at : (tails : List OpenPage) (i : ℕ) (o : OpenPage) → i < length tails → o ≡ get_or tails i o → Filed tails → o.file ≡ names_in folder (page o.number)
+  pub file_at : (tails : List OpenPageView) (i : ℕ) (o : OpenPageView) → i < length tails → o ≡ get_or tails i o → Filed tails → o.file ≡ names_in folder (page o.number)
   file_at [] i o less is filed = absurd (omega (arith, less))
-  file_at (x ∷ tails) zero o less is filed = ap (λ (y : OpenPage). y.file) is ∙ first_file filed ∙ ap (λ (y : OpenPage). names_in folder (page y.number)) (sym is)
+  file_at (x ∷ tails) zero o less is filed = ap (λ (y : OpenPageView). y.file) is ∙ first_file filed ∙ ap (λ (y : OpenPageView). names_in folder (page y.number)) (sym is)
   file_at (x ∷ tails) (suc i) o less is filed = file_at tails i o (omega (arith, less)) is (other_files filed)
 
-  pub slots_at : (tails : List OpenPage) (marks : List Mark) (i : ℕ) (o : OpenPage) (m : Mark) → i < length tails → o ≡ get_or tails i o → m ≡ get_or marks i m → Named folder tails marks
+  pub slots_at : (tails : List OpenPageView) (marks : List Mark) (i : ℕ) (o : OpenPageView) (m : Mark) → i < length tails → o ≡ get_or tails i o → m ≡ get_or marks i m → Named folder tails marks
       → m.file ≡ names_in folder (checkpoint o.number)
   slots_at [] marks i o m less is was named = absurd (omega (arith, less))
   slots_at (x ∷ tails) [] i o m less is was named = absurd (omega (arith, ap length named))
-  slots_at (x ∷ tails) (n ∷ marks) zero o m less is was named = ap (λ (y : Mark). y.file) was ∙ first_file named ∙ ap (λ (y : OpenPage). names_in folder (checkpoint y.number)) (sym is)
+  slots_at (x ∷ tails) (n ∷ marks) zero o m less is was named = ap (λ (y : Mark). y.file) was ∙ first_file named ∙ ap (λ (y : OpenPageView). names_in folder (checkpoint y.number)) (sym is)
   slots_at (x ∷ tails) (n ∷ marks) (suc i) o m less is was named = slots_at tails marks i o m (omega (arith, less)) is was (other_files named)
 
-  pub filed_left : (tails : List OpenPage) (i : ℕ) → Filed tails → Filed (remove tails i)
+  pub filed_left : (tails : List OpenPageView) (i : ℕ) → Filed tails → Filed (remove tails i)
   filed_left [] zero filed = filed
   filed_left [] (suc i) filed = filed
   filed_left (x ∷ tails) zero filed = other_files filed
   filed_left (x ∷ tails) (suc i) filed = ap₂ (λ (n : List ℕ) (l : List (List ℕ)). n ∷ l) (first_file filed) (filed_left tails i (other_files filed))
 
-  pub named_left : (tails : List OpenPage) (marks : List Mark) (i : ℕ) → i < length tails → Named folder tails marks → Named folder (remove tails i) (remove marks i)
+  pub named_left : (tails : List OpenPageView) (marks : List Mark) (i : ℕ) → i < length tails → Named folder tails marks → Named folder (remove tails i) (remove marks i)
   named_left [] marks i less named = absurd (omega (arith, less))
   named_left (x ∷ tails) [] i less named = absurd (omega (arith, ap length named))
   named_left (x ∷ tails) (m ∷ marks) zero less named = other_files named
@@ -126,30 +126,30 @@ module _ (folder : List ℕ) where
 
 -- ---- the pages that stay
 
-lower : (a b end : ℕ) (tails : List OpenPage) → b ≤ a → Climb a end tails → Climb b end tails
+lower : (a b end : ℕ) (tails : List OpenPageView) → b ≤ a → Climb a end tails → Climb b end tails
 lower a b end [] less climb = omega (arith, less, climb)
 lower a b end (o ∷ tails) less climb = (omega (arith, less, climb.0), climb.1)
 
 -- by cases of the first page
-spent_cases : (o : OpenPage) (tails : List OpenPage) (k : ℕ) → first_spent (o ∷ tails) ≡ Some k → ((o.number ≡ k) × (without_spent (o ∷ tails) ≡ tails)) ⊎ ((first_spent tails ≡ Some k) × (without_spent (o ∷ tails) ≡ o ∷ without_spent tails))
+spent_cases : (o : OpenPageView) (tails : List OpenPageView) (k : ℕ) → first_spent (o ∷ tails) ≡ Some k → ((o.number ≡ k) × (without_spent (o ∷ tails) ≡ tails)) ⊎ ((first_spent tails ≡ Some k) × (without_spent (o ∷ tails) ≡ o ∷ without_spent tails))
 spent_cases o tails k some = by (is_spent o) refl
   where
     by : (b : Bool) → is_spent o ≡ b → ((o.number ≡ k) × (without_spent (o ∷ tails) ≡ tails)) ⊎ ((first_spent tails ≡ Some k) × (without_spent (o ∷ tails) ≡ o ∷ without_spent tails))
     by true is = inl (some_is (sym (if_so (is_spent o) (Some o.number) (first_spent tails) is) ∙ some), if_so (is_spent o) tails (o ∷ without_spent tails) is)
     by false is = inr (sym (if_not (is_spent o) (Some o.number) (first_spent tails) is) ∙ some, if_not (is_spent o) tails (o ∷ without_spent tails) is)
 
-spent_bounds : (from end : ℕ) (tails : List OpenPage) (k : ℕ) → Climb from end tails → first_spent tails ≡ Some k → (from ≤ k) × (k < end)
+spent_bounds : (from end : ℕ) (tails : List OpenPageView) (k : ℕ) → Climb from end tails → first_spent tails ≡ Some k → (from ≤ k) × (k < end)
 spent_bounds from end [] k climb some = absurd (none_some some)
 spent_bounds from end (o ∷ tails) k climb some = ⊎_elim
     (λ here. (omega (arith, climb.0, here.0), omega (arith, ends (suc o.number) tails climb.1, here.0)))
     (λ there. let rest = spent_bounds (suc o.number) end tails k climb.1 there.0 in (omega (arith, climb.0, rest.0), rest.1))
     (spent_cases o tails k some)
   where
-    ends : (a : ℕ) (l : List OpenPage) → Climb a end l → a ≤ end
+    ends : (a : ℕ) (l : List OpenPageView) → Climb a end l → a ≤ end
     ends a [] c = c
     ends a (x ∷ l) c = omega (arith, c.0, ends (suc x.number) l c.1)
 
-pub climb_left : (from end : ℕ) (tails : List OpenPage) (k : ℕ) → Climb from end tails → first_spent tails ≡ Some k → Climb from end (without_spent tails)
+pub climb_left : (from end : ℕ) (tails : List OpenPageView) (k : ℕ) → Climb from end tails → first_spent tails ≡ Some k → Climb from end (without_spent tails)
 climb_left from end [] k climb some = climb
 climb_left from end (o ∷ tails) k climb some = ⊎_elim
     (λ here. subst (Climb from end) (sym here.1) (lower (suc o.number) from end tails (omega (arith, climb.0)) climb.1))
@@ -158,14 +158,14 @@ climb_left from end (o ∷ tails) k climb some = ⊎_elim
 
 module _ (folder : List ℕ) (k : ℕ) (old new : Content) (same_page : (n : ℕ) → n ≢ k → new (names_in folder (page n)) ≡ old (names_in folder (page n)))
     (same_slots : (n : ℕ) → n ≢ k → new (names_in folder (checkpoint n)) ≡ old (names_in folder (checkpoint n))) where
-  slotted_above : (from end : ℕ) (tails : List OpenPage) → k < from → Climb from end tails → TailsSlotted folder tails old → TailsSlotted folder tails new
+  slotted_above : (from end : ℕ) (tails : List OpenPageView) → k < from → Climb from end tails → TailsSlotted folder tails old → TailsSlotted folder tails new
   slotted_above from end [] above climb slotted = tt
   slotted_above from end (o ∷ tails) above climb slotted = (
     omega (arith, slotted.0, ap file_length (same_slots o.number (λ is. omega (arith, is, above, climb.0)))),
     slotted_above (suc o.number) end tails (omega (arith, above, climb.0)) climb.1 slotted.1,
   )
 
-  pub slotted_left : (from end : ℕ) (tails : List OpenPage) → Climb from end tails → first_spent tails ≡ Some k → TailsSlotted folder tails old → TailsSlotted folder (without_spent tails) new
+  pub slotted_left : (from end : ℕ) (tails : List OpenPageView) → Climb from end tails → first_spent tails ≡ Some k → TailsSlotted folder tails old → TailsSlotted folder (without_spent tails) new
   slotted_left from end [] climb some slotted = tt
   slotted_left from end (o ∷ tails) climb some slotted = ⊎_elim
       (λ here. subst (λ l. TailsSlotted folder l new) (sym here.1) (slotted_above (suc o.number) end tails (omega (arith, here.0)) climb.1 slotted.1))
@@ -173,14 +173,14 @@ module _ (folder : List ℕ) (k : ℕ) (old new : Content) (same_page : (n : ℕ
       subst (λ l. TailsSlotted folder l new) (sym there.1) (omega (arith, slotted.0, ap file_length (same_slots o.number (λ is. omega (arith, is, bounds.0)))), slotted_left (suc o.number) end tails climb.1 there.0 slotted.1))
       (spent_cases o tails k some)
 
-  long_above : (from end : ℕ) (tails : List OpenPage) → k < from → Climb from end tails → AreLong folder tails old → AreLong folder tails new
+  long_above : (from end : ℕ) (tails : List OpenPageView) → k < from → Climb from end tails → AreLong folder tails old → AreLong folder tails new
   long_above from end [] above climb long = tt
   long_above from end (o ∷ tails) above climb long = (
     omega (arith, long.0, ap file_length (same_page o.number (λ is. omega (arith, is, above, climb.0)))),
     long_above (suc o.number) end tails (omega (arith, above, climb.0)) climb.1 long.1,
   )
 
-  pub long_left : (from end : ℕ) (tails : List OpenPage) → Climb from end tails → first_spent tails ≡ Some k → AreLong folder tails old → AreLong folder (without_spent tails) new
+  pub long_left : (from end : ℕ) (tails : List OpenPageView) → Climb from end tails → first_spent tails ≡ Some k → AreLong folder tails old → AreLong folder (without_spent tails) new
   long_left from end [] climb some long = tt
   long_left from end (o ∷ tails) climb some long = ⊎_elim
       (λ here. subst (λ l. AreLong folder l new) (sym here.1) (long_above (suc o.number) end tails (omega (arith, here.0)) climb.1 long.1))
@@ -188,12 +188,12 @@ module _ (folder : List ℕ) (k : ℕ) (old new : Content) (same_page : (n : ℕ
       subst (λ l. AreLong folder l new) (sym there.1) (omega (arith, long.0, ap file_length (same_page o.number (λ is. omega (arith, is, bounds.0)))), long_left (suc o.number) end tails climb.1 there.0 long.1))
       (spent_cases o tails k some)
 
-among_above : (n k from end : ℕ) (tails : List OpenPage) → k < from → Climb from end tails → IsAmong n tails → n ≢ k
+among_above : (n k from end : ℕ) (tails : List OpenPageView) → k < from → Climb from end tails → IsAmong n tails → n ≢ k
 among_above n k from end [] above climb among = absurd among
 among_above n k from end (o ∷ tails) above climb (inl is) = λ same. omega (arith, same, is, above, climb.0)
 among_above n k from end (o ∷ tails) above climb (inr among) = among_above n k (suc o.number) end tails (omega (arith, above, climb.0)) climb.1 among
 
-among_left : (n k from end : ℕ) (tails : List OpenPage) → Climb from end tails → first_spent tails ≡ Some k → IsAmong n (without_spent tails) → (n ≢ k) × IsAmong n tails
+among_left : (n k from end : ℕ) (tails : List OpenPageView) → Climb from end tails → first_spent tails ≡ Some k → IsAmong n (without_spent tails) → (n ≢ k) × IsAmong n tails
 among_left n k from end [] climb some among = absurd among
 among_left n k from end (o ∷ tails) climb some among = ⊎_elim
     (λ here. let rest = subst (IsAmong n) here.1 among in (among_above n k (suc o.number) end tails (omega (arith, here.0)) climb.1 rest, inr rest))
@@ -206,7 +206,7 @@ among_left n k from end (o ∷ tails) climb some among = ⊎_elim
 -- ---- the queue
 
 -- the page of the queue that goes
-pub record GoesOf (tails : List OpenPage) (pages : List Page) (k : ℕ) : Type 0 where
+pub record GoesOf (tails : List OpenPageView) (pages : List Page) (k : ℕ) : Type 0 where
   pub before : List Page
   pub behind : List Page
   pub p : Page
@@ -216,7 +216,7 @@ pub record GoesOf (tails : List OpenPage) (pages : List Page) (k : ℕ) : Type 0
   pub left : unspent pages ≡ before ++ behind
   pub are : ArePagesOf (without_spent tails) (before ++ behind)
 
-spent_same : (o : OpenPage) (p : Page) → IsPageOf o p → is_spent o ≡ not (nat_lt p.from (p.least + length p.rows))
+spent_same : (o : OpenPageView) (p : Page) → IsPageOf o p → is_spent o ≡ not (nat_lt p.from (p.least + length p.rows))
 spent_same o p is = ap₂ (λ (a b : ℕ). not (nat_lt a b)) (sym is.from) (ap₂ (λ (a b : ℕ). a + b) (sym is.least) (sym is.count))
 
 spent_so : (p : Page) → not (nat_lt p.from (p.least + length p.rows)) ≡ true → IsSpent p
@@ -226,7 +226,7 @@ spent_so p is = by (nat_lt p.from (p.least + length p.rows)) refl is
     by true same says = absurd (false≢true says)
     by false same says = grind (arith, nat_tests, same)
 
-pub goes_of : (tails : List OpenPage) (pages : List Page) (k : ℕ) → ArePagesOf tails pages → first_spent tails ≡ Some k → GoesOf tails pages k
+pub goes_of : (tails : List OpenPageView) (pages : List Page) (k : ℕ) → ArePagesOf tails pages → first_spent tails ≡ Some k → GoesOf tails pages k
 goes_of [] [] k are some = absurd (none_some some)
 goes_of [] (p ∷ pages) k are some = absurd are
 goes_of (o ∷ tails) [] k are some = absurd are
@@ -259,7 +259,7 @@ goes_of (o ∷ tails) (p ∷ pages) k are some = elim (cases_Bool (is_spent o)) 
 ]
 
 -- none goes of the queue either
-none_of_queue : (tails : List OpenPage) (pages : List Page) → ArePagesOf tails pages → first_spent tails ≡ None → unspent pages ≡ pages
+none_of_queue : (tails : List OpenPageView) (pages : List Page) → ArePagesOf tails pages → first_spent tails ≡ None → unspent pages ≡ pages
 none_of_queue [] [] are none = refl
 none_of_queue [] (p ∷ pages) are none = absurd are
 none_of_queue (o ∷ tails) [] are none = absurd are
@@ -283,7 +283,7 @@ module _ {S : Type 0} (store : StoreWords S) (v : QueueView) where
 
   pub stays_open : (s : S) → first_spent v.tails ≡ None → without_spent v.tails ≡ v.tails → (q : Queue) → Opens store v q s → Opens store (behind_purge v) (purged q) s
   stays_open s none left q opens = subst (λ (l : List Page). Opens store (behind_purge v) (with_tails l q) s) (sym (none_of_queue v.tails q.tails opens.tails none))
-      (subst (λ (l : List OpenPage). Opens store (record v { tails = l }) q s) (sym left) opens)
+      (subst (λ (l : List OpenPageView). Opens store (record v { tails = l }) q s) (sym left) opens)
 
   module _ (old new : S) (file slots : List ℕ) (k : ℕ) (some : first_spent v.tails ≡ Some k) (file_is : file ≡ names_in v.folder (page k)) (slots_are : slots ≡ names_in v.folder (checkpoint k)) where
     pub keeps_open : PurgeKeeps store file slots old new → (q : Queue) → Opens store v q old → Keeps store (names_in v.folder) q old new

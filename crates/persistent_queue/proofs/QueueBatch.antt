@@ -7,7 +7,7 @@ use Rattle.io_traits.specs.Folders.{Content}
 use Rattle.io_traits.specs.Reads.{bytes_of, file_length}
 use Rattle.queue_page.specs.Blocks.{left_of}
 use Rattle.queue_page.specs.Grammar.{AreElements, IsPage}
-use Rattle.queue_page.specs.Views.{BlockView}
+use Rattle.queue_page.specs.Views.{PageBufferView}
 use Rattle.queue_page.specs.declared.row.PageRow.{PageRow}
 use Rattle.queue_laws.specs.Folders.{head, page, checkpoint, names_in}
 use Rattle.queue_laws.specs.Found.{Row}
@@ -21,16 +21,16 @@ use Rattle.persistent_queue.specs.Opens.{AreLong, ArePagesOf, IsPageOf}
 use Rattle.persistent_queue.specs.QueueBatches.{AreNamed, AreUnread, CursorStands, IsRead, page_rows}
 use Rattle.persistent_queue.specs.Taking.{Stand, all_pages, batch_bytes, batch_from, batch_of, begun, behind_take, rows_taken}
 use Rattle.persistent_queue.specs.Unread.{told, taken}
-use Rattle.persistent_queue.specs.Views.{OpenPage, CursorView, QueueView}
-use Rattle.persistent_queue.specs.declared.batching.Batch.{Batch}
+use Rattle.persistent_queue.specs.Views.{OpenPageView, CursorView, QueueView}
+use Rattle.persistent_queue.specs.declared.batch.Batch.{Batch}
 use Rattle.persistent_queue.specs.declared.page_rows.QueueRow.{QueueRow}
-use Rattle.persistent_queue.specs.declared.page_rows.Reading.{Reading}
+use Rattle.persistent_queue.specs.declared.page_rows.BatchReader.{BatchReader}
 use Rattle.persistent_queue.proofs.MarkRuns.{page_length}
 use Rattle.persistent_queue.proofs.NextBatches.{BatchReads, batch_got, batch_reads}
 
 -- ---- the rows of a page stand in its file
 
-first_stands : (o : OpenPage) (p : Page) (bytes rest : List ℕ) → IsPageOf o p → IsPage bytes p.version p.least p.rows → StandsAt o p.rows (bytes ++ rest) o.page.state.least 1
+first_stands : (o : OpenPageView) (p : Page) (bytes rest : List ℕ) → IsPageOf o p → IsPage bytes p.version p.least p.rows → StandsAt o p.rows (bytes ++ rest) o.page.state.least 1
 first_stands o p bytes rest is is_page =
     let file = bytes ++ rest in
     let elements = is_page.elements in
@@ -49,29 +49,29 @@ first_stands o p bytes rest is is_page =
 
 module _ (folder : List ℕ) (content : Content) where
   -- the file of a page, by its name
-  file_is : (o : OpenPage) (p : Page) (bytes : List ℕ) → IsPageOf o p → o.file ≡ names_in folder (page o.number) → content (names_in folder (page p.number)) ≡ Some bytes → bytes_of (content o.file) ≡ bytes
+  file_is : (o : OpenPageView) (p : Page) (bytes : List ℕ) → IsPageOf o p → o.file ≡ names_in folder (page o.number) → content (names_in folder (page p.number)) ≡ Some bytes → bytes_of (content o.file) ≡ bytes
   file_is o p bytes is named stands = ap (λ (name : List ℕ). bytes_of (content name)) (named ∙ ap (λ n. names_in folder (page n)) (sym is.number)) ∙ ap bytes_of stands
 
-  pub file_long : (o : OpenPage) → o.file ≡ names_in folder (page o.number) → o.page.state.length ≤ file_length (content (names_in folder (page o.number))) → o.page.state.length ≤ length (bytes_of (content o.file))
+  pub file_long : (o : OpenPageView) → o.file ≡ names_in folder (page o.number) → o.page.state.length ≤ file_length (content (names_in folder (page o.number))) → o.page.state.length ≤ length (bytes_of (content o.file))
   file_long o named long = omega (arith, long, ap (λ (name : List ℕ). file_length (content name)) named)
 
-  pub tail_first : (o : OpenPage) (p : Page) (slots : Option (List ℕ)) → IsPageOf o p → o.file ≡ names_in folder (page o.number) → TailHeld p slots (content (names_in folder (page p.number)))
+  pub tail_first : (o : OpenPageView) (p : Page) (slots : Option (List ℕ)) → IsPageOf o p → o.file ≡ names_in folder (page o.number) → TailHeld p slots (content (names_in folder (page p.number)))
       → StandsAt o p.rows (bytes_of (content o.file)) o.page.state.least 1
   tail_first o p slots is named held =
       subst (λ (file : List ℕ). StandsAt o p.rows file o.page.state.least 1) (sym (file_is o p (held.bytes ++ held.rest) is named held.stands)) (first_stands o p held.bytes held.rest is held.is_page)
 
-  pub top_first : (o : OpenPage) (q : Queue) (slots : Option (List ℕ)) → IsSound q.top → IsPageOf o q.top → o.file ≡ names_in folder (page o.number) → TopHeld q slots (content (names_in folder (page q.top.number)))
+  pub top_first : (o : OpenPageView) (q : Queue) (slots : Option (List ℕ)) → IsSound q.top → IsPageOf o q.top → o.file ≡ names_in folder (page o.number) → TopHeld q slots (content (names_in folder (page q.top.number)))
       → StandsAt o q.top.rows (bytes_of (content o.file)) o.page.state.least 1
   top_first o q slots sound is named held =
       let all = held.front ++ held.tail in
       let file : bytes_of (content o.file) ≡ all ++ [] = file_is o q.top all is named held.stands ∙ sym (append-nil all) in
       subst (λ (file : List ℕ). StandsAt o q.top.rows file o.page.state.least 1) (sym file) (first_stands o q.top all [] is (is_whole q slots (content (names_in folder (page q.top.number))) sound held))
 
-  page_stands : (s : Stand) (o : OpenPage) (rows : List PageRow) → StandsAt o rows (bytes_of (content o.file)) o.page.state.least 1 → o.page.state.length ≤ length (bytes_of (content o.file))
+  page_stands : (s : Stand) (o : OpenPageView) (rows : List PageRow) → StandsAt o rows (bytes_of (content o.file)) o.page.state.least 1 → o.page.state.length ≤ length (bytes_of (content o.file))
       → (s.page ≡ o.number → StandsAt o rows (bytes_of (content o.file)) s.reading.number s.reading.place) → RowsStand content s o rows
   page_stands s o rows first long here = record { long = long; first = first; here = here }
 
-  all_stand : (most : ℕ) (c : CursorView) (tails : List OpenPage) (top : OpenPage) (q : Queue) (pages : List Page) → ArePagesOf tails pages → IsPageOf top q.top → TailsHeld pages (read_in (names_in folder) content)
+  all_stand : (most : ℕ) (c : CursorView) (tails : List OpenPageView) (top : OpenPageView) (q : Queue) (pages : List Page) → ArePagesOf tails pages → IsPageOf top q.top → TailsHeld pages (read_in (names_in folder) content)
       → StandsAt top q.top.rows (bytes_of (content top.file)) top.page.state.least 1 → AreLong folder tails content → top.page.state.length ≤ file_length (content (names_in folder (page top.number)))
       → AreNamed folder (tails ++ top ∷ []) → CursorStands content c (tails ++ top ∷ []) (map (λ (p : Page). p.rows) pages ++ q.top.rows ∷ [])
       → AllStand content (begun most c) (tails ++ top ∷ []) (map (λ (p : Page). p.rows) pages ++ q.top.rows ∷ [])
@@ -84,7 +84,7 @@ module _ (folder : List ℕ) (content : Content) where
   )
 
   -- the next row stands behind those that were read
-  cursor_stands : (s : Stand) (c : CursorView) (pages : List OpenPage) (rows : List (List PageRow)) → c.page ≡ s.page → c.number ≡ s.reading.number → c.place ≡ s.reading.place → AllStand content s pages rows → CursorStands content c pages rows
+  cursor_stands : (s : Stand) (c : CursorView) (pages : List OpenPageView) (rows : List (List PageRow)) → c.page ≡ s.page → c.number ≡ s.reading.number → c.place ≡ s.reading.place → AllStand content s pages rows → CursorStands content c pages rows
   cursor_stands s c [] rows page_is number_is place_is stands = tt
   cursor_stands s c (o ∷ pages) [] page_is number_is place_is stands = tt
   cursor_stands s c (o ∷ pages) (rows ∷ others) page_is number_is place_is stands = (
@@ -94,7 +94,7 @@ module _ (folder : List ℕ) (content : Content) where
 
 -- ---- the pages rise
 
-pub all_rise : (from end : ℕ) (tails : List OpenPage) (top : OpenPage) (pages : List Page) (last : Page) → ArePagesOf tails pages → IsPageOf top last → Rising from end pages last → Rise from (tails ++ top ∷ [])
+pub all_rise : (from end : ℕ) (tails : List OpenPageView) (top : OpenPageView) (pages : List Page) (last : Page) → ArePagesOf tails pages → IsPageOf top last → Rising from end pages last → Rise from (tails ++ top ∷ [])
 all_rise from end [] top [] last are top_is rising = (omega (arith, rising.0, top_is.number), tt)
 all_rise from end [] top (p ∷ pages) last are top_is rising = elim are [ ]
 all_rise from end (o ∷ tails) top [] last are top_is rising = elim are [ ]
@@ -106,7 +106,7 @@ all_rise from end (o ∷ tails) top (p ∷ pages) last are top_is rising =
 some_none : {b : Batch} → ◌≡◌ {A = Option Batch} (Some b) None → ⊥
 some_none is = absurd cc
 
-no_batch : (r : Reading) (rows : List QueueRow) → batch_from r (slice_get rows 0) ≡ None → rows ≡ []
+no_batch : (r : BatchReader) (rows : List QueueRow) → batch_from r (slice_get rows 0) ≡ None → rows ≡ []
 no_batch r [] none = refl
 no_batch r (x ∷ rows) none = absurd (some_none none)
 
@@ -125,7 +125,7 @@ module _ (most : ℕ) (content : Content) (v : QueueView) (q : Queue) (rows : Li
       let top = top_first v.folder content v.top q (content (names_in v.folder head)) (rising_top 0 0 q.tails q.top read.is) read.top (last_named v.tails read.named) read.held.top in
       all_stand v.folder content most v.cursor v.tails v.top q q.tails read.tails read.top read.held.tails top read.files.tails (omega (arith, read.files.top)) read.named unread.stands
     where
-      last_named : (tails : List OpenPage) → AreNamed v.folder (tails ++ v.top ∷ []) → v.top.file ≡ names_in v.folder (page v.top.number)
+      last_named : (tails : List OpenPageView) → AreNamed v.folder (tails ++ v.top ∷ []) → v.top.file ≡ names_in v.folder (page v.top.number)
       last_named [] named = named.0
       last_named (o ∷ tails) named = last_named tails named.1
 
@@ -138,9 +138,9 @@ module _ (most : ℕ) (content : Content) (v : QueueView) (q : Queue) (rows : Li
     pub is : rows_taken most content v ≡ Ok s
     pub first : map told s.reading.rows ≡ taken batch_bytes most None rows
     pub all : map told s.reading.rows ++ rest ≡ rows
-    pub left : (block : BlockView) → AreUnread content (behind_take block s v) q rest
+    pub left : (block : PageBufferView) → AreUnread content (behind_take block s v) q rest
 
-  left_unread : (s : Stand) (rest : List Row) → AllStand content s (all_pages v) (page_rows q) → unread_rows_in s (all_pages v) (page_rows q) ≡ rest → map told s.reading.rows ++ rest ≡ rows → (block : BlockView)
+  left_unread : (s : Stand) (rest : List Row) → AllStand content s (all_pages v) (page_rows q) → unread_rows_in s (all_pages v) (page_rows q) ≡ rest → map told s.reading.rows ++ rest ≡ rows → (block : PageBufferView)
       → AreUnread content (behind_take block s v) q rest
   left_unread s rest stands is all block = record {
     stands = cursor_stands v.folder content s (behind_take block s v).cursor (all_pages v) (page_rows q) refl refl refl stands;

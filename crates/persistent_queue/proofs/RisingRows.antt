@@ -15,8 +15,8 @@ use Rattle.persistent_queue.specs.NextBatch.{StandsAt, left_in, unread_rows_in}
 use Rattle.persistent_queue.specs.Opens.{ArePagesOf, IsAmong, IsPageOf}
 use Rattle.persistent_queue.specs.QueueBatches.{CursorStands}
 use Rattle.persistent_queue.specs.Taking.{Stand, stand, begun, entered, is_passed, rows_of, page_read, pages_read}
-use Rattle.persistent_queue.specs.Views.{CursorView, OpenPage}
-use Rattle.persistent_queue.specs.declared.page_rows.Reading.{Reading}
+use Rattle.persistent_queue.specs.Views.{CursorView, OpenPageView}
+use Rattle.persistent_queue.specs.declared.page_rows.BatchReader.{BatchReader}
 use Rattle.persistent_queue.proofs.PageNumbers.{ok_same}
 use Rattle.persistent_queue.proofs.UnreadCalls.{left_by, numbered_left}
 use Rattle.persistent_queue.proofs.UnreadRows.{rows_with}
@@ -59,7 +59,7 @@ rise_drop from start end (suc k) (r ∷ rows) rise = rise_drop from start end k 
     by true rise = rise
     by false rise = let here = rise.0 in less_from (suc r.number) start (since from rows) end (omega (arith, here)) rise.1
 
-module _ (o : OpenPage) (p : Page) (is : IsPageOf o p) (sound : IsSound p) where
+module _ (o : OpenPageView) (p : Page) (is : IsPageOf o p) (sound : IsSound p) where
   rise_page : AreRising o.page.state.least (since o.from p.rows) (end_of o)
   rise_page =
       let end : o.page.state.least + length p.rows ≡ end_of o = omega (arith, is.count) in
@@ -85,7 +85,7 @@ module _ (o : OpenPage) (p : Page) (is : IsPageOf o p) (sound : IsSound p) where
 
 -- ---- rows of all pages
 
-pub rise_pages : (s : Stand) (number end : ℕ) (tails : List OpenPage) (top : OpenPage) (pages : List Page) (last : Page) → ArePagesOf tails pages → IsPageOf top last → Rising number end pages last
+pub rise_pages : (s : Stand) (number end : ℕ) (tails : List OpenPageView) (top : OpenPageView) (pages : List Page) (last : Page) → ArePagesOf tails pages → IsPageOf top last → Rising number end pages last
     → AreRising end (unread_rows_in s (tails ++ top ∷ []) (rows_with pages last)) (end_of top)
 rise_pages s number end [] top [] last are is rising =
     subst (λ (l : List Row). AreRising end l (end_of top)) (sym (append-nil (since top.from (left_in s top last.rows))))
@@ -100,7 +100,7 @@ rise_pages s number end (o ∷ tails) top (p ∷ pages) last are is rising =
     (subst (λ n. AreRising n (unread_rows_in s (tails ++ top ∷ []) (rows_with pages last)) (end_of top)) ends rest)
 
 -- the page of a number is at least the first of pages that rise
-among_above : (n number end : ℕ) (tails : List OpenPage) (top : OpenPage) (pages : List Page) (last : Page) → ArePagesOf tails pages → IsPageOf top last → Rising number end pages last → IsAmong n (tails ++ top ∷ []) → number ≤ n
+among_above : (n number end : ℕ) (tails : List OpenPageView) (top : OpenPageView) (pages : List Page) (last : Page) → ArePagesOf tails pages → IsPageOf top last → Rising number end pages last → IsAmong n (tails ++ top ∷ []) → number ≤ n
 among_above n number end [] top [] last are is rising (inl same) = omega (arith, same, rising.0, is.number)
 among_above n number end [] top [] last are is rising (inr none) = elim none [ ]
 among_above n number end [] top (p ∷ pages) last are is rising among = elim are [ ]
@@ -111,7 +111,7 @@ among_above n number end (o ∷ tails) top (p ∷ pages) last are is rising (inr
     omega (arith, rest, rising.0)
 
 -- where the page of the next row is among them, those of all of them rise from its number on
-pub rise_next : (content : Content) (c : CursorView) (number end : ℕ) (tails : List OpenPage) (top : OpenPage) (pages : List Page) (last : Page) → ArePagesOf tails pages → IsPageOf top last → Rising number end pages last
+pub rise_next : (content : Content) (c : CursorView) (number end : ℕ) (tails : List OpenPageView) (top : OpenPageView) (pages : List Page) (last : Page) → ArePagesOf tails pages → IsPageOf top last → Rising number end pages last
     → CursorStands content c (tails ++ top ∷ []) (rows_with pages last) → IsAmong c.page (tails ++ top ∷ [])
     → AreRising c.number (unread_rows_in (begun 0 c) (tails ++ top ∷ []) (rows_with pages last)) (end_of top)
 rise_next content c number end [] top [] last are is rising stands (inl same) =
@@ -132,7 +132,7 @@ rise_next content c number end (o ∷ tails) top (p ∷ pages) last are is risin
     (rise_next content c (suc p.number) (p.least + length p.rows) tails top pages last are.1 is rising.4 stands.1 among)
 
 -- those that were found when the queue was opened
-pub rise_all : (number end : ℕ) (tails : List OpenPage) (top : OpenPage) (pages : List Page) (last : Page) → ArePagesOf tails pages → IsPageOf top last → Rising number end pages last → AreRising end (all_rows pages last) (end_of top)
+pub rise_all : (number end : ℕ) (tails : List OpenPageView) (top : OpenPageView) (pages : List Page) (last : Page) → ArePagesOf tails pages → IsPageOf top last → Rising number end pages last → AreRising end (all_rows pages last) (end_of top)
 rise_all number end [] top [] last are is rising =
     subst (λ n. AreRising end (since n last.rows) (end_of top)) (sym is.from)
     (less_from top.page.state.least end (since top.from last.rows) (end_of top) (omega (arith, rising.1, is.least)) (rise_page top last is rising.2))
@@ -149,11 +149,11 @@ rise_all number end (o ∷ tails) top (p ∷ pages) last are is rising =
 
 module _ (content : Content) where
   -- where it began, or in the page that it went through
-  page_ends : (o : OpenPage) (s next : Stand) → page_read content o s ≡ Ok next → (next ≡ s) ⊎ (next.page ≡ o.number)
+  page_ends : (o : OpenPageView) (s next : Stand) → page_read content o s ≡ Ok next → (next ≡ s) ⊎ (next.page ≡ o.number)
   unfolding page_read
   page_ends o s next is = by_test (is_passed o s) is
     where
-      by_rows : (rows : Result Reading Damage) → and_then rows (λ r. Ok (stand o.number r)) ≡ Ok next → (next ≡ s) ⊎ (next.page ≡ o.number)
+      by_rows : (rows : Result BatchReader Damage) → and_then rows (λ r. Ok (stand o.number r)) ≡ Ok next → (next ≡ s) ⊎ (next.page ≡ o.number)
       by_rows (Ok r) e = inr (ap (λ (x : Stand). x.page) (sym (ok_same e)))
       by_rows (Err d) e = absurd (cc)
 
@@ -161,7 +161,7 @@ module _ (content : Content) where
       by_test true e = inl (sym (ok_same e))
       by_test false e = by_rows (rows_of content o (entered o s)) e
 
-  pub reads_among : (pages : List OpenPage) (s next : Stand) → pages_read content pages s ≡ Ok next → (next ≡ s) ⊎ IsAmong next.page pages
+  pub reads_among : (pages : List OpenPageView) (s next : Stand) → pages_read content pages s ≡ Ok next → (next ≡ s) ⊎ IsAmong next.page pages
   reads_among [] s next is = inl (sym (ok_same is))
   reads_among (o ∷ pages) s next is = by_page (page_read content o s) refl is (λ mid read. reads_among pages mid next read)
     where

@@ -20,35 +20,35 @@ use Rattle.queue_core.specs.declared.rolling.NextPage.{NextPage}
 use Rattle.queue_core.proofs.TornMarks.{number_of}
 use Rattle.persistent_queue.specs.Calls.{end_of, first_open}
 use Rattle.persistent_queue.specs.Opens.{AreLong, ArePagesOf, Climb, HasPage, IsAmong, IsOfFiles, IsPageOf, IsReady, Opens, TailsSlotted}
-use Rattle.persistent_queue.specs.Views.{OpenPage, QueueView}
+use Rattle.persistent_queue.specs.Views.{OpenPageView, QueueView}
 use Rattle.persistent_queue.specs.Writing.{behind_roll, next_page, sealed}
 use Rattle.persistent_queue.proofs.AppendRuns.{slotted_still}
 
 -- ---- one page more
 
-climb_more : (from end : ℕ) (tails : List OpenPage) (o : OpenPage) → o.number ≡ end → Climb from end tails → Climb from (suc end) (tails ++ o ∷ [])
+climb_more : (from end : ℕ) (tails : List OpenPageView) (o : OpenPageView) → o.number ≡ end → Climb from end tails → Climb from (suc end) (tails ++ o ∷ [])
 climb_more from end [] o is climb = (omega (arith, is, climb), omega (arith, is))
 climb_more from end (t ∷ tails) o is climb = (climb.0, climb_more (suc t.number) end tails o is climb.1)
 
-slotted_more : (folder : List ℕ) (content : Content) (tails : List OpenPage) (o : OpenPage) → TailsSlotted folder tails content → 48 ≤ file_length (content (names_in folder (checkpoint o.number)))
+slotted_more : (folder : List ℕ) (content : Content) (tails : List OpenPageView) (o : OpenPageView) → TailsSlotted folder tails content → 48 ≤ file_length (content (names_in folder (checkpoint o.number)))
     → TailsSlotted folder (tails ++ o ∷ []) content
 slotted_more folder content [] o slotted one = (one, tt)
 slotted_more folder content (t ∷ tails) o slotted one = (slotted.0, slotted_more folder content tails o slotted.1 one)
 
-are_more : (tails : List OpenPage) (pages : List Page) (o : OpenPage) (p : Page) → ArePagesOf tails pages → IsPageOf o p → ArePagesOf (tails ++ o ∷ []) (pages ++ p ∷ [])
+are_more : (tails : List OpenPageView) (pages : List Page) (o : OpenPageView) (p : Page) → ArePagesOf tails pages → IsPageOf o p → ArePagesOf (tails ++ o ∷ []) (pages ++ p ∷ [])
 are_more [] [] o p are is = (is, tt)
 are_more [] (x ∷ pages) o p are is = absurd are
 are_more (t ∷ tails) [] o p are is = absurd are
 are_more (t ∷ tails) (x ∷ pages) o p are is = (are.0, are_more tails pages o p are.1 is)
 
-among_more : (n : ℕ) (tails : List OpenPage) (o : OpenPage) → IsAmong n (tails ++ o ∷ []) → IsAmong n tails ⊎ (n ≡ o.number)
+among_more : (n : ℕ) (tails : List OpenPageView) (o : OpenPageView) → IsAmong n (tails ++ o ∷ []) → IsAmong n tails ⊎ (n ≡ o.number)
 among_more n [] o (inl is) = inr is
 among_more n [] o (inr none) = absurd none
 among_more n (t ∷ tails) o (inl is) = inl (inl is)
 among_more n (t ∷ tails) o (inr more) = ⊎_elim (λ among. inl (inr among)) (λ is. inr is) (among_more n tails o more)
 
 -- pages below the head have lesser numbers
-among_below : (n number end : ℕ) (tails : List OpenPage) (pages : List Page) (last : Page) → ArePagesOf tails pages → Rising number end pages last → IsAmong n tails → n < last.number
+among_below : (n number end : ℕ) (tails : List OpenPageView) (pages : List Page) (last : Page) → ArePagesOf tails pages → Rising number end pages last → IsAmong n tails → n < last.number
 among_below n number end [] pages last are rising among = absurd among
 among_below n number end (o ∷ tails) [] last are rising among = absurd are
 among_below n number end (o ∷ tails) (p ∷ pages) last are rising (inl is) = omega (arith, is, are.0.number, rising.1)
@@ -60,7 +60,7 @@ module _ (folder : List ℕ) (old new : Content) where
   abbrev Stays : ℕ → Type 0
   Stays n = new (names_in folder (page n)) ≡ old (names_in folder (page n))
 
-  long_more : (tails : List OpenPage) (o : OpenPage) → ((n : ℕ) → IsAmong n tails → Stays n) → AreLong folder tails old → o.page.state.length ≤ file_length (new (names_in folder (page o.number)))
+  long_more : (tails : List OpenPageView) (o : OpenPageView) → ((n : ℕ) → IsAmong n tails → Stays n) → AreLong folder tails old → o.page.state.length ≤ file_length (new (names_in folder (page o.number)))
       → AreLong folder (tails ++ o ∷ []) new
   long_more [] o stay long one = (one, tt)
   long_more (t ∷ tails) o stay long one = (omega (arith, long.0, ap file_length (stay t.number (inl refl))), long_more tails o (λ n among. stay n (inr among)) long.1 one)

@@ -22,20 +22,20 @@ use Rattle.persistent_queue.specs.Opens.{ArePagesOf, IsPageOf, Opens, purged, un
 use Rattle.persistent_queue.specs.QueueBatches.{AreNamed, CursorStands, page_rows}
 use Rattle.persistent_queue.specs.Taking.{Stand, all_pages, begun}
 use Rattle.persistent_queue.specs.UnreadRows.{AreGiven, HasUnread, MarkLeavesUnread, PurgeLeavesUnread, WrittenComesLast, next_in, next_row}
-use Rattle.persistent_queue.specs.Views.{OpenPage, CursorView, QueueView}
+use Rattle.persistent_queue.specs.Views.{OpenPageView, CursorView, QueueView}
 use Rattle.persistent_queue.specs.Writing.{behind_append, behind_roll, frame_size, has_no_room, is_closed, made_ready, needs_page, next_top, sealed, with_open_row, written}
 use Rattle.persistent_queue.proofs.PlacedRows.{few_before, stands_again}
 use Rattle.persistent_queue.proofs.UnreadRows.{AllFirst, StandsFirst, rows_with, stand_first, whole_left}
 
 -- ---- pages one behind the other
 
-as_many : (tails : List OpenPage) (pages : List Page) → ArePagesOf tails pages → length tails ≡ length (map (λ (p : Page). p.rows) pages)
+as_many : (tails : List OpenPageView) (pages : List Page) → ArePagesOf tails pages → length tails ≡ length (map (λ (p : Page). p.rows) pages)
 as_many [] [] are = refl
 as_many [] (p ∷ pages) are = elim are [ ]
 as_many (o ∷ tails) [] are = elim are [ ]
 as_many (o ∷ tails) (p ∷ pages) are = ap suc (as_many tails pages are.1)
 
-unread_more : (s : Stand) (pages : List OpenPage) (rows : List (List PageRow)) (o : OpenPage) (last : List PageRow) → length pages ≡ length rows
+unread_more : (s : Stand) (pages : List OpenPageView) (rows : List (List PageRow)) (o : OpenPageView) (last : List PageRow) → length pages ≡ length rows
     → unread_rows_in s (pages ++ o ∷ []) (rows ++ last ∷ []) ≡ unread_rows_in s pages rows ++ since o.from (left_in s o last)
 unread_more s [] [] o last same = append-nil (since o.from (left_in s o last))
 unread_more s [] (r ∷ rows) o last same = absurd (omega (arith, same))
@@ -43,15 +43,15 @@ unread_more s (p ∷ pages) [] o last same = absurd (omega (arith, same))
 unread_more s (p ∷ pages) (r ∷ rows) o last same =
     ap (λ (l : List Row). since p.from (left_in s p r) ++ l) (unread_more s pages rows o last (omega (arith, same))) ∙ sym (append_assoc (since p.from (left_in s p r)) (unread_rows_in s pages rows) (since o.from (left_in s o last)))
 
-named_more : (folder : List ℕ) (pages : List OpenPage) (o : OpenPage) → AreNamed folder pages → o.file ≡ names_in folder (page o.number) → AreNamed folder (pages ++ o ∷ [])
+named_more : (folder : List ℕ) (pages : List OpenPageView) (o : OpenPageView) → AreNamed folder pages → o.file ≡ names_in folder (page o.number) → AreNamed folder (pages ++ o ∷ [])
 named_more folder [] o named is = (is, tt)
 named_more folder (p ∷ pages) o named is = (named.0, named_more folder pages o named.1 is)
 
-named_front : (folder : List ℕ) (pages : List OpenPage) (o : OpenPage) → AreNamed folder (pages ++ o ∷ []) → AreNamed folder pages × (o.file ≡ names_in folder (page o.number))
+named_front : (folder : List ℕ) (pages : List OpenPageView) (o : OpenPageView) → AreNamed folder (pages ++ o ∷ []) → AreNamed folder pages × (o.file ≡ names_in folder (page o.number))
 named_front folder [] o named = (tt, named.0)
 named_front folder (p ∷ pages) o named = let rest = named_front folder pages o named.1 in ((named.0, rest.0), rest.1)
 
-first_front : (content : Content) (pages : List OpenPage) (rows : List (List PageRow)) (o : OpenPage) (last : List PageRow) → length pages ≡ length rows → AllFirst content (pages ++ o ∷ []) (rows ++ last ∷ [])
+first_front : (content : Content) (pages : List OpenPageView) (rows : List (List PageRow)) (o : OpenPageView) (last : List PageRow) → length pages ≡ length rows → AllFirst content (pages ++ o ∷ []) (rows ++ last ∷ [])
     → AllFirst content pages rows × StandsFirst content o last
 first_front content [] [] o last same firsts = (tt, firsts.0)
 first_front content [] (r ∷ rows) o last same firsts = absurd (omega (arith, same))
@@ -59,17 +59,17 @@ first_front content (p ∷ pages) [] o last same firsts = absurd (omega (arith, 
 first_front content (p ∷ pages) (r ∷ rows) o last same firsts = let rest = first_front content pages rows o last (omega (arith, same)) firsts.1 in ((firsts.0, rest.0), rest.1)
 
 -- the next row stands where the cursor says, if it is one of this page
-abbrev StandsHere : Content → CursorView → OpenPage → List PageRow → Type 0
+abbrev StandsHere : Content → CursorView → OpenPageView → List PageRow → Type 0
 StandsHere content c o rows = c.page ≡ o.number → StandsAt o rows (bytes_of (content o.file)) c.number c.place
 
-stands_front : (content : Content) (c : CursorView) (pages : List OpenPage) (rows : List (List PageRow)) (o : OpenPage) (last : List PageRow) → length pages ≡ length rows
+stands_front : (content : Content) (c : CursorView) (pages : List OpenPageView) (rows : List (List PageRow)) (o : OpenPageView) (last : List PageRow) → length pages ≡ length rows
     → CursorStands content c (pages ++ o ∷ []) (rows ++ last ∷ []) → CursorStands content c pages rows × StandsHere content c o last
 stands_front content c [] [] o last same stands = (tt, stands.0)
 stands_front content c [] (r ∷ rows) o last same stands = absurd (omega (arith, same))
 stands_front content c (p ∷ pages) [] o last same stands = absurd (omega (arith, same))
 stands_front content c (p ∷ pages) (r ∷ rows) o last same stands = let rest = stands_front content c pages rows o last (omega (arith, same)) stands.1 in ((stands.0, rest.0), rest.1)
 
-stands_more : (content : Content) (c : CursorView) (pages : List OpenPage) (rows : List (List PageRow)) (o : OpenPage) (last : List PageRow) → length pages ≡ length rows
+stands_more : (content : Content) (c : CursorView) (pages : List OpenPageView) (rows : List (List PageRow)) (o : OpenPageView) (last : List PageRow) → length pages ≡ length rows
     → CursorStands content c pages rows → StandsHere content c o last → CursorStands content c (pages ++ o ∷ []) (rows ++ last ∷ [])
 stands_more content c [] [] o last same stands here = (here, tt)
 stands_more content c [] (r ∷ rows) o last same stands here = absurd (omega (arith, same))
@@ -79,23 +79,23 @@ stands_more content c (p ∷ pages) (r ∷ rows) o last same stands here = (stan
 -- ---- the same rows in other files
 
 module _ (content new : Content) (c : CursorView) where
-  here_again : (o x : OpenPage) (rows more : List PageRow) → x.number ≡ o.number → x.page.state.least ≡ o.page.state.least → StandsFirst content o rows → StandsFirst new x (rows ++ more) → StandsHere content c o rows
+  here_again : (o x : OpenPageView) (rows more : List PageRow) → x.number ≡ o.number → x.page.state.least ≡ o.page.state.least → StandsFirst content o rows → StandsFirst new x (rows ++ more) → StandsHere content c o rows
       → StandsHere new c x (rows ++ more)
   here_again o x rows more number least first then_first stands here =
       stands_again o rows (bytes_of (content o.file)) (omega (arith, first.long)) first.first c.number c.place (stands (here ∙ number)) x more (bytes_of (new x.file)) least (omega (arith, then_first.long)) then_first.first
 
-  same_again : (o x : OpenPage) (rows : List PageRow) → x.number ≡ o.number → x.page.state.least ≡ o.page.state.least → StandsFirst content o rows → StandsFirst new x rows → StandsHere content c o rows → StandsHere new c x rows
+  same_again : (o x : OpenPageView) (rows : List PageRow) → x.number ≡ o.number → x.page.state.least ≡ o.page.state.least → StandsFirst content o rows → StandsFirst new x rows → StandsHere content c o rows → StandsHere new c x rows
   same_again o x rows number least first then_first stands =
       subst (λ (l : List PageRow). StandsHere new c x l) (append-nil rows)
       (here_again o x rows [] number least first (subst (λ (l : List PageRow). StandsFirst new x l) (sym (append-nil rows)) then_first) stands)
 
-  still_again : (pages : List OpenPage) (rows : List (List PageRow)) → AllFirst content pages rows → AllFirst new pages rows → CursorStands content c pages rows → CursorStands new c pages rows
+  still_again : (pages : List OpenPageView) (rows : List (List PageRow)) → AllFirst content pages rows → AllFirst new pages rows → CursorStands content c pages rows → CursorStands new c pages rows
   still_again [] rows firsts then_firsts stands = tt
   still_again (o ∷ pages) [] firsts then_firsts stands = tt
   still_again (o ∷ pages) (r ∷ rows) firsts then_firsts stands =
       (same_again o o r refl refl firsts.0 then_firsts.0 stands.0, still_again pages rows firsts.1 then_firsts.1 stands.1)
 
-  marked_again : (pages : List OpenPage) (rows : List (List PageRow)) → AllFirst content pages rows → AllFirst new (map with_marked pages) rows → CursorStands content c pages rows → CursorStands new c (map with_marked pages) rows
+  marked_again : (pages : List OpenPageView) (rows : List (List PageRow)) → AllFirst content pages rows → AllFirst new (map with_marked pages) rows → CursorStands content c pages rows → CursorStands new c (map with_marked pages) rows
   marked_again [] rows firsts then_firsts stands = tt
   marked_again (o ∷ pages) [] firsts then_firsts stands = tt
   marked_again (o ∷ pages) (r ∷ rows) firsts then_firsts stands =
@@ -140,7 +140,7 @@ since_more from (r ∷ rows) row late = by (nat_lt r.number from) (since_more fr
 -- ---- what is left of a page
 
 -- none of its rows, those from the next one on, or all of them
-pub left_by : (P : List PageRow → Type 0) (s : Stand) (o : OpenPage) (rows : List PageRow) → (o.number < s.page → P []) → (o.number ≡ s.page → P (drop (s.reading.number - o.page.state.least) rows)) → (s.page < o.number → P rows)
+pub left_by : (P : List PageRow → Type 0) (s : Stand) (o : OpenPageView) (rows : List PageRow) → (o.number < s.page → P []) → (o.number ≡ s.page → P (drop (s.reading.number - o.page.state.least) rows)) → (s.page < o.number → P rows)
     → P (left_in s o rows)
 left_by P s o rows none some all = elim (cases_Bool (nat_lt o.number s.page)) [
   | inl below ↦ subst P (sym (cond-true _ _ _ below)) (none (grind (arith, nat_tests, below)))
@@ -150,13 +150,13 @@ left_by P s o rows none some all = elim (cases_Bool (nat_lt o.number s.page)) [
   ]
 ]
 
-left_few : (s : Stand) (o : OpenPage) (rows : List PageRow) → length (left_in s o rows) ≤ length rows
+left_few : (s : Stand) (o : OpenPageView) (rows : List PageRow) → length (left_in s o rows) ≤ length rows
 left_few s o rows =
     left_by (λ l. length l ≤ length rows) s o rows (λ below. omega arith) (λ this. omega (arith, length-drop (s.reading.number - o.page.state.least) rows)) (λ later. omega arith)
 
 -- ---- no more rows are unread than there are numbers
 
-few_unread : (s : Stand) (number end : ℕ) (tails : List OpenPage) (top : OpenPage) (pages : List Page) (last : Page) → ArePagesOf tails pages → Rising number end pages last
+few_unread : (s : Stand) (number end : ℕ) (tails : List OpenPageView) (top : OpenPageView) (pages : List Page) (last : Page) → ArePagesOf tails pages → Rising number end pages last
     → end + length (unread_rows_in s (tails ++ top ∷ []) (rows_with pages last)) ≤ last.least + length last.rows
 few_unread s number end [] top [] last are rising =
     omega (arith, rising.1, ap length (append-nil (since top.from (left_in s top last.rows))), since_few top.from (left_in s top last.rows), left_few s top last.rows)
@@ -168,7 +168,7 @@ few_unread s number end (o ∷ tails) top (p ∷ pages) last are rising =
 
 -- ---- a page of which what is acknowledged is recorded
 
-module _ (c : CursorView) (o : OpenPage) (p : Page) (is : IsPageOf o p) (sound : IsSound p) where
+module _ (c : CursorView) (o : OpenPageView) (p : Page) (is : IsPageOf o p) (sound : IsSound p) where
   first_same : first_open_of p ≡ first_open o
   first_same = λ i. is.least i + leading (is.acknowledged i)
 
@@ -206,11 +206,11 @@ module _ (c : CursorView) (o : OpenPage) (p : Page) (is : IsPageOf o p) (sound :
       (⊎_elim (λ (less : o.number < c.page). absurd (omega (arith, less, later)))
       (λ more. ⊎_elim (λ (recorded : first_open o ≤ o.from). inl recorded) (λ (before : first_open o ≤ next_in c o). inr (omega (arith, before, next))) more) given))
 
-given_front : (c : CursorView) (pages : List OpenPage) (o : OpenPage) → AreGiven c (pages ++ o ∷ []) → AreGiven c pages × ((o.number < c.page) ⊎ ((first_open o ≤ o.from) ⊎ (first_open o ≤ next_in c o)))
+given_front : (c : CursorView) (pages : List OpenPageView) (o : OpenPageView) → AreGiven c (pages ++ o ∷ []) → AreGiven c pages × ((o.number < c.page) ⊎ ((first_open o ≤ o.from) ⊎ (first_open o ≤ next_in c o)))
 given_front c [] o given = (tt, given.0)
 given_front c (p ∷ pages) o given = let rest = given_front c pages o given.1 in ((given.0, rest.0), rest.1)
 
-marked_unread : (c : CursorView) (number end : ℕ) (tails : List OpenPage) (pages : List Page) (last : Page) → ArePagesOf tails pages → Rising number end pages last → AreGiven c tails
+marked_unread : (c : CursorView) (number end : ℕ) (tails : List OpenPageView) (pages : List Page) (last : Page) → ArePagesOf tails pages → Rising number end pages last → AreGiven c tails
     → unread_rows_in (begun 0 c) (map with_marked tails) (map (λ (p : Page). p.rows) pages) ≡ unread_rows_in (begun 0 c) tails (map (λ (p : Page). p.rows) pages)
 marked_unread c number end [] [] last are rising given = refl
 marked_unread c number end [] (p ∷ pages) last are rising given = elim are [ ]
@@ -223,7 +223,7 @@ marked_rows : (pages : List Page) → map (λ (p : Page). p.rows) (marked_pages 
 marked_rows [] = refl
 marked_rows (p ∷ pages) = ap (λ (l : List (List PageRow)). p.rows ∷ l) (marked_rows pages)
 
-marked_named : (folder : List ℕ) (pages : List OpenPage) → AreNamed folder pages → AreNamed folder (map with_marked pages)
+marked_named : (folder : List ℕ) (pages : List OpenPageView) → AreNamed folder pages → AreNamed folder (map with_marked pages)
 marked_named folder [] named = tt
 marked_named folder (o ∷ pages) named = (named.0, marked_named folder pages named.1)
 
@@ -233,11 +233,11 @@ rolled_rows (x ∷ pages) p = ap (λ (l : List (List PageRow)). x.rows ∷ l) (r
 
 -- ---- pages without the first one that is spent
 
-spent_same : (o : OpenPage) (p : Page) → IsPageOf o p → not (nat_lt p.from (p.least + length p.rows)) ≡ is_spent o
+spent_same : (o : OpenPageView) (p : Page) → IsPageOf o p → not (nat_lt p.from (p.least + length p.rows)) ≡ is_spent o
 spent_same o p is = λ i. not (nat_lt (is.from i) (is.least i + is.count i))
 
 -- it has no unread row
-spent_none : (s : Stand) (o : OpenPage) (p : Page) → IsPageOf o p → IsSound p → is_spent o ≡ true → since o.from (left_in s o p.rows) ≡ []
+spent_none : (s : Stand) (o : OpenPageView) (p : Page) → IsPageOf o p → IsSound p → is_spent o ≡ true → since o.from (left_in s o p.rows) ≡ []
 spent_none s o p is sound spent =
     let far : end_of o ≤ o.from = grind (arith, nat_tests, spent) in
     let numbered = subst (λ n. AreNumbered n p.rows) is.least sound.numbered in
@@ -247,7 +247,7 @@ spent_none s o p is sound spent =
     (λ this. none_from o.from (o.page.state.least + k) (end_of o) (drop k p.rows) (numbered_left o.page.state.least k p.rows numbered) (omega (arith, length-drop k p.rows, is.count)) far)
     (λ later. none_from o.from o.page.state.least (end_of o) p.rows numbered (omega (arith, is.count)) far)
 
-purged_named : (folder : List ℕ) (pages : List OpenPage) → AreNamed folder pages → AreNamed folder (without_spent pages)
+purged_named : (folder : List ℕ) (pages : List OpenPageView) → AreNamed folder pages → AreNamed folder (without_spent pages)
 purged_named folder [] named = tt
 purged_named folder (o ∷ pages) named = by (is_spent o) (purged_named folder pages named.1)
   where
@@ -255,7 +255,7 @@ purged_named folder (o ∷ pages) named = by (is_spent o) (purged_named folder p
     by true rest = named.1
     by false rest = (named.0, rest)
 
-purged_unread : (s : Stand) (number end : ℕ) (tails : List OpenPage) (pages : List Page) (last : Page) → ArePagesOf tails pages → Rising number end pages last
+purged_unread : (s : Stand) (number end : ℕ) (tails : List OpenPageView) (pages : List Page) (last : Page) → ArePagesOf tails pages → Rising number end pages last
     → unread_rows_in s (without_spent tails) (map (λ (p : Page). p.rows) (unspent pages)) ≡ unread_rows_in s tails (map (λ (p : Page). p.rows) pages)
 purged_unread s number end [] [] last are rising = refl
 purged_unread s number end [] (p ∷ pages) last are rising = elim are [ ]
@@ -270,7 +270,7 @@ purged_unread s number end (o ∷ tails) (p ∷ pages) last are rising =
     by true none rest = ap (λ (l : List Row). l ++ unread_rows_in s tails (map (λ (p : Page). p.rows) pages)) (sym (none refl))
     by false none rest = ap (λ (l : List Row). since o.from (left_in s o p.rows) ++ l) rest
 
-purged_stands : (content new : Content) (c : CursorView) (tails : List OpenPage) (pages : List Page) → ArePagesOf tails pages → AllFirst content tails (map (λ (p : Page). p.rows) pages)
+purged_stands : (content new : Content) (c : CursorView) (tails : List OpenPageView) (pages : List Page) → ArePagesOf tails pages → AllFirst content tails (map (λ (p : Page). p.rows) pages)
     → AllFirst new (without_spent tails) (map (λ (p : Page). p.rows) (unspent pages)) → CursorStands content c tails (map (λ (p : Page). p.rows) pages)
     → CursorStands new c (without_spent tails) (map (λ (p : Page). p.rows) (unspent pages))
 purged_stands content new c [] [] are firsts now stands = tt
@@ -322,7 +322,7 @@ module _ {S : Type 0} (store : StoreWords S) (v : QueueView) (q : Queue) (rows :
   -- ---- a row in the head page
 
   module _ (row : PageRow) (size : ℕ) (late : v.top.from ≤ row.number) (opens : Opens store (behind_append size v) (record q { top = page_with row q.top }) new) where
-    abbrev top : OpenPage
+    abbrev top : OpenPageView
     top = with_open_row size v.top
 
     here_named : AreNamed v.folder (v.tails ++ top ∷ [])
@@ -363,10 +363,10 @@ module _ {S : Type 0} (store : StoreWords S) (v : QueueView) (q : Queue) (rows :
 
   module _ (turn : ℕ) (given : AreGiven v.cursor (all_pages v)) where
     -- the head page then, with a slot of any turn
-    abbrev recorded : OpenPage
+    abbrev recorded : OpenPageView
     recorded = record v.top { from = first_open v.top; turn = turn }
 
-    abbrev marked_tails : List OpenPage
+    abbrev marked_tails : List OpenPageView
     marked_tails = map with_marked v.tails
 
     marked_long : length marked_tails ≡ length tail_rows
@@ -411,13 +411,13 @@ module _ {S : Type 0} (store : StoreWords S) (v : QueueView) (q : Queue) (rows :
 
   module _ (row : PageRow) (size : ℕ) (late : end_of v.top ≤ row.number) (given : AreGiven v.cursor (all_pages v))
       (opens : Opens store (behind_append size (behind_roll (behind_mark v))) (with_row row (rolled (marked q))) new) where
-    abbrev front : List OpenPage
+    abbrev front : List OpenPageView
     front = map with_marked v.tails ++ sealed (with_recorded v.top) ∷ []
 
     abbrev front_rows : List (List PageRow)
     front_rows = tail_rows ++ q.top.rows ∷ []
 
-    abbrev next : OpenPage
+    abbrev next : OpenPageView
     next = with_open_row size (next_top v.folder (with_recorded v.top))
 
     front_long : length front ≡ length front_rows
@@ -482,7 +482,7 @@ or_right : (a b : Bool) → a || b ≡ false → (a ≡ false) × (b ≡ false)
 or_right true b is = absurd (true≢false is)
 or_right false b is = (refl, is)
 
-recorded_here : (o : OpenPage) → is_closed o ≡ false → o.from ≤ end_of o
+recorded_here : (o : OpenPageView) → is_closed o ≡ false → o.from ≤ end_of o
 unfolding is_closed
 recorded_here o still =
     let past : nat_lt (end_of o) o.from ≡ false = (or_right (not (o.page.version == 2) || (o.page.state.count == 2 ^ 32 - 1)) (nat_lt (end_of o) o.from) still).1 in

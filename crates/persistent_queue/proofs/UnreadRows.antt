@@ -15,8 +15,8 @@ use Rattle.queue_laws.specs.Kept.{Page, Queue, AreNumbered, Rising, all_rows, le
 use Rattle.queue_laws.specs.Resting.{TailsHeld}
 use Rattle.queue_laws.proofs.Whole.{rising_top}
 use Rattle.queue_core.specs.Marks.{read_in}
-use Rattle.queue_core.specs.declared.opening.Opened.{Opened}
-use Rattle.queue_core.specs.declared.tails.Tail.{Tail}
+use Rattle.queue_core.specs.declared.opening.OpenedQueue.{OpenedQueue}
+use Rattle.queue_core.specs.declared.sealed_pages.SealedPage.{SealedPage}
 use Rattle.persistent_queue.specs.Acknowledging.{acknowledged_page}
 use Rattle.persistent_queue.specs.Calls.{behind_acknowledge, with_acknowledged}
 use Rattle.persistent_queue.specs.NextBatch.{StandsAt, Rise, left_in, unread_rows_in}
@@ -25,7 +25,7 @@ use Rattle.persistent_queue.specs.Opens.{AreLong, ArePagesOf, IsPageOf, Opens}
 use Rattle.persistent_queue.specs.QueueBatches.{AreNamed, CursorStands, IsRead, page_rows}
 use Rattle.persistent_queue.specs.Taking.{Stand, all_pages, begun}
 use Rattle.persistent_queue.specs.UnreadRows.{HasUnread, AcknowledgedLeavesUnread, OpenedRowsAreUnread}
-use Rattle.persistent_queue.specs.Views.{OpenPage, CursorView, QueueView}
+use Rattle.persistent_queue.specs.Views.{OpenPageView, CursorView, QueueView}
 use Rattle.persistent_queue.specs.declared.limits.Limits.{Limits}
 use Rattle.persistent_queue.specs.declared.limits.Numbers.{Numbers}
 use Rattle.persistent_queue.proofs.Acknowledging.{acknowledged_is_open}
@@ -39,16 +39,16 @@ rows_with pages last = map (λ (p : Page). p.rows) pages ++ last.rows ∷ []
 -- ---- where rows stand in the files
 
 -- all rows of these pages stand in their files
-pub record StandsFirst (content : Content) (o : OpenPage) (rows : List PageRow) : Type 0 where
+pub record StandsFirst (content : Content) (o : OpenPageView) (rows : List PageRow) : Type 0 where
   pub long : o.page.state.length ≤ length (bytes_of (content o.file))
   pub first : StandsAt o rows (bytes_of (content o.file)) o.page.state.least 1
 
-abbrev pub AllFirst : Content → List OpenPage → List (List PageRow) → Type 0
+abbrev pub AllFirst : Content → List OpenPageView → List (List PageRow) → Type 0
 AllFirst content [] rows = ⊤
 AllFirst content (o ∷ pages) [] = ⊤
 AllFirst content (o ∷ pages) (rows ∷ others) = StandsFirst content o rows × AllFirst content pages others
 
-all_first : (folder : List ℕ) (content : Content) (tails : List OpenPage) (top : OpenPage) (pages : List Page) (last : Page) → ArePagesOf tails pages → TailsHeld pages (read_in (names_in folder) content)
+all_first : (folder : List ℕ) (content : Content) (tails : List OpenPageView) (top : OpenPageView) (pages : List Page) (last : Page) → ArePagesOf tails pages → TailsHeld pages (read_in (names_in folder) content)
     → AreLong folder tails content → AreNamed folder (tails ++ top ∷ []) → StandsFirst content top last.rows → AllFirst content (tails ++ top ∷ []) (rows_with pages last)
 all_first folder content [] top [] last are held long named stands = (stands, tt)
 all_first folder content [] top (p ∷ pages) last are held long named stands = elim are [ ]
@@ -61,7 +61,7 @@ all_first folder content (o ∷ tails) top (p ∷ pages) last are held long name
   all_first folder content tails top pages last are.1 held.1 long.1 named.1 stands,
 )
 
-last_named : (folder : List ℕ) (tails : List OpenPage) (top : OpenPage) → AreNamed folder (tails ++ top ∷ []) → top.file ≡ names_in folder (page top.number)
+last_named : (folder : List ℕ) (tails : List OpenPageView) (top : OpenPageView) → AreNamed folder (tails ++ top ∷ []) → top.file ≡ names_in folder (page top.number)
 last_named folder [] top named = named.0
 last_named folder (o ∷ tails) top named = last_named folder tails top named.1
 
@@ -80,7 +80,7 @@ module _ {S : Type 0} (store : StoreWords S) (v : QueueView) (q : Queue) (s : S)
   is_read = record { is = opens.ready.is; held = opens.ready.held tells; tails = opens.tails; top = opens.top; files = opens.files tells; named = named }
 
 -- no row of later pages is the next one
-pub none_later : (content : Content) (c : CursorView) (from : ℕ) (pages : List OpenPage) (rows : List (List PageRow)) → Rise from pages → c.page < from → CursorStands content c pages rows
+pub none_later : (content : Content) (c : CursorView) (from : ℕ) (pages : List OpenPageView) (rows : List (List PageRow)) → Rise from pages → c.page < from → CursorStands content c pages rows
 none_later content c from [] rows rise less = tt
 none_later content c from (o ∷ pages) [] rows less = tt
 none_later content c from (o ∷ pages) (rows ∷ others) rise less =
@@ -89,7 +89,7 @@ none_later content c from (o ∷ pages) (rows ∷ others) rise less =
 -- ---- a queue that was opened
 
 -- all rows of a page are left, if none of them is behind the next row
-pub whole_left : (s : Stand) (o : OpenPage) (rows : List PageRow) → s.page ≤ o.number → (o.number ≡ s.page → s.reading.number ≡ o.page.state.least) → left_in s o rows ≡ rows
+pub whole_left : (s : Stand) (o : OpenPageView) (rows : List PageRow) → s.page ≤ o.number → (o.number ≡ s.page → s.reading.number ≡ o.page.state.least) → left_in s o rows ≡ rows
 whole_left s o rows within first =
     let t : nat_lt o.number s.page ≡ false = grind (arith, nat_tests, within) in
     cond-false _ _ _ t ∙ elim (cases_Bool (o.number == s.page)) [
@@ -99,7 +99,7 @@ whole_left s o rows within first =
       | inr other ↦ cond-false _ _ _ other
     ]
 
-later_rows : (s : Stand) (from : ℕ) (tails : List OpenPage) (top : OpenPage) (pages : List Page) (last : Page) → ArePagesOf tails pages → IsPageOf top last → Rise from (tails ++ top ∷ []) → s.page < from
+later_rows : (s : Stand) (from : ℕ) (tails : List OpenPageView) (top : OpenPageView) (pages : List Page) (last : Page) → ArePagesOf tails pages → IsPageOf top last → Rise from (tails ++ top ∷ []) → s.page < from
     → unread_rows_in s (tails ++ top ∷ []) (rows_with pages last) ≡ all_rows pages last
 later_rows s from [] top [] last are top_is rise less =
     append-nil (since top.from (left_in s top last.rows))
@@ -110,7 +110,7 @@ later_rows s from (o ∷ tails) top (p ∷ pages) last are top_is rise less = ap
     (ap₂ (λ (n : ℕ) (l : List PageRow). since n l) (sym are.0.from) (whole_left s o p.rows (omega (arith, less, rise.0)) (λ is. absurd (omega (arith, is, less, rise.0)))))
     (later_rows s (suc o.number) tails top pages last are.1 top_is rise.1 (omega (arith, less, rise.0)))
 
-first_rows : (tails : List OpenPage) (top : OpenPage) (pages : List Page) (last : Page) → ArePagesOf tails pages → IsPageOf top last → Rise 0 (tails ++ top ∷ [])
+first_rows : (tails : List OpenPageView) (top : OpenPageView) (pages : List Page) (last : Page) → ArePagesOf tails pages → IsPageOf top last → Rise 0 (tails ++ top ∷ [])
     → unread_rows_in (begun 0 (cursor_at (first_of tails top))) (tails ++ top ∷ []) (rows_with pages last) ≡ all_rows pages last
 first_rows [] top [] last are top_is rise =
     append-nil (since top.from (left_in (begun 0 (cursor_at top)) top last.rows))
@@ -121,7 +121,7 @@ first_rows (o ∷ tails) top (p ∷ pages) last are top_is rise = ap₂ (λ (a b
     (ap₂ (λ (n : ℕ) (l : List PageRow). since n l) (sym are.0.from) (whole_left (begun 0 (cursor_at o)) o p.rows (omega arith) (λ is. refl)))
     (later_rows (begun 0 (cursor_at o)) (suc o.number) tails top pages last are.1 top_is rise.1 (omega arith))
 
-first_stands : (content : Content) (tails : List OpenPage) (top : OpenPage) (rows : List (List PageRow)) → Rise 0 (tails ++ top ∷ []) → AllFirst content (tails ++ top ∷ []) rows
+first_stands : (content : Content) (tails : List OpenPageView) (top : OpenPageView) (rows : List (List PageRow)) → Rise 0 (tails ++ top ∷ []) → AllFirst content (tails ++ top ∷ []) rows
     → CursorStands content (cursor_at (first_of tails top)) (tails ++ top ∷ []) rows
 first_stands content [] top [] rise firsts = tt
 first_stands content [] top (rows ∷ others) rise firsts = (λ here. firsts.0.first, tt)
@@ -129,7 +129,7 @@ first_stands content (o ∷ tails) top [] rise firsts = tt
 first_stands content (o ∷ tails) top (rows ∷ others) rise firsts = (λ here. firsts.0.first, none_later content (cursor_at o) (suc o.number) (tails ++ top ∷ []) others rise.1 (omega arith))
 
 module _ (folder : List ℕ) where
-  opened_named : (tails : List Tail) (views : List PageView) (top : OpenPage) → top.file ≡ names_in folder (page top.number) → AreNamed folder (tails_opened folder tails views ++ top ∷ [])
+  opened_named : (tails : List SealedPage) (views : List PageView) (top : OpenPageView) → top.file ≡ names_in folder (page top.number) → AreNamed folder (tails_opened folder tails views ++ top ∷ [])
   opened_named [] views top is = (is, tt)
   opened_named (t ∷ tails) [] top is = (is, tt)
   opened_named (t ∷ tails) (v ∷ views) top is = (refl, opened_named tails views top is)
@@ -139,7 +139,7 @@ module _ (folder : List ℕ) where
   one_count number turn first_open view p is numbered =
       sym (unread_rows p.from p.least p.rows numbered ∙ (λ i. is.count i - leading (below_number (is.from i) (is.least i) (is.count i))))
 
-  opened_count : (tails : List Tail) (views : List PageView) (pages : List Page) (last : Page) (number end count : ℕ) → ArePagesOf (tails_opened folder tails views) pages → Rising number end pages last
+  opened_count : (tails : List SealedPage) (views : List PageView) (pages : List Page) (last : Page) (number end count : ℕ) → ArePagesOf (tails_opened folder tails views) pages → Rising number end pages last
       → count ≡ length (since last.from last.rows) → unread_in (tails_opened folder tails views) + count ≡ length (all_rows pages last)
   opened_count [] views [] last number end count are rising is = omega (arith, is)
   opened_count [] views (p ∷ pages) last number end count are rising is = elim are [ ]
@@ -152,7 +152,7 @@ module _ (folder : List ℕ) where
       omega (arith, here, rest, length-append (since p.from p.rows) (all_rows pages last))
 
 module _ {S : Type 0} (store : StoreWords S) where
-  opened_unread : (folder : List ℕ) (limits : Limits) (o : Opened) (old new : S) → IsTrue store.tells → (made : OpensAs store (queue_opened folder limits o) o old new)
+  opened_unread : (folder : List ℕ) (limits : Limits) (o : OpenedQueue) (old new : S) → IsTrue store.tells → (made : OpensAs store (queue_opened folder limits o) o old new)
       → HasUnread store (queue_opened folder limits o) made.queue (all_rows made.queue.tails made.queue.top) new
   opened_unread folder limits o old new tells made =
       let v = queue_opened folder limits o in
@@ -179,7 +179,7 @@ module _ {S : Type 0} (store : StoreWords S) where
 -- ---- rows are acknowledged
 
 module _ (numbers : Numbers) where
-  acknowledged_named : (folder : List ℕ) (tails : List OpenPage) (top : OpenPage) → AreNamed folder (tails ++ top ∷ []) → AreNamed folder (map (with_acknowledged numbers) tails ++ with_acknowledged numbers top ∷ [])
+  acknowledged_named : (folder : List ℕ) (tails : List OpenPageView) (top : OpenPageView) → AreNamed folder (tails ++ top ∷ []) → AreNamed folder (map (with_acknowledged numbers) tails ++ with_acknowledged numbers top ∷ [])
   acknowledged_named folder [] top named = (named.0, tt)
   acknowledged_named folder (o ∷ tails) top named = (named.0, acknowledged_named folder tails top named.1)
 
@@ -187,16 +187,16 @@ module _ (numbers : Numbers) where
   same_rows [] last = refl
   same_rows (p ∷ pages) last = ap (λ (l : List (List PageRow)). p.rows ∷ l) (same_rows pages last)
 
-  same_unread : (s : Stand) (tails : List OpenPage) (top : OpenPage) (rows : List (List PageRow)) → unread_rows_in s (map (with_acknowledged numbers) tails ++ with_acknowledged numbers top ∷ []) rows ≡ unread_rows_in s (tails ++ top ∷ []) rows
+  same_unread : (s : Stand) (tails : List OpenPageView) (top : OpenPageView) (rows : List (List PageRow)) → unread_rows_in s (map (with_acknowledged numbers) tails ++ with_acknowledged numbers top ∷ []) rows ≡ unread_rows_in s (tails ++ top ∷ []) rows
   same_unread s [] top [] = refl
   same_unread s [] top (rows ∷ others) = refl
   same_unread s (o ∷ tails) top [] = refl
   same_unread s (o ∷ tails) top (rows ∷ others) = ap (λ (l : List Row). since o.from (left_in s o rows) ++ l) (same_unread s tails top others)
 
-  one_stands : (o : OpenPage) (rows : List PageRow) (file : List ℕ) (number place : ℕ) → StandsAt o rows file number place → StandsAt (with_acknowledged numbers o) rows file number place
+  one_stands : (o : OpenPageView) (rows : List PageRow) (file : List ℕ) (number place : ℕ) → StandsAt o rows file number place → StandsAt (with_acknowledged numbers o) rows file number place
   one_stands o rows file number place at = record { within = at.within; behind = at.behind; count = at.count; are = at.are }
 
-  same_stands : (content : Content) (c : CursorView) (tails : List OpenPage) (top : OpenPage) (rows : List (List PageRow)) → CursorStands content c (tails ++ top ∷ []) rows
+  same_stands : (content : Content) (c : CursorView) (tails : List OpenPageView) (top : OpenPageView) (rows : List (List PageRow)) → CursorStands content c (tails ++ top ∷ []) rows
       → CursorStands content c (map (with_acknowledged numbers) tails ++ with_acknowledged numbers top ∷ []) rows
   same_stands content c [] top [] stands = tt
   same_stands content c [] top (rows ∷ others) stands = (λ here. one_stands top rows (bytes_of (content top.file)) c.number c.place (stands.0 here), tt)

@@ -6,31 +6,31 @@ use Rattle.queue_laws.specs.Folders.{head, page, checkpoint, names_in}
 use Rattle.queue_laws.specs.Kept.{leading}
 use Rattle.queue_core.specs.declared.marking.Mark.{Mark}
 use Rattle.persistent_queue.specs.Bits.{with_range}
-use Rattle.persistent_queue.specs.Views.{OpenPage, QueueView}
+use Rattle.persistent_queue.specs.Views.{OpenPageView, QueueView}
 use Rattle.persistent_queue.specs.declared.limits.Numbers.{Numbers}
 
 -- ---- a page
 
 -- the number behind its last row
-abbrev pub end_of : OpenPage → ℕ
+abbrev pub end_of : OpenPageView → ℕ
 end_of o = o.page.state.least + o.page.state.count
 
 -- the first number that isn't acknowledged now, or that behind its last row
-abbrev pub first_open : OpenPage → ℕ
+abbrev pub first_open : OpenPageView → ℕ
 first_open o = o.page.state.least + leading o.acknowledged
 
 -- what is acknowledged now isn't recorded
-abbrev pub is_due : OpenPage → Bool
+abbrev pub is_due : OpenPageView → Bool
 is_due o = not (first_open o == o.from)
 
 -- all its rows are recorded as acknowledged
-abbrev pub is_spent : OpenPage → Bool
+abbrev pub is_spent : OpenPageView → Bool
 is_spent o = not (nat_lt o.from (end_of o))
 
 -- ---- all pages
 
 -- how many bytes they have
-abbrev pub tail_bytes : List OpenPage → ℕ
+abbrev pub tail_bytes : List OpenPageView → ℕ
 tail_bytes [] = 0
 tail_bytes (o ∷ tails) = o.page.state.length + tail_bytes tails
 
@@ -38,7 +38,7 @@ abbrev pub bytes_in : QueueView → ℕ
 bytes_in v = tail_bytes v.tails + v.top.page.state.length
 
 -- the checkpoints of pages below the head, and of all pages
-abbrev pub tail_checkpoints : List ℕ → List OpenPage → List (List ℕ)
+abbrev pub tail_checkpoints : List ℕ → List OpenPageView → List (List ℕ)
 tail_checkpoints folder tails = map (λ o. names_in folder (checkpoint o.number)) tails
 
 abbrev pub checkpoints : QueueView → List (List ℕ)
@@ -47,7 +47,7 @@ checkpoints v = tail_checkpoints v.folder v.tails ++ names_in v.folder head ∷ 
 -- ---- rows that are acknowledged
 
 -- those of a page that have numbers from the first on, below the second
-abbrev pub with_acknowledged : Numbers → OpenPage → OpenPage
+abbrev pub with_acknowledged : Numbers → OpenPageView → OpenPageView
 with_acknowledged numbers o = record o { acknowledged = with_range o.page.state.least numbers.first numbers.behind o.acknowledged }
 
 abbrev pub behind_acknowledge : Numbers → QueueView → QueueView
@@ -56,32 +56,32 @@ behind_acknowledge numbers v = record v { tails = map (with_acknowledged numbers
 -- ---- a mark
 
 -- how a page stands now
-abbrev pub state_of : OpenPage → PageState
+abbrev pub state_of : OpenPageView → PageState
 state_of o = record { page = o.number; first_open = first_open o; least = o.page.state.least; count = o.page.state.count; length = o.page.state.length }
 
 -- what is to be recorded of it next, in a mark for its checkpoint
-abbrev pub mark_of : OpenPage → Bool → Mark → Mark
+abbrev pub mark_of : OpenPageView → Bool → Mark → Mark
 mark_of o due m = record { file = m.file; turn = next_turn o.turn; state = state_of o; due = due }
 
 -- of pages below the head, and then of the head page
-abbrev pub tail_marks : List OpenPage → List Mark → List Mark
+abbrev pub tail_marks : List OpenPageView → List Mark → List Mark
 tail_marks [] marks = marks
 tail_marks (o ∷ tails) [] = []
 tail_marks (o ∷ tails) (m ∷ marks) = mark_of o (is_due o) m ∷ tail_marks tails marks
 
 -- of all pages: the head page is recorded in any case
-abbrev pub marks_of : List OpenPage → OpenPage → List Mark → List Mark
+abbrev pub marks_of : List OpenPageView → OpenPageView → List Mark → List Mark
 marks_of [] top [] = []
 marks_of [] top (m ∷ marks) = mark_of top true m ∷ marks
 marks_of (o ∷ tails) top [] = []
 marks_of (o ∷ tails) top (m ∷ marks) = mark_of o (is_due o) m ∷ marks_of tails top marks
 
 -- a page of which what is acknowledged now was recorded
-abbrev pub with_recorded : OpenPage → OpenPage
+abbrev pub with_recorded : OpenPageView → OpenPageView
 with_recorded o = record o { from = first_open o; turn = next_turn o.turn }
 
 -- below the head that is done where it isn't recorded yet
-abbrev pub with_marked : OpenPage → OpenPage
+abbrev pub with_marked : OpenPageView → OpenPageView
 with_marked o = record o { from = first_open o; turn = if first_open o == o.from then o.turn else next_turn o.turn }
 
 abbrev pub behind_mark : QueueView → QueueView
@@ -94,15 +94,15 @@ last_number v = end_of v.top - 1
 -- ---- a page that goes
 
 -- the place of the first page that is spent, its number, and the pages without it
-abbrev pub spent_from : ℕ → List OpenPage → Option ℕ
+abbrev pub spent_from : ℕ → List OpenPageView → Option ℕ
 spent_from place [] = None
 spent_from place (o ∷ tails) = if is_spent o then Some place else spent_from (place + 1) tails
 
-abbrev pub first_spent : List OpenPage → Option ℕ
+abbrev pub first_spent : List OpenPageView → Option ℕ
 first_spent [] = None
 first_spent (o ∷ tails) = if is_spent o then Some o.number else first_spent tails
 
-abbrev pub without_spent : List OpenPage → List OpenPage
+abbrev pub without_spent : List OpenPageView → List OpenPageView
 without_spent [] = []
 without_spent (o ∷ tails) = if is_spent o then tails else o ∷ without_spent tails
 
@@ -112,7 +112,7 @@ behind_purge v = record v { tails = without_spent v.tails }
 -- ---- what is held in memory
 
 -- of a page each row is acknowledged or not, and its rows have numbers below 2^63 - 1
-pub record IsHeldPage (o : OpenPage) : Type 0 where
+pub record IsHeldPage (o : OpenPageView) : Type 0 where
   pub each : length o.acknowledged ≡ o.page.state.count
   pub numbers : end_of o ≤ 2 ^ 63 - 1
 

@@ -7,16 +7,16 @@ use Rattle.event_tree.specs.Events.{Ev}
 use Rattle.queue_laws.specs.Found.{Row}
 use Rattle.queue_laws.specs.Kept.{Queue, all_rows}
 use Rattle.queue_laws.specs.Steps.{marked}
-use Rattle.queue_core.specs.declared.opening.Opened.{Opened}
+use Rattle.queue_core.specs.declared.opening.OpenedQueue.{OpenedQueue}
 use Rattle.persistent_queue.specs.Calls.{behind_acknowledge, behind_mark, behind_purge, end_of}
 use Rattle.persistent_queue.specs.Opening.{queue_opened, OpensAs}
 use Rattle.persistent_queue.specs.Opens.{Becomes, purged}
 use Rattle.persistent_queue.specs.Taking.{all_pages, GivesNextRows, HasSameNext}
 use Rattle.persistent_queue.specs.Unread.{told}
 use Rattle.persistent_queue.specs.UnreadRows.{HasUnread, next_row}
-use Rattle.persistent_queue.specs.Views.{OpenPage, QueueView}
+use Rattle.persistent_queue.specs.Views.{OpenPageView, QueueView}
 use Rattle.persistent_queue.specs.Writing.{behind_write, frame_size, with_written}
-use Rattle.persistent_queue.specs.declared.batching.Batch.{Batch}
+use Rattle.persistent_queue.specs.declared.batch.Batch.{Batch}
 use Rattle.persistent_queue.specs.declared.limits.Limits.{Limits}
 
 -- ---- rows and their numbers
@@ -27,12 +27,12 @@ is_set_at number [] n = false
 is_set_at number (b ∷ bits) n = (b && (number == n)) || is_set_at (suc number) bits n
 
 -- a row of these pages has this number and is acknowledged
-abbrev pub is_acknowledged : List OpenPage → ℕ → Bool
+abbrev pub is_acknowledged : List OpenPageView → ℕ → Bool
 is_acknowledged [] n = false
 is_acknowledged (o ∷ pages) n = is_set_at o.page.state.least o.acknowledged n || is_acknowledged pages n
 
 -- none of these rows is acknowledged
-abbrev pub AreOpen : List OpenPage → List Row → Type 0
+abbrev pub AreOpen : List OpenPageView → List Row → Type 0
 AreOpen pages [] = ⊤
 AreOpen pages (row ∷ rows) = (is_acknowledged pages row.number ≡ false) × AreOpen pages rows
 
@@ -105,7 +105,7 @@ module _ {S : Type 0} (store : StoreWords S) where
   -- A queue that was opened gives the rows that were found next. Whatever calls come behind, the rows that they gave and those that are given next are these and the ones that were written, each once,
   -- in the order of their numbers. There is no batch exactly where none of them is left.
   pub record RowsAreGivenOnce : Type 0 where
-    pub opened : (folder : List ℕ) (limits : Limits) (o : Opened) (old new : S) → IsTrue store.tells → (made : OpensAs store (queue_opened folder limits o) o old new)
+    pub opened : (folder : List ℕ) (limits : Limits) (o : OpenedQueue) (old new : S) → IsTrue store.tells → (made : OpensAs store (queue_opened folder limits o) o old new)
         → GivesNext (queue_opened folder limits o) made.queue (all_rows made.queue.tails made.queue.top) new
     pub calls : (v : QueueView) (q : Queue) (rows : List Row) (s : S) → IsTrue store.tells → GivesNext v q rows s → (given : List Batch) (written : List Row) (w : QueueView) (new : S)
         → Calls v s given written w new → StillGives given (rows ++ written) w new

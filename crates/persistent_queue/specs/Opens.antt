@@ -9,17 +9,17 @@ use Rattle.queue_laws.specs.Folders.{head, page, checkpoint, names_in}
 use Rattle.queue_laws.specs.Kept.{Page, Queue}
 use Rattle.queue_laws.specs.Steps.{with_tails}
 use Rattle.queue_core.specs.Ready.{Ready, Keeps}
-use Rattle.persistent_queue.specs.Views.{OpenPage, QueueView}
+use Rattle.persistent_queue.specs.Views.{OpenPageView, QueueView}
 
 -- ---- what is known of the store in any case
 
 -- the numbers of the pages below the head rise, from one on up to that of the head page
-abbrev pub Climb : ℕ → ℕ → List OpenPage → Type 0
+abbrev pub Climb : ℕ → ℕ → List OpenPageView → Type 0
 Climb from top [] = from ≤ top
 Climb from top (o ∷ tails) = (from ≤ o.number) × Climb (suc o.number) top tails
 
 -- each of these checkpoints has at least one slot
-abbrev pub TailsSlotted : List ℕ → List OpenPage → Content → Type 0
+abbrev pub TailsSlotted : List ℕ → List OpenPageView → Content → Type 0
 TailsSlotted folder [] content = ⊤
 TailsSlotted folder (o ∷ tails) content = (48 ≤ file_length (content (names_in folder (checkpoint o.number)))) × TailsSlotted folder tails content
 
@@ -37,7 +37,7 @@ place_behind place [] = place
 place_behind place (r ∷ rows) = place_behind r.next rows
 
 -- this page that is open is this page of a queue
-pub record IsPageOf (o : OpenPage) (p : Page) : Type 0 where
+pub record IsPageOf (o : OpenPageView) (p : Page) : Type 0 where
   pub number : p.number ≡ o.number
   pub version : p.version ≡ o.page.version
   pub least : p.least ≡ o.page.state.least
@@ -47,19 +47,19 @@ pub record IsPageOf (o : OpenPage) (p : Page) : Type 0 where
   pub turn : p.turn ≡ o.turn
   pub long : o.page.state.length ≡ place_behind 1 p.rows
 
-abbrev pub ArePagesOf : List OpenPage → List Page → Type 0
+abbrev pub ArePagesOf : List OpenPageView → List Page → Type 0
 ArePagesOf [] [] = ⊤
 ArePagesOf [] (p ∷ pages) = ⊥
 ArePagesOf (o ∷ tails) [] = ⊥
 ArePagesOf (o ∷ tails) (p ∷ pages) = IsPageOf o p × ArePagesOf tails pages
 
 -- the files of these pages have as many bytes as they say, or more
-abbrev pub AreLong : List ℕ → List OpenPage → Content → Type 0
+abbrev pub AreLong : List ℕ → List OpenPageView → Content → Type 0
 AreLong folder [] content = ⊤
 AreLong folder (o ∷ tails) content = (o.page.state.length ≤ file_length (content (names_in folder (page o.number)))) × AreLong folder tails content
 
 -- a page of this number is open
-abbrev pub IsAmong : ℕ → List OpenPage → Type 0
+abbrev pub IsAmong : ℕ → List OpenPageView → Type 0
 IsAmong n [] = ⊥
 IsAmong n (o ∷ tails) = (n ≡ o.number) ⊎ IsAmong n tails
 

@@ -2,7 +2,7 @@
 use Rattle.std.specs.Prelude.{◌≡◌, ◌≤◌, ℕ, List, [], ◌∷◌, ◌++◌, length, map, None, Ok, ⊤}
 use Rattle.io_traits.specs.Folders.{Content}
 use Rattle.io_traits.specs.Reads.{bytes_of}
-use Rattle.queue_page.specs.Views.{BlockView}
+use Rattle.queue_page.specs.Views.{PageBufferView}
 use Rattle.queue_page.specs.declared.row.PageRow.{PageRow}
 use Rattle.queue_laws.specs.Folders.{page, names_in}
 use Rattle.queue_laws.specs.Found.{Row}
@@ -13,10 +13,10 @@ use Rattle.persistent_queue.specs.NextBatch.{StandsAt, unread_rows_in}
 use Rattle.persistent_queue.specs.Opens.{ArePagesOf, IsOfFiles, IsPageOf}
 use Rattle.persistent_queue.specs.Taking.{Stand, all_pages, batch_bytes, batch_of, begun, behind_take, rows_taken}
 use Rattle.persistent_queue.specs.Unread.{told, taken}
-use Rattle.persistent_queue.specs.Views.{OpenPage, CursorView, QueueView}
+use Rattle.persistent_queue.specs.Views.{OpenPageView, CursorView, QueueView}
 
 -- each page has the name of its number
-abbrev pub AreNamed : List ℕ → List OpenPage → Type 0
+abbrev pub AreNamed : List ℕ → List OpenPageView → Type 0
 AreNamed folder [] = ⊤
 AreNamed folder (o ∷ pages) = (o.file ≡ names_in folder (page o.number)) × AreNamed folder pages
 
@@ -34,7 +34,7 @@ abbrev pub page_rows : Queue → List (List PageRow)
 page_rows q = map (λ (p : Page). p.rows) q.tails ++ q.top.rows ∷ []
 
 -- the next row stands where the cursor says, if its page is among these
-abbrev pub CursorStands : Content → CursorView → List OpenPage → List (List PageRow) → Type 0
+abbrev pub CursorStands : Content → CursorView → List OpenPageView → List (List PageRow) → Type 0
 CursorStands content c [] rows = ⊤
 CursorStands content c (o ∷ pages) [] = ⊤
 CursorStands content c (o ∷ pages) (rows ∷ others) = (c.page ≡ o.number → StandsAt o rows (bytes_of (content o.file)) c.number c.place) × CursorStands content c pages others
@@ -51,5 +51,5 @@ abbrev pub FirstRowsAreTaken : Type 0
 FirstRowsAreTaken =
     (most : ℕ) (content : Content) (v : QueueView) (q : Queue) (rows : List Row) → IsRead content v q → AreUnread content v q rows
     → (s : Stand) × (rest : List Row) × (rows_taken most content v ≡ Ok s) × (map told s.reading.rows ≡ taken batch_bytes most None rows) × (map told s.reading.rows ++ rest ≡ rows)
-    × ((block : BlockView) → AreUnread content (behind_take block s v) q rest)
+    × ((block : PageBufferView) → AreUnread content (behind_take block s v) q rest)
     × (1 ≤ most → batch_of s.reading ≡ None → rows ≡ [])

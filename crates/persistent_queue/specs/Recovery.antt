@@ -6,7 +6,7 @@ use Rattle.queue_laws.specs.Folders.{Folder, names_in}
 use Rattle.queue_laws.specs.Kept.{Queue, Kept, RowsKept, all_rows}
 use Rattle.queue_core.specs.Collected.{IsNoDamage}
 use Rattle.queue_core.specs.Marks.{read_in}
-use Rattle.queue_core.specs.declared.opening.Opened.{Opened}
+use Rattle.queue_core.specs.declared.opening.OpenedQueue.{OpenedQueue}
 use Rattle.persistent_queue.specs.Opening.{FindsQueue, OpensAs}
 use Rattle.persistent_queue.specs.Views.{QueueView}
 use Rattle.persistent_queue.specs.declared.limits.Limits.{Limits}
@@ -26,4 +26,4 @@ module _ {S : Type 0} (store : StoreWords S) where
   -- queue again.
   pub record WhatIsKeptIsOpened : Type 0 where
     pub undamaged : (folder : List ℕ) (limits : Limits) (q : Queue) (f : Folder) (result : Result QueueView QueueFault) → Kept q f → FindsQueue folder limits f result → IsUndamaged result
-    pub again : (v : QueueView) (o : Opened) (old new : S) (q : Queue) → Kept q (read_in (names_in v.folder) (store.seen old)) → (made : OpensAs store v o old new) → OpensAgain q made.queue
+    pub again : (v : QueueView) (o : OpenedQueue) (old new : S) (q : Queue) → Kept q (read_in (names_in v.folder) (store.seen old)) → (made : OpensAs store v o old new) → OpensAgain q made.queue

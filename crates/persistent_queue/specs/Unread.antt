@@ -8,7 +8,7 @@ use Rattle.queue_page.specs.declared.row.PageRow.{PageRow}
 use Rattle.queue_laws.specs.Found.{Row, since}
 use Rattle.persistent_queue.specs.Batching.{with_more, is_over, rows_read}
 use Rattle.persistent_queue.specs.declared.page_rows.QueueRow.{QueueRow}
-use Rattle.persistent_queue.specs.declared.page_rows.Reading.{Reading}
+use Rattle.persistent_queue.specs.declared.page_rows.BatchReader.{BatchReader}
 
 abbrev pub told : QueueRow → Row
 told r = record { number = r.number; origin = r.origin; event = r.event }
@@ -29,13 +29,13 @@ taken most (suc count) bytes [] = []
 taken most (suc count) bytes (row ∷ rows) = taken_with (with_more most bytes (body_size row)) row (λ b. taken most count b rows)
 
 -- The same of further rows, behind those that were read.
-abbrev pub taken_on : Reading → List Row → List Row
+abbrev pub taken_on : BatchReader → List Row → List Row
 taken_on r rows = if r.closed then [] else taken r.most_bytes (r.most_rows - length r.rows) r.bytes rows
 
 -- What was read of a page whose next rows are these, and where the next row stands then: so many of them were read, and the others stand from there on. What
 -- the batch got of them, with those that are left, is all of them. A batch of these rows and further ones has those that it has now, and as many of the further
 -- ones as it may then; while it isn't over, none of these is left.
-pub record IsReadOn (p : PageView) (from : ℕ) (file : List ℕ) (rows : List PageRow) (r next : Reading) : Type 0 where
+pub record IsReadOn (p : PageView) (from : ℕ) (file : List ℕ) (rows : List PageRow) (r next : BatchReader) : Type 0 where
   pub count : ℕ
   pub few : count ≤ length rows
   pub number : next.number ≡ r.number + count
@@ -51,7 +51,7 @@ pub record IsReadOn (p : PageView) (from : ℕ) (file : List ℕ) (rows : List P
 -- as many as the batch may have; and the next row is the one behind them.
 abbrev pub NextRowsAreRead : Type 0
 NextRowsAreRead =
-    (name : List ℕ) (p : PageView) (from : ℕ) (file : List ℕ) (rows : List PageRow) (r : Reading) → r.closed ≡ false → p.state.length ≤ length file → r.place ≤ p.state.length
+    (name : List ℕ) (p : PageView) (from : ℕ) (file : List ℕ) (rows : List PageRow) (r : BatchReader) → r.closed ≡ false → p.state.length ≤ length file → r.place ≤ p.state.length
     → AreElements p.version r.number r.place rows (left_of file r.place p.state.length)
-    → (next : Reading) × (rows_read name p from file (length rows) r ≡ Ok next) × (map told next.rows ≡ map told r.rows ++ taken r.most_bytes (r.most_rows - length r.rows) r.bytes (since from rows))
+    → (next : BatchReader) × (rows_read name p from file (length rows) r ≡ Ok next) × (map told next.rows ≡ map told r.rows ++ taken r.most_bytes (r.most_rows - length r.rows) r.bytes (since from rows))
     × IsReadOn p from file rows r next

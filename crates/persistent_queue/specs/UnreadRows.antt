@@ -6,24 +6,24 @@ use Rattle.element_code.specs.declared.row.Origin.TheVariants.{Id}
 use Rattle.queue_laws.specs.Found.{Row}
 use Rattle.queue_laws.specs.Kept.{Queue, all_rows}
 use Rattle.queue_laws.specs.Steps.{marked}
-use Rattle.queue_core.specs.declared.opening.Opened.{Opened}
+use Rattle.queue_core.specs.declared.opening.OpenedQueue.{OpenedQueue}
 use Rattle.persistent_queue.specs.Acknowledging.{acknowledged}
 use Rattle.persistent_queue.specs.Calls.{behind_acknowledge, behind_mark, behind_purge, end_of, first_open}
 use Rattle.persistent_queue.specs.Opening.{queue_opened, OpensAs}
 use Rattle.persistent_queue.specs.Opens.{Becomes, Opens, purged}
 use Rattle.persistent_queue.specs.QueueBatches.{AreNamed, AreUnread, IsRead}
 use Rattle.persistent_queue.specs.Taking.{all_pages}
-use Rattle.persistent_queue.specs.Views.{OpenPage, CursorView, QueueView}
+use Rattle.persistent_queue.specs.Views.{OpenPageView, CursorView, QueueView}
 use Rattle.persistent_queue.specs.Writing.{behind_write, frame_size, needs_page, with_written}
 use Rattle.persistent_queue.specs.declared.limits.Limits.{Limits}
 use Rattle.persistent_queue.specs.declared.limits.Numbers.{Numbers}
 
 -- the number of the first row of a page that isn't given, unless all of them are
-abbrev pub next_in : CursorView → OpenPage → ℕ
+abbrev pub next_in : CursorView → OpenPageView → ℕ
 next_in c o = if o.number == c.page then c.number else o.page.state.least
 
 -- Of each page the rows that are acknowledged from the first on were given, or are recorded: a mark passes over none that is unread.
-abbrev pub AreGiven : CursorView → List OpenPage → Type 0
+abbrev pub AreGiven : CursorView → List OpenPageView → Type 0
 AreGiven c [] = ⊤
 AreGiven c (o ∷ pages) = ((o.number < c.page) ⊎ ((first_open o ≤ o.from) ⊎ (first_open o ≤ next_in c o))) × AreGiven c pages
 
@@ -42,7 +42,7 @@ module _ {S : Type 0} (store : StoreWords S) where
   -- that were recorded as acknowledged.
   pub record OpenedRowsAreUnread : Type 0 where
     pub reads : (v : QueueView) (q : Queue) (rows : List Row) (s : S) → IsTrue store.tells → HasUnread v q rows s → IsRead (store.seen s) v q
-    pub opened : (folder : List ℕ) (limits : Limits) (o : Opened) (old new : S) → IsTrue store.tells → (made : OpensAs store (queue_opened folder limits o) o old new)
+    pub opened : (folder : List ℕ) (limits : Limits) (o : OpenedQueue) (old new : S) → IsTrue store.tells → (made : OpensAs store (queue_opened folder limits o) o old new)
         → HasUnread (queue_opened folder limits o) made.queue (all_rows made.queue.tails made.queue.top) new
 
   -- An acknowledgement leaves all unread rows unread.
@@ -69,6 +69,6 @@ module _ {S : Type 0} (store : StoreWords S) where
 
   -- So it is of a queue that was opened, and of one of which all is recorded: no acknowledged row is unread unless that is recorded.
   pub record AllAreGiven : Type 0 where
-    pub opened : (folder : List ℕ) (limits : Limits) (o : Opened) (old new : S) → OpensAs store (queue_opened folder limits o) o old new
+    pub opened : (folder : List ℕ) (limits : Limits) (o : OpenedQueue) (old new : S) → OpensAs store (queue_opened folder limits o) o old new
         → AreGiven (queue_opened folder limits o).cursor (all_pages (queue_opened folder limits o))
     pub marked : (v : QueueView) → AreGiven v.cursor (all_pages (behind_mark v))

@@ -1,11 +1,11 @@
 -- A queue that is open, as contracts see it.
 use Rattle.std.specs.Prelude.{ℕ, Bool, List}
-use Rattle.queue_page.specs.Views.{PageView, BlockView}
+use Rattle.queue_page.specs.Views.{PageView, PageBufferView}
 use Rattle.persistent_queue.specs.declared.limits.Limits.{Limits}
 
 -- A page of a queue that is open: its number, the path of its file, and how that stands; which of its rows are acknowledged; and the first number that wasn't when that
 -- was last recorded, with the turn of the slot in which it was.
-pub record OpenPage : Type 0 where
+pub record OpenPageView : Type 0 where
   pub number : ℕ
   pub file : List ℕ
   pub page : PageView
@@ -19,15 +19,15 @@ pub record CursorView : Type 0 where
   pub page : ℕ
   pub number : ℕ
   pub place : ℕ
-  pub block : BlockView
+  pub block : PageBufferView
 
 pub record QueueView : Type 0 where
   -- the folder, whose path ends with a slash
   pub folder : List ℕ
   pub limits : Limits
   -- the pages below the head in rising order, and the head page
-  pub tails : List OpenPage
-  pub top : OpenPage
+  pub tails : List OpenPageView
+  pub top : OpenPageView
   -- how many rows weren't given yet, and the first of them
   pub unread : ℕ
   pub cursor : CursorView

@@ -18,7 +18,7 @@ use Rattle.queue_core.specs.declared.marking.Mark.{Mark}
 use Rattle.queue_core.specs.declared.rolling.NextPage.{NextPage}
 use Rattle.persistent_queue.specs.Calls.{behind_mark, bytes_in, checkpoints, end_of, first_open, marks_of, state_of, with_recorded}
 use Rattle.persistent_queue.specs.Opens.{Becomes, IsReady, Opens}
-use Rattle.persistent_queue.specs.Views.{OpenPage, QueueView}
+use Rattle.persistent_queue.specs.Views.{OpenPageView, QueueView}
 
 -- ---- what is known before anything is written
 
@@ -27,11 +27,11 @@ abbrev pub frame_size : List ℕ → Ev → ℕ
 frame_size origin event = 20 + length origin + event_size event
 
 -- So many bytes more have no room in a page: a file has fewer than 2^64, and a page has no more than it may, unless it has a single row.
-unfoldable pub has_no_room : ℕ → ℕ → OpenPage → Bool
+unfoldable pub has_no_room : ℕ → ℕ → OpenPageView → Bool
 has_no_room capacity size o = nat_lt (2 ^ 64 - 1) (o.page.state.length + size) || (not (o.page.state.count == 0) && nat_lt capacity (o.page.state.length + size))
 
 -- A page takes no row more: it is of version 1, it has 2^32 - 1 rows, or its checkpoint says that rows which it doesn't have yet are acknowledged.
-unfoldable pub is_closed : OpenPage → Bool
+unfoldable pub is_closed : OpenPageView → Bool
 is_closed o = not (o.page.version == 2) || (o.page.state.count == 2 ^ 32 - 1) || nat_lt (end_of o) o.from
 
 -- a row of so many bytes needs a new page
@@ -39,17 +39,17 @@ abbrev pub needs_page : ℕ → QueueView → Bool
 needs_page size v = is_closed v.top || has_no_room v.limits.page_capacity size v.top
 
 -- there is no number for the row, or none for the page that it needs
-unfoldable pub is_spent_with : Bool → OpenPage → Bool
+unfoldable pub is_spent_with : Bool → OpenPageView → Bool
 is_spent_with needed top = (end_of top == 2 ^ 63 - 1) || (needed && not (nat_lt (suc top.number) (2 ^ 32 - 1)))
 
 abbrev pub numbers_spent : ℕ → QueueView → Bool
 numbers_spent size v = is_spent_with (needs_page size v) v.top
 
 -- a row of a page isn't acknowledged
-abbrev pub is_open : OpenPage → Bool
+abbrev pub is_open : OpenPageView → Bool
 is_open o = nat_lt (first_open o) (end_of o)
 
-abbrev pub some_open : List OpenPage → Bool
+abbrev pub some_open : List OpenPageView → Bool
 some_open [] = false
 some_open (o ∷ tails) = is_open o || some_open tails
 
@@ -70,7 +70,7 @@ is_full size v = is_full_with (needs_page size v) size v
 -- ---- a row in the head page
 
 -- a page with a row more, of so many bytes, which isn't acknowledged
-abbrev pub with_open_row : ℕ → OpenPage → OpenPage
+abbrev pub with_open_row : ℕ → OpenPageView → OpenPageView
 with_open_row size o = record o { page = with_element o.page size; acknowledged = o.acknowledged ++ false ∷ [] }
 
 -- the row isn't given yet; where it is the first of these, it stands where the next one is wanted
@@ -80,11 +80,11 @@ behind_append size v = record v { top = with_open_row size v.top; unread = min (
 -- ---- a new head page
 
 -- how the page behind another stands when it is begun
-abbrev pub next_state : OpenPage → PageState
+abbrev pub next_state : OpenPageView → PageState
 next_state o = record { page = suc o.number; first_open = end_of o; least = end_of o; count = 0; length = 1 }
 
 -- the page behind the head page, which has version 2 and no rows
-abbrev pub next_top : List ℕ → OpenPage → OpenPage
+abbrev pub next_top : List ℕ → OpenPageView → OpenPageView
 next_top folder o = record {
   number = suc o.number;
   file = names_in folder (page (suc o.number));
@@ -95,14 +95,14 @@ next_top folder o = record {
 }
 
 -- the head page when it is one below the head
-abbrev pub sealed : OpenPage → OpenPage
+abbrev pub sealed : OpenPageView → OpenPageView
 sealed o = record o { turn = 0 }
 
 abbrev pub behind_roll : QueueView → QueueView
 behind_roll v = record v { tails = v.tails ++ sealed v.top ∷ []; top = next_top v.folder v.top }
 
 -- what is to be written for the page behind a head page of which all is recorded
-abbrev pub next_page : List ℕ → OpenPage → NextPage
+abbrev pub next_page : List ℕ → OpenPageView → NextPage
 next_page folder o = record {
   checkpoint = names_in folder (checkpoint o.number);
   sealed = state_of o;
@@ -146,12 +146,12 @@ pub record HasFrame (number : ℕ) (frame : List ℕ) : Type 0 where
   pub is : IsFrame number origin event frame
 
 -- a page takes rows, so far as they have room, and one of so many bytes
-pub record IsOpenTo (o : OpenPage) : Type 0 where
+pub record IsOpenTo (o : OpenPageView) : Type 0 where
   pub version : o.page.version ≡ 2
   pub few : o.page.state.count < 2 ^ 32 - 1
   pub recorded : o.from ≤ end_of o
 
-pub record TakesRow (size : ℕ) (o : OpenPage) : Type 0 where
+pub record TakesRow (size : ℕ) (o : OpenPageView) : Type 0 where
   pub version : o.page.version ≡ 2
   pub few : o.page.state.count < 2 ^ 32 - 1
   pub recorded : o.from ≤ end_of o

@@ -1,3 +1,4 @@
+// Which rows of a page are acknowledged, as a list of bits.
 ghost use Rattle.std.specs.Prelude.{◌≡◌, ◌≤◌, ◌<◌, ◌^◌, ◌++◌, ◌∷◌, [], false, length, replicate, List, Bool, IfOk, OnOk, OnErr};
 ghost use Rattle.queue_laws.specs.Kept.{leading};
 ghost use Rattle.persistent_queue.specs.Bits.{with_range};

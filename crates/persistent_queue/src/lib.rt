@@ -3,7 +3,7 @@
 #![tactic(auto)]
 
 mod acknowledged;
-mod batching;
+mod batch;
 pub mod laws;
 mod limits;
 mod marking;
@@ -18,8 +18,8 @@ mod words;
 mod writing;
 
 pub use acknowledged::Acknowledged;
-pub use batching::Batch;
+pub use batch::Batch;
 pub use limits::{Limits, Numbers};
-pub use page_rows::{QueueRow, Reading};
+pub use page_rows::{BatchReader, QueueRow};
 pub use queue::Queue;
 pub use writing::WriteFault;

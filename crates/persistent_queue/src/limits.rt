@@ -1,3 +1,4 @@
+// The limits of a queue's bytes, and ranges of row numbers.
 /// How large the pages of a queue, and a queue as a whole, may become.
 #[derive(Clone, Copy)]
 pub struct Limits {

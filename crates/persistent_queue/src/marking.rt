@@ -3,11 +3,11 @@ ghost use Rattle.std.specs.Prelude.{◌≡◌, ◌+◌, true, length, map};
 ghost use Rattle.persistent_queue.specs.Calls.{mark_of, marks_of, tail_marks, with_acknowledged, with_marked};
 
 use crate::limits::Numbers;
-use crate::pages::HeldPage;
+use crate::pages::OpenPage;
 use queue_core::Mark;
 
 /// The rows of these numbers are acknowledged in all pages below the head.
-pub(crate) fn acknowledge_all(tails: &mut Vec<HeldPage>, numbers: Numbers)
+pub(crate) fn acknowledge_all(tails: &mut Vec<OpenPage>, numbers: Numbers)
     ensures { tails.new.items ≡ map (with_acknowledged numbers) tails.old.items }
 {
     for place in 0..tails.len() {
@@ -16,7 +16,7 @@ pub(crate) fn acknowledge_all(tails: &mut Vec<HeldPage>, numbers: Numbers)
 }
 
 /// What is to be recorded of each page, in the marks of those below the head and of the head page.
-pub(crate) fn set_marks(marks: &mut Vec<Mark>, tails: &[HeldPage], top: &HeldPage)
+pub(crate) fn set_marks(marks: &mut Vec<Mark>, tails: &[OpenPage], top: &OpenPage)
     requires { length marks.old.items ≡ length tails.now + 1 }
     ensures { marks.new.items ≡ marks_of tails.now top.now marks.old.items }
 {
@@ -26,7 +26,7 @@ pub(crate) fn set_marks(marks: &mut Vec<Mark>, tails: &[HeldPage], top: &HeldPag
 }
 
 /// What is to be recorded of pages below the head, in the first marks.
-fn set_tails(marks: &mut Vec<Mark>, tails: &[HeldPage])
+fn set_tails(marks: &mut Vec<Mark>, tails: &[OpenPage])
     requires { length marks.old.items ≡ length tails.now + 1 }
     ensures { marks.new.items ≡ tail_marks tails.now marks.old.items }
 {
@@ -37,7 +37,7 @@ fn set_tails(marks: &mut Vec<Mark>, tails: &[HeldPage])
 }
 
 /// What is to be recorded of a page, in its mark.
-fn set_mark(mark: &mut Mark, page: &HeldPage, due: bool)
+fn set_mark(mark: &mut Mark, page: &OpenPage, due: bool)
     ensures { mark.new ≡ mark_of page.now due mark.old }
 {
     mark.turn = page.turn.wrapping_add(1);
@@ -46,7 +46,7 @@ fn set_mark(mark: &mut Mark, page: &HeldPage, due: bool)
 }
 
 /// What is acknowledged in pages below the head was recorded.
-pub(crate) fn mark_all(tails: &mut Vec<HeldPage>)
+pub(crate) fn mark_all(tails: &mut Vec<OpenPage>)
     ensures { tails.new.items ≡ map with_marked tails.old.items }
 {
     for place in 0..tails.len() {

@@ -13,17 +13,19 @@ ghost use Rattle.queue_core.specs.Opening.{AllBounded};
 ghost use Rattle.persistent_queue.specs.Calls.{tail_bytes, tail_checkpoints};
 ghost use Rattle.persistent_queue.specs.Opening.{cursor_at, first_of, page_opened, queue_opened, queue_with, tails_opened, unread_in, unread_of, FindsQueue, OpensFolder};
 ghost use Rattle.persistent_queue.specs.Opens.{IsReady};
-ghost use Rattle.persistent_queue.specs.Views.{OpenPage};
+ghost use Rattle.persistent_queue.specs.Views.{OpenPageView};
 
 use crate::acknowledged::Acknowledged;
-use crate::batching::Cursor;
+use crate::batch::Cursor;
 use crate::limits::{Limits, Numbers};
-use crate::pages::HeldPage;
+use crate::pages::OpenPage;
 use crate::queue::Queue;
 use crate::writing::count_bytes;
 use plain_data::{Items, Text};
-use queue_core::{Mark, Opened, Tail, checkpoint_name, head_name, open_folder, page_name};
-use queue_page::{BLOCK_LEN, Block, Page};
+use queue_core::{
+    Mark, OpenedQueue, SealedPage, checkpoint_name, head_name, open_folder, page_name,
+};
+use queue_page::{BLOCK_LEN, Page, PageBuffer};
 use std::alloc::{AllocError, Global};
 use store_disk::{PageState, QueueFault, Store};
 
@@ -73,7 +75,7 @@ fn queue_of(
     alloc: Global,
     folder: &str,
     limits: Limits,
-    opened: &Opened,
+    opened: &OpenedQueue,
 ) -> Result<Queue, AllocError>
     requires { AreStated opened.now.state opened.now.pages }
     ensures { IfOk result (λ queue. queue ≡ queue_opened folder.now limits opened.now) }
@@ -93,12 +95,12 @@ fn with_pages(
     alloc: Global,
     folder: &str,
     limits: Limits,
-    tails: Vec<HeldPage>,
-    top: HeldPage,
+    tails: Vec<OpenPage>,
+    top: OpenPage,
     marks: Vec<Mark>,
 ) -> Result<Queue, AllocError>
-    requires files { map (λ (o : OpenPage). o.file) tails.items
-        ≡ map (λ (o : OpenPage). names_in folder.now (page o.number)) tails.items }
+    requires files { map (λ (o : OpenPageView). o.file) tails.items
+        ≡ map (λ (o : OpenPageView). names_in folder.now (page o.number)) tails.items }
     requires file { top.file ≡ names_in folder.now (page top.number) }
     requires marks { map (λ m. m.file) marks.items
         ≡ tail_checkpoints folder.now tails.items ++ names_in folder.now head ∷ [] }
@@ -125,7 +127,7 @@ fn with_pages(
 fn new_marks(
     alloc: Global,
     folder: &str,
-    tails: &[Tail],
+    tails: &[SealedPage],
     turn: u64,
     state: PageState,
 ) -> Result<Vec<Mark>, AllocError>
@@ -145,7 +147,7 @@ fn new_marks(
 }
 
 /// A mark for each checkpoint of the pages below the head.
-fn tail_marks(alloc: Global, folder: &str, tails: &[Tail]) -> Result<Vec<Mark>, AllocError>
+fn tail_marks(alloc: Global, folder: &str, tails: &[SealedPage]) -> Result<Vec<Mark>, AllocError>
     ensures { IfOk result (λ marks. map (λ m. m.file) marks.items
         ≡ map (λ t. names_in folder.now (checkpoint t.number)) tails.now) }
 {
@@ -166,9 +168,9 @@ fn tail_marks(alloc: Global, folder: &str, tails: &[Tail]) -> Result<Vec<Mark>, 
 fn held_pages(
     alloc: Global,
     folder: &str,
-    tails: &[Tail],
+    tails: &[SealedPage],
     pages: &[Page],
-) -> Result<Vec<HeldPage>, AllocError>
+) -> Result<Vec<OpenPage>, AllocError>
     requires states { map (λ t. t.state) tails.now ≡ map (λ (p : PageView). p.state) pages.now }
     requires bounded { AllBounded tails.now }
     ensures { IfOk result (λ held. held.items ≡ tails_opened folder.now tails.now pages.now) }
@@ -191,13 +193,13 @@ fn held_page(
     turn: u64,
     first_open: u64,
     page: Page,
-) -> Result<HeldPage, AllocError>
+) -> Result<OpenPage, AllocError>
     requires { page.state.least + page.state.count ≤ 2 ^ 63 - 1 }
     ensures { IfOk result (λ held. held ≡ page_opened folder.now number turn first_open page) }
 {
     let file = page_name(alloc, folder, number)?;
     let acknowledged = Acknowledged::none_of(alloc, page.state().count as usize)?;
-    let mut held = HeldPage {
+    let mut held = OpenPage {
         number,
         file,
         page,
@@ -213,10 +215,10 @@ fn held_page(
 }
 
 /// The place of the first row of the first page.
-fn first_row(alloc: Global, tails: &[HeldPage], top: &HeldPage) -> Result<Cursor, AllocError>
+fn first_row(alloc: Global, tails: &[OpenPage], top: &OpenPage) -> Result<Cursor, AllocError>
     ensures { IfOk result (λ cursor. cursor ≡ cursor_at (first_of tails.now top.now)) }
 {
-    let block = Block::new(alloc, BLOCK_LEN)?;
+    let block = PageBuffer::new(alloc, BLOCK_LEN)?;
     match tails.first() {
         Some(first) => Ok(row_of(alloc, first, block)),
         None => Ok(row_of(alloc, top, block)),
@@ -224,7 +226,7 @@ fn first_row(alloc: Global, tails: &[HeldPage], top: &HeldPage) -> Result<Cursor
 }
 
 /// The place of the first row of a page, of which nothing was read yet.
-fn row_of(alloc: Global, page: &HeldPage, block: Block) -> Cursor
+fn row_of(alloc: Global, page: &OpenPage, block: PageBuffer) -> Cursor
     requires { block ≡ record { place = 0; bytes = [] } }
     ensures { result ≡ cursor_at page.now }
 {
@@ -238,14 +240,14 @@ fn row_of(alloc: Global, page: &HeldPage, block: Block) -> Cursor
 }
 
 /// How many bytes all pages have.
-fn bytes_in(tails: &[HeldPage], top: &HeldPage) -> u128
+fn bytes_in(tails: &[OpenPage], top: &OpenPage) -> u128
     ensures { result ≡ tail_bytes tails.now + top.now.page.state.length }
 {
     count_bytes(tails) + u128::from(top.page.state().length)
 }
 
 /// How many rows of all pages aren't acknowledged.
-fn unread_in(tails: &[HeldPage], top: &HeldPage) -> u64
+fn unread_in(tails: &[OpenPage], top: &OpenPage) -> u64
     requires { unread_in tails.now + unread_of top.now < 2 ^ 64 }
     ensures { result ≡ unread_in tails.now + unread_of top.now }
 {
@@ -257,7 +259,7 @@ fn unread_in(tails: &[HeldPage], top: &HeldPage) -> u64
 }
 
 /// How many rows of a page come from the first on that isn't acknowledged.
-fn unread_of(page: &HeldPage) -> u64
+fn unread_of(page: &OpenPage) -> u64
     ensures { result ≡ unread_of page.now }
 {
     page.end() - page.first_open()

@@ -9,7 +9,7 @@ ghost use Rattle.persistent_queue.specs.Batching.{given, with_more, is_over, beh
 use element_code::Origin;
 use event_tree::Event;
 use plain_data::Items;
-use queue_page::{Block, Page, PageRow};
+use queue_page::{Page, PageBuffer, PageRow};
 use std::alloc::{AllocError, Global};
 use std::mem;
 use store_disk::{QueueFault, Store};
@@ -30,7 +30,7 @@ pub struct QueueRow {
 
 /// Rows of a page that are read for a batch, and the place of the next row.
 #[derive(Drop)]
-pub struct Reading {
+pub struct BatchReader {
     /// How many rows the batch may have.
     pub most_rows: usize,
     /// How many bytes the bodies of its rows may have together, unless it has a single row.
@@ -82,7 +82,7 @@ fn end_of(page: &Page) -> u64
     page.state().least + u64::from(page.state().count)
 }
 
-impl Reading {
+impl BatchReader {
     /// No rows yet, where the next one has this number and stands at this place of its page. They come into this
     /// room, whose rows go.
     pub fn new(
@@ -91,7 +91,7 @@ impl Reading {
         most_bytes: u64,
         number: u64,
         place: u64,
-    ) -> Reading
+    ) -> BatchReader
         ensures { result ≡ record {
           most_rows = most_rows;
           most_bytes = most_bytes;
@@ -103,7 +103,7 @@ impl Reading {
         } }
     {
         room.clear();
-        Reading {
+        BatchReader {
             most_rows,
             most_bytes,
             number,
@@ -135,7 +135,7 @@ impl Reading {
         name: &str,
         page: &Page,
         from: u64,
-        block: &mut Block,
+        block: &mut PageBuffer,
     ) -> Result<(), QueueFault>
         requires { page.now.state.least + page.now.state.count < 2 ^ 64 }
         ensures rows { OnFile S.Store store.old name.now block.old (λ file.

@@ -11,7 +11,7 @@ use store_disk::PageState;
 
 /// A page of a queue that is open. Its rows are in its file alone.
 #[derive(Drop)]
-pub(crate) struct HeldPage {
+pub(crate) struct OpenPage {
     /// The number of the page.
     pub(crate) number: u32,
     /// The path of its file.
@@ -26,11 +26,11 @@ pub(crate) struct HeldPage {
     pub(crate) turn: u64,
 }
 
-impl Model for HeldPage {
+impl Model for OpenPage {
     ghost use Rattle.persistent_queue.specs.Calls.{IsHeldPage};
-    ghost use Rattle.persistent_queue.specs.Views.{OpenPage};
+    ghost use Rattle.persistent_queue.specs.Views.{OpenPageView};
 
-    ghost Value = { OpenPage };
+    ghost Value = { OpenPageView };
 
     ghost view = { λ p. record {
       number = p.number;
@@ -51,7 +51,7 @@ impl Model for HeldPage {
     }) };
 }
 
-impl HeldPage {
+impl OpenPage {
     /// The rows of these numbers are acknowledged, so far as they are its own. It takes no memory.
     pub(crate) fn acknowledge(&mut self, numbers: Numbers)
         ensures { self.new ≡ with_acknowledged numbers self.old }

@@ -2,10 +2,10 @@
 ghost use Rattle.std.specs.Prelude.{◌≡◌};
 ghost use Rattle.persistent_queue.specs.Calls.{spent_from};
 
-use crate::pages::HeldPage;
+use crate::pages::OpenPage;
 
 /// The place of the first page that is recorded as wholly acknowledged.
-pub(crate) fn first_spent(tails: &[HeldPage]) -> Option<usize>
+pub(crate) fn first_spent(tails: &[OpenPage]) -> Option<usize>
     ensures { result ≡ spent_from 0 tails.now }
 {
     for place in 0..tails.len() {

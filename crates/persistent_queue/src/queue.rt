@@ -1,3 +1,4 @@
+// The queue: its pages, its cursor and what is acknowledged.
 ghost use Rattle.std.specs.Prelude.{◌≡◌, ◌-◌, IsErr, IfOk, OnOk, OnErr};
 ghost use Rattle.io_traits.specs.Counts.{HasCause};
 ghost use Rattle.store_trait.specs.Moments.{EachMoment, LeavesBeside, ReadsBeside};
@@ -6,10 +7,10 @@ ghost use Rattle.queue_laws.specs.Steps.{marked};
 ghost use Rattle.persistent_queue.specs.Calls.{behind_acknowledge, behind_mark, behind_purge, first_spent, last_number};
 ghost use Rattle.persistent_queue.specs.Opens.{Becomes, IsReady, KeepsQueue, purged};
 
-use crate::batching::Cursor;
+use crate::batch::Cursor;
 use crate::limits::{Limits, Numbers};
 use crate::marking::{acknowledge_all, mark_all, set_marks};
-use crate::pages::HeldPage;
+use crate::pages::OpenPage;
 use crate::purging::first_spent;
 use plain_data::Text;
 use queue_core::{Mark, mark_pages, remove_page};
@@ -23,9 +24,9 @@ pub struct Queue {
     pub(crate) folder: Text,
     pub(crate) limits: Limits,
     /// The pages below the head, in rising order.
-    pub(crate) tails: Vec<HeldPage>,
+    pub(crate) tails: Vec<OpenPage>,
     /// The head page, to which rows are appended.
-    pub(crate) top: HeldPage,
+    pub(crate) top: OpenPage,
     /// The checkpoint of each page below the head, and behind them that of the head page: their paths, and
     /// room for what is recorded next.
     pub(crate) marks: Vec<Mark>,

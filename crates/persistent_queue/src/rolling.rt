@@ -8,7 +8,7 @@ ghost use Rattle.persistent_queue.specs.Calls.{with_recorded};
 ghost use Rattle.persistent_queue.specs.Views.{QueueView};
 ghost use Rattle.persistent_queue.specs.Writing.{next_page, BeginAdds, BeginKeeps, IsBegin};
 
-use crate::pages::HeldPage;
+use crate::pages::OpenPage;
 use queue_core::{
     Mark, NextPage, add_row, begin_page, checkpoint_name, head_name, mark_pages, page_name,
 };
@@ -17,7 +17,7 @@ use std::alloc::{AllocError, Global};
 use store_disk::{Failed, PageState, Store};
 
 /// What is to be written for the page behind the head page, once all is recorded.
-pub(crate) fn next_page(alloc: Global, folder: &str, top: &HeldPage) -> Result<NextPage, AllocError>
+pub(crate) fn next_page(alloc: Global, folder: &str, top: &OpenPage) -> Result<NextPage, AllocError>
     requires { suc top.now.number < 2 ^ 32 - 1 }
     ensures { IfOk result (λ next. next ≡ next_page folder.now (with_recorded top.now)) }
 {

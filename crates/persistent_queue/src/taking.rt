@@ -11,13 +11,13 @@ ghost use Rattle.persistent_queue.specs.Batching.{Finds};
 ghost use Rattle.persistent_queue.specs.Opens.{Becomes, IsOfFiles, IsReady, KeepsQueue};
 ghost use Rattle.persistent_queue.specs.Taking.{stand, entered, is_passed, page_read, pages_read, begun, batch_of, rows_in, AreThere, GivesNextRows, HasSameNext, IsSameButNext, WasRead};
 
-use crate::batching::{Batch, Cursor};
+use crate::batch::{Batch, Cursor};
 use crate::limits::Numbers;
-use crate::page_rows::{QueueRow, Reading};
-use crate::pages::HeldPage;
+use crate::page_rows::{BatchReader, QueueRow};
+use crate::pages::OpenPage;
 use crate::queue::Queue;
 use plain_data::Items;
-use queue_page::{BLOCK_LEN, Block};
+use queue_page::{BLOCK_LEN, PageBuffer};
 use std::alloc::{AllocError, Global};
 use std::mem;
 use store_disk::{QueueFault, Store};
@@ -32,7 +32,7 @@ const MOST_ROOM: usize = 1024;
 const FIRST_PLACE: u64 = 1;
 
 /// Whether nothing is read of a page for a batch, where the next row stands in the page of this number.
-fn is_passed(held: &HeldPage, page: u32, reading: &Reading) -> bool
+fn is_passed(held: &OpenPage, page: u32, reading: &BatchReader) -> bool
     ensures { result ≡ is_passed held.now (stand page reading.now) }
 {
     held.number < page || held.is_spent() || reading.is_over()
@@ -41,10 +41,10 @@ fn is_passed(held: &HeldPage, page: u32, reading: &Reading) -> bool
 /// Goes to the first row of a page, unless the next row stands in it. Where there is no memory, all stays.
 fn enter(
     alloc: Global,
-    held: &HeldPage,
+    held: &OpenPage,
     page: &mut u32,
-    block: &mut Block,
-    reading: &mut Reading,
+    block: &mut PageBuffer,
+    reading: &mut BatchReader,
 ) -> Result<(), AllocError>
     ensures page { IfOk result (λ _. page.new ≡ held.now.number) }
     ensures reading { IfOk result (λ _.
@@ -53,7 +53,7 @@ fn enter(
         → (page.old ≡ held.now.number → IsPart file block.old) → IsPart file block.new) }
 {
     if held.number != *page {
-        *block = Block::new(alloc, BLOCK_LEN)?;
+        *block = PageBuffer::new(alloc, BLOCK_LEN)?;
         *page = held.number;
         reading.number = held.page.state().least;
         reading.place = FIRST_PLACE;
@@ -66,10 +66,10 @@ fn enter(
 fn read_one<S: Store>(
     alloc: Global,
     store: &mut S,
-    held: &HeldPage,
+    held: &OpenPage,
     page: &mut u32,
-    block: &mut Block,
-    reading: &mut Reading,
+    block: &mut PageBuffer,
+    reading: &mut BatchReader,
 ) -> Result<(), QueueFault>
     ensures rows { IsTrue S.tells
         → (page.old ≡ held.now.number
@@ -105,11 +105,11 @@ fn read_one<S: Store>(
 fn read_all<S: Store>(
     alloc: Global,
     store: &mut S,
-    tails: &[HeldPage],
-    top: &HeldPage,
+    tails: &[OpenPage],
+    top: &OpenPage,
     page: &mut u32,
-    block: &mut Block,
-    reading: &mut Reading,
+    block: &mut PageBuffer,
+    reading: &mut BatchReader,
 ) -> Result<(), QueueFault>
     ensures rows { (names : ℕ → List ℕ) → IsTrue S.tells
         → AreThere names (S.seen store.old) page.old block.old (tails.now ++ top.now ∷ [])
@@ -129,12 +129,12 @@ fn read_all<S: Store>(
 
 /// No rows yet for a batch of at most so many, where the next row stands where the cursor says. They come into
 /// its room.
-fn begun(alloc: Global, most: u32, cursor: &mut Cursor) -> Reading
+fn begun(alloc: Global, most: u32, cursor: &mut Cursor) -> BatchReader
     ensures reading { result ≡ (begun most cursor.old).reading }
     ensures cursor { cursor.new ≡ cursor.old }
 {
     let room = mem::replace(&mut cursor.room, Items::new(alloc));
-    Reading::new(
+    BatchReader::new(
         room,
         most as usize,
         BATCH_BYTES,
@@ -150,10 +150,10 @@ fn room_for(alloc: Global, rows: usize) -> Items<QueueRow> {
 
 /// A block that holds nothing gets the room of a common one again, so that many rows are read at once; where there is no
 /// memory it stays as it is.
-fn give_room(alloc: Global, block: &mut Block)
+fn give_room(alloc: Global, block: &mut PageBuffer)
     ensures { (file : List ℕ) → IsPart file block.old → IsPart file block.new }
 {
-    if let Ok(empty) = Block::new(alloc, BLOCK_LEN) {
+    if let Ok(empty) = PageBuffer::new(alloc, BLOCK_LEN) {
         *block = empty;
     }
 }
@@ -163,11 +163,11 @@ fn give_room(alloc: Global, block: &mut Block)
 fn read_from<S: Store>(
     alloc: Global,
     store: &mut S,
-    tails: &[HeldPage],
-    top: &HeldPage,
+    tails: &[OpenPage],
+    top: &OpenPage,
     cursor: &mut Cursor,
     most: u32,
-) -> Result<Reading, QueueFault>
+) -> Result<BatchReader, QueueFault>
     ensures rows { (names : ℕ → List ℕ) → IsTrue S.tells
         → AreThere names (S.seen store.old) cursor.old.page cursor.old.block
         (tails.now ++ top.now ∷ [])
@@ -189,7 +189,7 @@ fn read_from<S: Store>(
 {
     let mut reading = begun(alloc, most, cursor);
     let mut page = cursor.page;
-    let mut block = mem::replace(&mut cursor.block, Block::new(alloc, 0)?);
+    let mut block = mem::replace(&mut cursor.block, PageBuffer::new(alloc, 0)?);
     match read_all(
         alloc,
         store,
@@ -214,7 +214,7 @@ fn read_from<S: Store>(
 }
 
 /// The rows that were read, if there are any.
-fn batch_of(reading: Reading) -> Option<Batch>
+fn batch_of(reading: BatchReader) -> Option<Batch>
     ensures { result ≡ batch_of reading }
 {
     let first = match reading.rows.get(0) {

@@ -15,7 +15,7 @@ ghost use Rattle.persistent_queue.specs.declared.writing.WriteFault.TheVariants 
 
 use crate::acknowledged::Acknowledged;
 use crate::marking::{mark_all, set_marks};
-use crate::pages::HeldPage;
+use crate::pages::OpenPage;
 use crate::queue::Queue;
 use crate::rolling::{begin, next_page};
 use event_tree::Event;
@@ -85,7 +85,7 @@ fn frame_size(origin: &str, event: &Event) -> u64
 }
 
 /// How many bytes these pages have.
-pub(crate) fn count_bytes(tails: &[HeldPage]) -> u128
+pub(crate) fn count_bytes(tails: &[OpenPage]) -> u128
     ensures sum { result ≡ tail_bytes tails.now }
     ensures most { result ≤ (2 ^ 64 - 1) * (2 ^ 64 - 1) }
 {
@@ -98,7 +98,7 @@ pub(crate) fn count_bytes(tails: &[HeldPage]) -> u128
 }
 
 /// Whether a row of these pages isn't acknowledged.
-fn some_open(tails: &[HeldPage]) -> bool
+fn some_open(tails: &[OpenPage]) -> bool
     ensures { result ≡ some_open tails.now }
 {
     for place in 0..tails.len() {
@@ -110,7 +110,7 @@ fn some_open(tails: &[HeldPage]) -> bool
 }
 
 /// A page of which all is recorded becomes one below the head, and gives way to another.
-fn replace_top(top: &mut HeldPage, next: HeldPage) -> HeldPage
+fn replace_top(top: &mut OpenPage, next: OpenPage) -> OpenPage
     ensures next { top.new ≡ next }
     ensures old { result ≡ sealed (with_recorded top.old) }
 {
@@ -121,7 +121,7 @@ fn replace_top(top: &mut HeldPage, next: HeldPage) -> HeldPage
 }
 
 /// One page more below the head, of which all is recorded; what is acknowledged in the others was recorded.
-fn add_tail(tails: &mut Vec<HeldPage>, page: HeldPage)
+fn add_tail(tails: &mut Vec<OpenPage>, page: OpenPage)
     requires room { length tails.old.items < vec_capacity tails.old }
     requires recorded { with_marked page ≡ page }
     ensures { tails.new.items ≡ map with_marked tails.old.items ++ page ∷ [] }
@@ -149,7 +149,7 @@ fn first_row(alloc: Global) -> Result<Acknowledged, AllocError>
     Ok(rows)
 }
 
-impl HeldPage {
+impl OpenPage {
     /// Whether a row isn't acknowledged.
     fn is_open(&self) -> bool
         ensures { result ≡ is_open self.now }
@@ -384,7 +384,7 @@ impl Queue {
             state,
         } = next;
         let page = begun?;
-        let top = HeldPage {
+        let top = OpenPage {
             number: state.page,
             file,
             page,

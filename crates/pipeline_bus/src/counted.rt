@@ -1,3 +1,4 @@
+// An end of a ring that counts its misses.
 ghost use Rattle.std.specs.Prelude.{◌≡◌, IfSome, IfNone};
 ghost use Rattle.rtrb.specs.Ring.{SameProducer, SameConsumer};
 ghost use Rattle.pipeline_bus.specs.Counted.{misses, ring, pushed, popped, Pushes, Pops};

@@ -1,3 +1,4 @@
+// Addresses with their listeners, and the ends of links that a pipeline is given.
 use crate::link::{LinkSender, LinkTaker};
 use plain_data::{Items, Text};
 

@@ -1,3 +1,4 @@
+// Links between pipelines: parcels one way, answers the other.
 ghost use Rattle.std.specs.Prelude.{◌≡◌, ◌≤◌, ◌<◌, ◌++◌, [], true, length, None, IfOk, IfSome, IfNone};
 ghost use Rattle.pipeline_bus.specs.Parcels.{HasNextNumber, IsInTurn, ends_with_last, numbered, taken_of};
 ghost use Rattle.pipeline_bus.specs.Counted.{popped};

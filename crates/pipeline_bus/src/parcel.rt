@@ -1,3 +1,4 @@
+// Parcels of events with their numbers, and the answers to them.
 ghost use Rattle.std.specs.Prelude.{◌≡◌};
 ghost use Rattle.pipeline_bus.specs.Parcels.{filled, is_last};
 

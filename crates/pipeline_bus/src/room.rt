@@ -1,3 +1,4 @@
+// Room for the parcels that a ring holds.
 ghost use Rattle.std.specs.Prelude.{◌≡◌, ◌≤◌, ◌<◌, ◌++◌, [], ◌∷◌, length, nat_lt, IfOk, IfSome, IfNone};
 ghost use Rattle.pipeline_bus.specs.Parcels.{with_events};
 

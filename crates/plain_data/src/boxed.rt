@@ -1,3 +1,4 @@
+// One value on the heap, owned by its box.
 ghost use Rattle.std.specs.Prelude.{◌≡◌, IfOk};
 
 use std::alloc::{AllocError, Global};

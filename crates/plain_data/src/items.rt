@@ -1,3 +1,4 @@
+// A growable list that clauses see as the list of its elements.
 ghost use Rattle.std.specs.Prelude.{◌≡◌, ℕ, [], ◌∷◌, ◌++◌, ◌<◌, ◌≤◌, ◌-◌, length, take, insert, remove, slice_get, slice_set, OnOk, OnErr, IfOk, IsTrue, ◌↔◌, MatchOption, Some};
 ghost use Rattle.std.specs.Option.{option_copied, option_copied_mut};
 ghost use Rattle.std.specs.Borrow.{sem};

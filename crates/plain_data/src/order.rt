@@ -1,3 +1,4 @@
+// The order of two texts by their bytes.
 ghost use Rattle.std.specs.Prelude.{◌≡◌};
 ghost use Rattle.plain_data.specs.Keys.{text_cmp};
 

@@ -7,7 +7,7 @@ use Rattle.event_tree.specs.Paths.{over}
 use Rattle.event_tree.proofs.Puts.{slice_set-same}
 use Rattle.foreign_parts.specs.declared.filter.Verdict.{Verdict}
 use Rattle.event_flow.specs.Flows.{To, Filtered, Gives, Asks}
-use Rattle.event_flow.specs.Marks.{Mark, At, Did, Acts, Comes, Meets, dids, marks_of, sent_to}
+use Rattle.event_flow.specs.Marks.{Mark, At, Did, Acts, Yields, Meets, dids, marks_of, sent_to}
 use Rattle.event_flow.specs.Steps.{Act, Table}
 use Rattle.event_flow.specs.Steps as act
 use Rattle.event_flow.specs.declared.cell.Cell.{Cell}
@@ -20,7 +20,7 @@ use Rattle.plugin_graph.specs.Meetings.{Meeting, MayAnswer, act_by, filter_act}
 use Rattle.built_plugins.specs.declared.condition.NamedCondition.{NamedCondition}
 use Rattle.built_plugins.specs.declared.filter.Filter.{Filter}
 use Rattle.plugin_graph.specs.declared.kit_filter.KitFilter.{KitFilter}
-use Rattle.built_plugins.specs.declared.output.Output.{Output}
+use Rattle.built_plugins.specs.declared.output.OutputTargets.{OutputTargets}
 use Rattle.built_plugins.specs.declared.output.Target.{Target}
 use Rattle.plugin_graph.proofs.Encounters.{Meets_it, one_cell}
 
@@ -35,7 +35,7 @@ module _ {X : Type 0} (may : X → Ev → Verdict → Type 0) (fs : List (KitFil
   meets_at : (x : KitFilter X) → slice_get fs n ≡ Some x → Meeting (λ j d u. MayAnswer may x.plugged d u) (filter_act (n + 1) x.filter e) table e targets part → Meeting (MayAt may (boxes_of fs)) (filter_acts fs n e) table e targets part
   meets_at x is meeting = subst (λ y. Meeting (MayAt may (boxes_of fs)) (over (λ z. filter_act (n + 1) z.filter e) (act.Gives []) y) table e targets part) (sym is) (at_number x (filtered_by x.filter e) is meeting)
 
-pub filter_meets : {X : Type 0} (may : X → Ev → Verdict → Type 0) (fs : List (KitFilter X)) (n : ℕ) (x : KitFilter X) (e : Ev) (targets : List ℕ) (e' : Ev) (targets' : List ℕ) (old new : List Cell) {F : Type 0} (r : Result Bool F) → slice_get fs n ≡ Some x → IfOk r (Meets_it may x.plugged e targets e' targets' old new x.filter) → IfOk r (λ stays. (table : Table) → Comes (Meeting (MayAt may (boxes_of fs)) (filter_acts fs n e) table e targets) table stays e' targets' old new)
+pub filter_meets : {X : Type 0} (may : X → Ev → Verdict → Type 0) (fs : List (KitFilter X)) (n : ℕ) (x : KitFilter X) (e : Ev) (targets : List ℕ) (e' : Ev) (targets' : List ℕ) (old new : List Cell) {F : Type 0} (r : Result Bool F) → slice_get fs n ≡ Some x → IfOk r (Meets_it may x.plugged e targets e' targets' old new x.filter) → IfOk r (λ stays. (table : Table) → Yields (Meeting (MayAt may (boxes_of fs)) (filter_acts fs n e) table e targets) table stays e' targets' old new)
 filter_meets may fs n x e targets e' targets' old new (Ok stays) is met = λ table.
     let comes = met table (n + 1) in
     record { part = comes.part; whole = comes.whole; kind = meets_at may fs n e targets table comes.part x is comes.kind }
@@ -70,7 +70,7 @@ sends_own : (ts : List Target) (id ns : _) (e : Ev) → map (λ j. (target_at ts
 sends_own ts id [] e own = refl
 sends_own ts id (n ∷ ns) e own = ap₂ (λ x xs. To x (target_at ts n).1 e ∷ xs) (ap head_of own) (sends_own ts id ns e (ap tail_of own))
 
-own_at : (ts : List Target) (os : List Output) (n : ℕ) (x : Output) → HaveOwnTargets ts os → slice_get os n ≡ Some x → HasOwnTargets ts x
+own_at : (ts : List Target) (os : List OutputTargets) (n : ℕ) (x : OutputTargets) → HaveOwnTargets ts os → slice_get os n ≡ Some x → HasOwnTargets ts x
 own_at ts [] n x own is = absurd (none-some x is)
 own_at ts (y ∷ os) zero x own is = subst (HasOwnTargets ts) (ap (over (λ z. z) y) is) (ap first own)
   where
@@ -85,7 +85,7 @@ own_at ts (y ∷ os) (suc n) x own is = own_at ts os n x (ap rest own) is
 
 module _ (table : Table) (ts : List Target) (same : (j : ℕ) → table.targets j ≡ target_at ts j) where
   -- where an event was sent before, and where an output sends it
-  both_sent : (x : Output) (targets : List ℕ) (e : Ev) → HasOwnTargets ts x → dids (sent_to table (targets ++ x.targets) e) ++ At 0 e ∷ [] ≡ dids (sent_to table targets e) ++ (dids (map (λ at. To x.id at e) (map (λ j. (target_at ts j).1) x.targets)) ++ At 0 e ∷ [])
+  both_sent : (x : OutputTargets) (targets : List ℕ) (e : Ev) → HasOwnTargets ts x → dids (sent_to table (targets ++ x.targets) e) ++ At 0 e ∷ [] ≡ dids (sent_to table targets e) ++ (dids (map (λ at. To x.id at e) (map (λ j. (target_at ts j).1) x.targets)) ++ At 0 e ∷ [])
   both_sent x targets e own =
       let here = sent_to table targets e in
       let there : sent_to table x.targets e ≡ map (λ at. To x.id at e) (map (λ j. (target_at ts j).1) x.targets)
@@ -97,7 +97,7 @@ module _ (table : Table) (ts : List Target) (same : (j : ℕ) → table.targets 
 
 module _ (may : ℕ → Ev → Verdict → Type 0) (c' : Contents) (n place : ℕ) (e : Ev) (targets : List ℕ) (at : output_acts c'.targets c'.outputs place ≡ acts_at c' n e) where
   -- an event that an output sends on stays in its place
-  pub output_meets : (targets' : List ℕ) (cells : List Cell) (x : Output) → HaveOwnTargets c'.targets c'.outputs → slice_get c'.outputs place ≡ Some x → targets' ≡ targets ++ x.targets → Comes (Meets may (table_of c') n e targets) (table_of c') true e targets' cells cells
+  pub output_meets : (targets' : List ℕ) (cells : List Cell) (x : OutputTargets) → HaveOwnTargets c'.targets c'.outputs → slice_get c'.outputs place ≡ Some x → targets' ≡ targets ++ x.targets → Yields (Meets may (table_of c') n e targets) (table_of c') true e targets' cells cells
   output_meets targets' cells x own is sent =
       let table = table_of c' in
       let acts = dids (map (λ t. To x.id t e) (map (λ j. (target_at c'.targets j).1) x.targets)) ++ At 0 e ∷ [] in
@@ -112,20 +112,20 @@ module _ (may : ℕ → Ev → Verdict → Type 0) (c' : Contents) (n place : �
       }
 
   -- past the outputs nothing of it goes on
-  pub nothing_meets : (e' : Ev) (targets' : List ℕ) (old new : List Cell) (gone : Cell) → slice_get c'.outputs place ≡ None → gone ≡ c.Came (o.Gone e targets) → new ≡ old ++ gone ∷ [] → Comes (Meets may (table_of c') n e targets) (table_of c') false e' targets' old new
+  pub nothing_meets : (e' : Ev) (targets' : List ℕ) (old new : List Cell) (gone : Cell) → slice_get c'.outputs place ≡ None → gone ≡ c.Came (o.Consumed e targets) → new ≡ old ++ gone ∷ [] → Yields (Meets may (table_of c') n e targets) (table_of c') false e' targets' old new
   nothing_meets e' targets' old new gone none is come = record {
     part = dids (sent_to (table_of c') targets e);
-    whole = one_cell (table_of c') old new (c.Came (o.Gone e targets)) (come ∙ ap (λ x. old ++ x ∷ []) is);
+    whole = one_cell (table_of c') old new (c.Came (o.Consumed e targets)) (come ∙ ap (λ x. old ++ x ∷ []) is);
     kind = ([], subst (λ y. Acts may e y []) (ap (over (output_act c'.targets) (act.Gives [])) (sym none) ∙ at) refl, sym (append-nil (dids (sent_to (table_of c') targets e))));
   }
 
 -- what a filter of a kit did, by the kit's table
-pub by_table : {F : Type 0} (r : Result Bool F) (may : ℕ → Ev → Verdict → Type 0) (c' : Contents) (n : ℕ) (e : Ev) (targets : List ℕ) (e' : Ev) (targets' : List ℕ) (old new : List Cell) (x : Act) → x ≡ acts_at c' n e → IfOk r (λ stays. (table : Table) → Comes (Meeting may x table e targets) table stays e' targets' old new) → IfOk r (λ stays. Comes (Meets may (table_of c') n e targets) (table_of c') stays e' targets' old new)
-by_table (Ok stays) may c' n e targets e' targets' old new x is met = subst (λ y. Comes (Meeting may y (table_of c') e targets) (table_of c') stays e' targets' old new) is (met (table_of c'))
+pub by_table : {F : Type 0} (r : Result Bool F) (may : ℕ → Ev → Verdict → Type 0) (c' : Contents) (n : ℕ) (e : Ev) (targets : List ℕ) (e' : Ev) (targets' : List ℕ) (old new : List Cell) (x : Act) → x ≡ acts_at c' n e → IfOk r (λ stays. (table : Table) → Yields (Meeting may x table e targets) table stays e' targets' old new) → IfOk r (λ stays. Yields (Meets may (table_of c') n e targets) (table_of c') stays e' targets' old new)
+by_table (Ok stays) may c' n e targets e' targets' old new x is met = subst (λ y. Yields (Meeting may y (table_of c') e targets) (table_of c') stays e' targets' old new) is (met (table_of c'))
 by_table (Err fault) may c' n e targets e' targets' old new x is met = tt
 
 -- conditions that say the same
-pub same_table : {X : Type 0} (fs : List (KitFilter X)) (os : List Output) (ts : List Target) (old new : List NamedCondition) → new ≡ old
+pub same_table : {X : Type 0} (fs : List (KitFilter X)) (os : List OutputTargets) (ts : List Target) (old new : List NamedCondition) → new ≡ old
     → table_of (record { filters = map (λ f. f.filter) fs; outputs = os; targets = ts; conditions = new }) ≡ table_of (record { filters = map (λ f. f.filter) fs; outputs = os; targets = ts; conditions = old })
 same_table fs os ts old new same = ap (λ cs. table_of (record { filters = map (λ f. f.filter) fs; outputs = os; targets = ts; conditions = cs })) same
 

@@ -7,7 +7,7 @@ use Rattle.event_tree.specs.declared.lists.DeadPart.{DeadPart}
 use Rattle.config_tree.specs.declared.tree.Config.{Config}
 use Rattle.foreign_parts.specs.declared.filter.Verdict.{Verdict}
 use Rattle.event_flow.specs.Flows.{Derived, To, Dead, each, wrong_letter}
-use Rattle.event_flow.specs.Marks.{Mark, At, Did, Used, Does, Ran, derived_in, verdicts_in, dids, marks, marks_of, outcome_marks, sent_to}
+use Rattle.event_flow.specs.Marks.{Mark, At, Did, Used, Does, Derives, derived_in, verdicts_in, dids, marks, marks_of, outcome_marks, sent_to}
 use Rattle.event_flow.specs.Laying.{AreStepsOf, IsTableOf}
 use Rattle.event_flow.specs.Meaning.{Makes, dead_in, flow_of}
 use Rattle.event_flow.specs.Places.{Draws}
@@ -16,7 +16,7 @@ use Rattle.event_flow.specs.declared.cell.Cell.{Cell}
 use Rattle.event_flow.specs.declared.cell.Cell.TheVariants as c
 use Rattle.event_flow.specs.declared.cell.Outcome.{Outcome}
 use Rattle.event_flow.specs.declared.cell.Outcome.TheVariants as o
-use Rattle.event_flow.specs.declared.step.Step.{Step}
+use Rattle.event_flow.specs.declared.step.FlowStep.{FlowStep}
 use Rattle.plugin_graph.specs.Passages.{IsPassageOf, passage_of, sent_of, with_marks}
 use Rattle.plugin_graph.specs.declared.passage.Passage.{Passage}
 use Rattle.plugin_graph.specs.declared.passage.Sent.{Sent}
@@ -117,12 +117,12 @@ cell_used (Err fault) p verdicts v is = tt
 
 module _ (table : Table) {F : Type 0} (r : Result (Unit {0}) F) (p : Passage) (x : Outcome) where
   -- an event that is moved out of an outcome, and its targets as a slice
-  pub gone_added : (e taken : Ev) (ts given : List ℕ) (to : List Sent) → x ≡ o.Gone e ts → taken ≡ e → given ≡ ts → OnOk r (to ≡ p.sent ++ sent_of (sent_to table given taken)) → OnOk r (record { sent = to; dead = p.dead; verdicts = p.verdicts } ≡ with_marks p (outcome_marks table x))
+  pub gone_added : (e taken : Ev) (ts given : List ℕ) (to : List Sent) → x ≡ o.Consumed e ts → taken ≡ e → given ≡ ts → OnOk r (to ≡ p.sent ++ sent_of (sent_to table given taken)) → OnOk r (record { sent = to; dead = p.dead; verdicts = p.verdicts } ≡ with_marks p (outcome_marks table x))
   gone_added e taken ts given to is moved lent sent =
       subst (λ y. OnOk r (record { sent = to; dead = p.dead; verdicts = p.verdicts } ≡ with_marks p (outcome_marks table y))) (sym is)
       (cell_gone table e r p ts to (subst (λ d. OnOk r (to ≡ p.sent ++ sent_of (sent_to table ts d))) moved (subst (λ us. OnOk r (to ≡ p.sent ++ sent_of (sent_to table us taken))) lent sent)))
 
-  pub died_added : (n : ℕ) (reason : Reason) (e taken : Ev) (ts given : List ℕ) (to : List Sent) (letters : List DeadPart) (d : DeadPart) → x ≡ o.Died n reason e ts → taken ≡ e → given ≡ ts → to ≡ p.sent ++ sent_of (sent_to table given e) → d ≡ wrong_letter (table.ids n) reason taken → OnOk r (letters ≡ p.dead ++ d ∷ []) → OnOk r (record { sent = to; dead = letters; verdicts = p.verdicts } ≡ with_marks p (outcome_marks table x))
+  pub died_added : (n : ℕ) (reason : Reason) (e taken : Ev) (ts given : List ℕ) (to : List Sent) (letters : List DeadPart) (d : DeadPart) → x ≡ o.Dead n reason e ts → taken ≡ e → given ≡ ts → to ≡ p.sent ++ sent_of (sent_to table given e) → d ≡ wrong_letter (table.ids n) reason taken → OnOk r (letters ≡ p.dead ++ d ∷ []) → OnOk r (record { sent = to; dead = letters; verdicts = p.verdicts } ≡ with_marks p (outcome_marks table x))
   died_added n reason e taken ts given to letters d is moved lent sent letter added =
       let whole = letter ∙ ap (wrong_letter (table.ids n) reason) moved in
       subst (λ y. OnOk r (record { sent = to; dead = letters; verdicts = p.verdicts } ≡ with_marks p (outcome_marks table y))) (sym is)
@@ -143,7 +143,7 @@ sent_last table e (Ok u) others last all old mid new whole front is =
 sent_last table e (Err fault) others last all old mid new whole front is = tt
 
 -- the passage of cells is that of the configuration
-pub passed : (may : ℕ → Ev → Verdict → Type 0) (makes : Makes) (config : Config) (draws : Draws) (es : List Ev) (ms : List Mark) (p : Passage) → p ≡ passage_of ms → Ran may (each (flow_of makes config draws) es) ms → IsPassageOf may makes config draws es p
+pub passed : (may : ℕ → Ev → Verdict → Type 0) (makes : Makes) (config : Config) (draws : Draws) (es : List Ev) (ms : List Mark) (p : Passage) → p ≡ passage_of ms → Derives may (each (flow_of makes config draws) es) ms → IsPassageOf may makes config draws es p
 passed may makes config draws es ms p is ran =
     let does = subst (λ vs. Does may (each (flow_of makes config draws) es) vs (derived_in ms) []) (append-nil (verdicts_in ms)) (ran.does []) in
     let whole : IsPassageOf may makes config draws es (passage_of ms) = record {
@@ -155,8 +155,8 @@ passed may makes config draws es ms p is ran =
     subst (IsPassageOf may makes config draws es) (sym is) whole
 
 -- the same of a kit that does after a batch what it did before
-pub run_passed : {F : Type 0} (r : Result Passage F) (may : ℕ → Ev → Verdict → Type 0) (makes : Makes) (before after : Table) (cells : List Cell) (es : List Ev) (steps lent : List Step) → lent ≡ steps → after ≡ before → IfOk r (λ p. p ≡ passage_of (marks after cells))
-    → ((makes : Makes) (config : Config) (draws : Draws) → AreStepsOf config lent → IsTableOf makes config draws before → Ran may (each (flow_of makes config draws) es) (marks before cells))
+pub run_passed : {F : Type 0} (r : Result Passage F) (may : ℕ → Ev → Verdict → Type 0) (makes : Makes) (before after : Table) (cells : List Cell) (es : List Ev) (steps lent : List FlowStep) → lent ≡ steps → after ≡ before → IfOk r (λ p. p ≡ passage_of (marks after cells))
+    → ((makes : Makes) (config : Config) (draws : Draws) → AreStepsOf config lent → IsTableOf makes config draws before → Derives may (each (flow_of makes config draws) es) (marks before cells))
     → IfOk r (λ p. (config : Config) (draws : Draws) → AreStepsOf config steps → IsTableOf makes config draws before → IsPassageOf may makes config draws es p)
 run_passed (Ok p) may makes before after cells es steps lent are same is ran = λ config draws laid has.
     passed may makes config draws es (marks before cells) p (is ∙ ap (λ t. passage_of (marks t cells)) same) (ran makes config draws (subst (AreStepsOf config) (sym are) laid) has)

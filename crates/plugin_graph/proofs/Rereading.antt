@@ -9,14 +9,14 @@ use Rattle.foreign_parts.specs.declared.filter.Verdict.{Verdict}
 use Rattle.foreign_parts.specs.declared.place.Place.TheVariants as place
 use Rattle.event_flow.specs.Flows.{Derived, To, Dead, Gives, Goes, derives, each, filtered}
 use Rattle.event_flow.specs.Laying.{AreStepsOf, HasPlugins, IsTableOf}
-use Rattle.event_flow.specs.Marks.{Came, Comes, Meets, at_once, dids, sent_to, Acts}
+use Rattle.event_flow.specs.Marks.{Came, Yields, Meets, at_once, dids, sent_to, Acts}
 use Rattle.event_flow.specs.Meaning.{filter_section}
 use Rattle.event_flow.specs.Parts.{Section, parts_of}
 use Rattle.event_flow.specs.Places.{Draws}
 use Rattle.event_flow.specs.Steps.{Act, Table, acted}
 use Rattle.event_flow.specs.Steps as act
 use Rattle.event_flow.specs.declared.cell.Cell.{Cell}
-use Rattle.event_flow.specs.declared.step.Step.{Step}
+use Rattle.event_flow.specs.declared.step.FlowStep.{FlowStep}
 use Rattle.plugin_graph.specs.Kits.{acts_at, output_acts, table_of}
 use Rattle.plugin_graph.specs.Loads.{Contents}
 use Rattle.built_plugins.specs.Makes.{applied, built_of, boxed_unless, makes}
@@ -106,7 +106,7 @@ met_anew (Ok stays) ps n x e targets e' targets' old new read seen = record { pl
 met_anew (Err fault) ps n x e targets e' targets' old new read seen = tt
 
 pub anew_by_table : {F : Type 0} (r : Result Bool F) (may : ℕ → Ev → Verdict → Type 0) (table : Table) (ps lent : List Plugin) (plain : List Bool) (n : ℕ) (e : Ev) (targets : List ℕ) (e' : Ev) (targets' : List ℕ) (old new : List Cell)
-    → lent ≡ ps → ReadsAlike ps plain table → slice_get plain n ≡ Some true → IfOk r (λ stays. MetAnew lent n e targets stays e' targets' old new) → IfOk r (λ stays. Comes (Meets may table n e targets) table stays e' targets' old new)
+    → lent ≡ ps → ReadsAlike ps plain table → slice_get plain n ≡ Some true → IfOk r (λ stays. MetAnew lent n e targets stays e' targets' old new) → IfOk r (λ stays. Yields (Meets may table n e targets) table stays e' targets' old new)
 anew_by_table (Ok stays) may table ps lent plain n e targets e' targets' old new are alike here met =
     let acts = at_once met.events in
     record {
@@ -125,7 +125,7 @@ pub alike_still : (ps : List Plugin) (plain : List Bool) (old new : Table) → n
 alike_still ps plain old new same alike = subst (ReadsAlike ps plain) (sym same) alike
 
 -- what any configuration with these steps means, of the one that has them
-pub of_one : {F : Type 0} (r : Result Passage F) (may : ℕ → Ev → Verdict → Type 0) (table : Table) (es ds : List Ev) (steps : List Step) (config : Config) → es ≡ ds → AreStepsOf config steps
+pub of_one : {F : Type 0} (r : Result Passage F) (may : ℕ → Ev → Verdict → Type 0) (table : Table) (es ds : List Ev) (steps : List FlowStep) (config : Config) → es ≡ ds → AreStepsOf config steps
     → IfOk r (λ p. (config : Config) (draws : Draws) → AreStepsOf config steps → IsTableOf makes config draws table → IsPassageOf may makes config draws es p)
     → IfOk r (λ p. (draws : Draws) → IsTableOf makes config draws table → IsPassageOf may makes config draws ds p)
 of_one (Ok p) may table es ds steps config same laid passes = λ draws has. subst (λ xs. IsPassageOf may makes config draws xs p) same (passes config draws laid has)

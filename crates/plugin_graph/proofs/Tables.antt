@@ -33,7 +33,7 @@ use Rattle.built_plugins.specs.Numbering.{numbers, targets_of, outputs_from, tar
 use Rattle.built_plugins.specs.Makes.{filter_of, filtered_by, filtered_where, makes}
 use Rattle.built_plugins.specs.declared.condition.NamedCondition.{NamedCondition}
 use Rattle.built_plugins.specs.declared.filter.Filter.{Filter}
-use Rattle.built_plugins.specs.declared.output.Output.{Output}
+use Rattle.built_plugins.specs.declared.output.OutputTargets.{OutputTargets}
 use Rattle.built_plugins.specs.declared.output.Target.{Target}
 use Rattle.built_plugins.proofs.Outputting.{as_long}
 use Rattle.built_plugins.proofs.Making.{Fails, is_same, in_front, as_many}
@@ -111,12 +111,12 @@ module _ (draws : Draws) (ts before : List Target) (p : Plugin) (ps : List Plugi
   more_count : t + length (output_places draws k p) ≡ length (before ++ targets_of (output_id k p) (output_places draws k p))
   more_count = omega (arith, count, as_long (output_id k p) (output_places draws k p), length-append before (targets_of (output_id k p) (output_places draws k p)))
 
-outputs_stand : (draws : Draws) (c : Contents) (before : List Output) (first : List Target) (ps : List Plugin) (n k t : ℕ) → c.outputs ≡ before ++ outputs_from draws k t ps → c.targets ≡ first ++ targets_from draws k ps → n ≡ length c.filters + length before → t ≡ length first → HasPlugins (output_section draws) (table_of c) n k ps
+outputs_stand : (draws : Draws) (c : Contents) (before : List OutputTargets) (first : List Target) (ps : List Plugin) (n k t : ℕ) → c.outputs ≡ before ++ outputs_from draws k t ps → c.targets ≡ first ++ targets_from draws k ps → n ≡ length c.filters + length before → t ≡ length first → HasPlugins (output_section draws) (table_of c) n k ps
 outputs_stand draws c before first [] n k t outputs targets at count = tt
 outputs_stand draws c before first (p ∷ ps) n k t outputs targets at count =
     let id = output_id k p in
     let places = output_places draws k p in
-    let one : Output = record { id = id; targets = numbers t (length places) } in
+    let one : OutputTargets = record { id = id; targets = numbers t (length places) } in
     let rest = outputs_from draws (k + 1) (t + length places) ps in
     let none = slice_get_past c.filters n (omega (arith, at)) in
     let found = stands c.outputs before rest one (n - length c.filters) outputs (omega (arith, at)) in (

@@ -1,6 +1,6 @@
 -- What stands in a kit and in a graph.
 use Rattle.std.specs.Prelude.{ℕ, List, Option}
-use Rattle.event_flow.specs.declared.step.Step.{Step}
+use Rattle.event_flow.specs.declared.step.FlowStep.{FlowStep}
 use Rattle.plugin_graph.specs.KitParts.{contents_in}
 use Rattle.plugin_graph.specs.Kits.{boxes_of}
 use Rattle.plugin_graph.specs.Loads.{Contents}
@@ -18,5 +18,5 @@ built_in kit = kit.built
 abbrev pub boxes_in : {X : Type 0} → Kit X → List (Option X)
 boxes_in kit = boxes_of kit.parts.filters
 
-abbrev pub steps_in : Graph → List Step
+abbrev pub steps_in : Graph → List FlowStep
 steps_in graph = graph.steps

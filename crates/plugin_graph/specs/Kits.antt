@@ -15,7 +15,7 @@ use Rattle.plugin_graph.specs.Meetings.{MayAnswer, filter_act}
 use Rattle.built_plugins.specs.declared.condition.NamedCondition.{NamedCondition}
 use Rattle.built_plugins.specs.declared.filter.Filter.{Filter}
 use Rattle.plugin_graph.specs.declared.kit_filter.KitFilter.{KitFilter}
-use Rattle.built_plugins.specs.declared.output.Output.{Output}
+use Rattle.built_plugins.specs.declared.output.OutputTargets.{OutputTargets}
 use Rattle.built_plugins.specs.declared.output.Target.{Target}
 
 -- the place of a target, behind the id of its output
@@ -23,11 +23,11 @@ abbrev pub target_at : List Target → ℕ → List ℕ × Place
 target_at ts n = over (λ t. (t.output, t.place)) ([], place.Discard) (slice_get ts n)
 
 -- what an output does
-abbrev pub output_act : List Target → Output → Act
+abbrev pub output_act : List Target → OutputTargets → Act
 output_act ts o = act.Sends o.id (map (λ n. (target_at ts n).1) o.targets)
 
 -- what the output of a number does
-abbrev pub output_acts : List Target → List Output → ℕ → Act
+abbrev pub output_acts : List Target → List OutputTargets → ℕ → Act
 output_acts ts os n = over (output_act ts) (act.Gives []) (slice_get os n)
 
 -- the plugin of a number: the filters, and behind them the outputs; past both no event is left
@@ -48,10 +48,10 @@ abbrev pub filter_acts : {X : Type 0} → List (KitFilter X) → ℕ → Ev → 
 filter_acts fs n e = over (λ f. filter_act (n + 1) f.filter e) (act.Gives []) (slice_get fs n)
 
 -- each target of an output has its id
-abbrev pub HasOwnTargets : List Target → Output → Type 0
+abbrev pub HasOwnTargets : List Target → OutputTargets → Type 0
 HasOwnTargets ts o = map (λ n. (target_at ts n).0) o.targets ≡ map (λ n. o.id) o.targets
 
-abbrev pub HaveOwnTargets : List Target → List Output → Type 0
+abbrev pub HaveOwnTargets : List Target → List OutputTargets → Type 0
 HaveOwnTargets ts os = map (λ o. map (λ n. (target_at ts n).0) o.targets) os ≡ map (λ o. map (λ n. o.id) o.targets) os
 
 -- the boxes of filters, where these are boxed ones and their boxes were put in

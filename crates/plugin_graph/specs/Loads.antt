@@ -10,14 +10,14 @@ use Rattle.built_plugins.specs.Makes.{filter_of}
 use Rattle.built_plugins.specs.Numbering.{outputs_of}
 use Rattle.built_plugins.specs.declared.condition.NamedCondition.{NamedCondition}
 use Rattle.built_plugins.specs.declared.filter.Filter.{Filter}
-use Rattle.built_plugins.specs.declared.output.Output.{Output}
+use Rattle.built_plugins.specs.declared.output.OutputTargets.{OutputTargets}
 use Rattle.built_plugins.specs.declared.output.Outputs.{Outputs}
 use Rattle.built_plugins.specs.declared.output.Target.{Target}
 
 -- what a kit has, but for its boxes
 pub record Contents : Type 0 where
   pub filters : List Filter
-  pub outputs : List Output
+  pub outputs : List OutputTargets
   pub targets : List Target
   pub conditions : List NamedCondition
 

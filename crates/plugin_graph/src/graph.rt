@@ -14,16 +14,16 @@ ghost use Rattle.plugin_graph.specs.Passages.{IsPassageOf};
 use crate::kit::Kit;
 use crate::passage::Passage;
 use config_tree::Config;
-use event_flow::{Step, lay_config};
+use event_flow::{FlowStep, flatten_config};
 use event_tree::{Events, Items};
-use foreign_parts::Asked;
+use foreign_parts::FilterCall;
 use std::alloc::{AllocError, Global};
 
 /// The statements of a configuration, laid out flat. It names plugins and conditions by the numbers
 /// that they have in a kit of the same configuration.
 #[derive(Drop)]
 pub struct Graph {
-    steps: Items<Step>,
+    steps: Items<FlowStep>,
 }
 
 impl Graph {
@@ -32,7 +32,7 @@ impl Graph {
         ensures { IfOk result (λ graph. AreStepsOf config.now (steps_in graph)) }
     {
         Ok(Graph {
-            steps: lay_config(alloc, config)?,
+            steps: flatten_config(alloc, config)?,
         })
     }
 }
@@ -42,7 +42,7 @@ impl Graph {
 ///
 /// An event is moved through the steps, and copied where `clone`, `split` or a box does, or where it
 /// goes to more than one target. Where memory runs out the events are lost.
-pub fn run<X: Asked>(
+pub fn run<X: FilterCall>(
     alloc: Global,
     graph: &Graph,
     kit: &mut Kit<X>,

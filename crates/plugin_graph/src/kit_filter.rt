@@ -2,7 +2,7 @@
 
 ghost use Rattle.std.specs.Prelude.{◌≡◌, ℕ, ◌++◌, [], map, IfOk, OnOk};
 ghost use Rattle.event_text.specs.Options as spec;
-ghost use Rattle.event_flow.specs.Marks.{At, Came, Comes, at_once, dids, marks, sent_to};
+ghost use Rattle.event_flow.specs.Marks.{At, Came, Yields, at_once, dids, marks, sent_to};
 ghost use Rattle.event_flow.specs.Steps.{Table};
 ghost use Rattle.event_flow.specs.declared.cell.Cell.TheVariants as cell;
 ghost use Rattle.plugin_graph.specs.Meetings.{Answered, Meeting, MayAnswer, filter_act};
@@ -14,7 +14,7 @@ use event_flow::{Cell, Outcome, Targets};
 use event_text::Options;
 use event_tree::{Event, Events, Items};
 use filter_settings::Applied;
-use foreign_parts::{Asked, Verdict};
+use foreign_parts::{FilterCall, Verdict};
 use std::alloc::AllocError;
 use std::mem;
 
@@ -25,7 +25,7 @@ pub struct KitFilter<X> {
     pub plugged: Option<X>,
 }
 
-impl<X: Asked> KitFilter<X> {
+impl<X: FilterCall> KitFilter<X> {
     /// Has an event meet the filter, which was sent to these targets so far. Where one event alone comes
     /// of it, that is put in its place: then it is true. Else what comes of it is put behind the last
     /// cell. A boxed filter without its box answers as where memory ran out.
@@ -35,7 +35,7 @@ impl<X: Asked> KitFilter<X> {
         targets: &mut Targets,
         to: &mut Items<Cell>,
     ) -> Result<bool, AllocError>
-        ensures ok { IfOk result (λ stays. (table : Table) (k : ℕ) → Comes
+        ensures ok { IfOk result (λ stays. (table : Table) (k : ℕ) → Yields
             (Meeting (λ _ e v. MayAnswer
             X.may self.old.plugged e v)
             (filter_act k self.old.filter event.old) table event.old targets.old)
@@ -75,9 +75,9 @@ pub(crate) fn meet(
         let Applied { events, .. } = filter.apply(taken(alloc, event))?;
         return put(events, event, to);
     }
-    leave(event, mem::replace(targets, Targets::new(alloc)), to)?;
+    push_consumed(event, mem::replace(targets, Targets::new(alloc)), to)?;
     let Applied { events, .. } = filter.apply(taken(alloc, event))?;
-    go_on(events, to)?;
+    push_next(events, to)?;
     Ok(false)
 }
 
@@ -91,12 +91,12 @@ fn put(events: Events, event: &mut Event, to: &mut Items<Cell>) -> Result<bool, 
         *event = events.remove(0);
         return Ok(true);
     }
-    go_on(events, to)?;
+    push_next(events, to)?;
     Ok(false)
 }
 
 // Asks a box about an event.
-fn ask<X: Asked>(
+fn ask<X: FilterCall>(
     filter: &BoxedFilter,
     plugged: &X,
     event: &Event,
@@ -107,11 +107,11 @@ fn ask<X: Asked>(
         (X.may plugged.now event.now)
         filter.now event.now targets to.old to.new) }
 {
-    leave(event, targets, to)?;
+    push_consumed(event, targets, to)?;
     let verdict = plugged.ask(event)?;
     let events = events_of(filter, &verdict)?;
-    to.push(Cell::Came(Outcome::Used(verdict)))?;
-    go_on(events, to)
+    to.push(Cell::Came(Outcome::Verdict(verdict)))?;
+    push_next(events, to)
 }
 
 // The events of a verdict.
@@ -137,18 +137,18 @@ fn with_options(options: &Options, events: Events) -> Result<Events, AllocError>
 }
 
 // What is left of an event that was sent to targets, and is no more.
-fn leave(event: &Event, targets: Targets, to: &mut Items<Cell>) -> Result<(), AllocError>
+fn push_consumed(event: &Event, targets: Targets, to: &mut Items<Cell>) -> Result<(), AllocError>
     ensures { OnOk result ((table : Table) → marks table to.new
         ≡ marks table to.old ++ dids (sent_to table targets event.now)) }
 {
     if targets.is_empty() {
         return Ok(());
     }
-    to.push(Cell::Came(Outcome::Gone(event.copy()?, targets)))
+    to.push(Cell::Came(Outcome::Consumed(event.copy()?, targets)))
 }
 
 // Events that were sent nowhere so far go on with the next step.
-fn go_on(events: Events, to: &mut Items<Cell>) -> Result<(), AllocError>
+fn push_next(events: Events, to: &mut Items<Cell>) -> Result<(), AllocError>
     ensures { OnOk result (to.new ≡ to.old ++ map (λ e. cell.At 0 e []) events) }
 {
     for event in events.into_vec() {

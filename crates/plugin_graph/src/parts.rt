@@ -1,7 +1,7 @@
 // The plugins and conditions of a kit, by their numbers.
 
 ghost use Rattle.std.specs.Prelude.{◌≡◌, IfOk};
-ghost use Rattle.event_flow.specs.Marks.{Comes};
+ghost use Rattle.event_flow.specs.Marks.{Yields};
 ghost use Rattle.event_flow.specs.Steps.{Table};
 ghost use Rattle.event_flow.specs.declared.cell.Cell.TheVariants as cell;
 ghost use Rattle.event_flow.specs.declared.cell.Outcome.TheVariants as outcome;
@@ -10,11 +10,11 @@ ghost use Rattle.plugin_graph.specs.Meetings.{Meeting};
 
 use crate::kit_filter::KitFilter;
 use crate::passage::taken;
-use built_plugins::{CompiledCondition, Output, Shared, Target};
+use built_plugins::{CompiledCondition, OutputTargets, Shared, Target};
 use condition_eval::Truth;
 use event_flow::{Cell, Outcome, Plugins, Targets};
 use event_tree::{Event, Items};
-use foreign_parts::Asked;
+use foreign_parts::FilterCall;
 use std::alloc::{AllocError, Global};
 use std::mem;
 
@@ -22,7 +22,7 @@ use std::mem;
 #[derive(Drop)]
 pub struct Parts<X> {
     pub filters: Items<KitFilter<X>>,
-    pub outputs: Items<Output>,
+    pub outputs: Items<OutputTargets>,
     pub targets: Items<Shared<Target>>,
     pub conditions: Items<CompiledCondition>,
     ghost own: { HaveOwnTargets targets outputs },
@@ -40,7 +40,7 @@ impl<X: Drop> Parts<X> {
     }
 }
 
-impl<X: Asked> Plugins for Parts<X> {
+impl<X: FilterCall> Plugins for Parts<X> {
     ghost use Rattle.plugin_graph.specs.KitParts.{contents_in};
     ghost use Rattle.plugin_graph.specs.Kits.{table_of, MayAt, boxes_of};
 
@@ -87,21 +87,21 @@ impl<X: Asked> Plugins for Parts<X> {
 
 // An event is moved out of its place, and goes no further.
 fn gone(alloc: Global, event: &mut Event, targets: &mut Targets) -> Cell
-    ensures { result ≡ cell.Came (outcome.Gone event.old targets.old) }
+    ensures { result ≡ cell.Came (outcome.Consumed event.old targets.old) }
 {
     let targets = mem::replace(targets, Targets::new(alloc));
-    Cell::Came(Outcome::Gone(taken(alloc, event), targets))
+    Cell::Came(Outcome::Consumed(taken(alloc, event), targets))
 }
 
 // Has an event meet the filter of a number.
-fn meet<X: Asked>(
+fn meet<X: FilterCall>(
     filters: &mut Items<KitFilter<X>>,
     at: usize,
     event: &mut Event,
     targets: &mut Targets,
     to: &mut Items<Cell>,
 ) -> Result<bool, AllocError>
-    ensures ok { IfOk result (λ stays. (table : Table) → Comes (Meeting
+    ensures ok { IfOk result (λ stays. (table : Table) → Yields (Meeting
         (MayAt X.may (boxes_of filters.old))
         (filter_acts filters.old at event.old) table event.old targets.old)
         table stays event.new targets.new to.old to.new) }

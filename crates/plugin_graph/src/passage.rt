@@ -88,7 +88,7 @@ impl Passage {
         let alloc = self.sent.allocator();
         let mut outcome = outcome;
         match &mut outcome {
-            Outcome::Gone(event, targets) => {
+            Outcome::Consumed(event, targets) => {
                 send(
                     parts,
                     taken(alloc, event),
@@ -96,12 +96,12 @@ impl Passage {
                     &mut self.sent,
                 )
             }
-            Outcome::Died(number, reason, event, targets) => {
+            Outcome::Dead(number, reason, event, targets) => {
                 send_copies(parts, event, targets.as_slice(), &mut self.sent)?;
                 self.dead
                     .push(letter(parts, *number, reason, taken(alloc, event))?)
             }
-            Outcome::Used(verdict) => self.verdicts.push(taken_verdict(alloc, verdict)),
+            Outcome::Verdict(verdict) => self.verdicts.push(taken_verdict(alloc, verdict)),
         }
     }
 }

@@ -20,9 +20,9 @@ use crate::passage::Passage;
 use built_plugins::{BuiltFilter, Filter, Flat};
 use condition_eval::Truth;
 use config_tree::{Config, Plugin, copy_statements};
-use event_flow::{Cell, Plugins, Targets, lay_config};
+use event_flow::{Cell, Plugins, Targets, flatten_config};
 use event_tree::{Event, Events, Items};
-use foreign_parts::Asked;
+use foreign_parts::FilterCall;
 use std::alloc::{AllocError, Global};
 
 /// The parts of a kit, with the plugins of its filters. Some of the filters are read anew from their
@@ -37,7 +37,7 @@ pub(crate) struct Walker<X> {
     pub reads: u64,
 }
 
-impl<X: Asked> Plugins for Walker<X> {
+impl<X: FilterCall> Plugins for Walker<X> {
     ghost use Rattle.plugin_graph.specs.KitParts.{contents_in};
     ghost use Rattle.plugin_graph.specs.Kits.{table_of, MayAt, boxes_of};
     ghost use Rattle.plugin_graph.specs.Walks.{ReadsAlike};
@@ -62,7 +62,7 @@ impl<X: Asked> Plugins for Walker<X> {
         let at = number as usize;
         if is_marked(self.plain.as_slice(), at) {
             self.reads = self.reads.saturating_add(1);
-            meet_anew(self.plugins.as_slice(), at, event, targets, to)
+            apply_from_text(self.plugins.as_slice(), at, event, targets, to)
         } else {
             self.parts.act(number, event, targets, to)
         }
@@ -73,7 +73,7 @@ impl<X: Asked> Plugins for Walker<X> {
     }
 }
 
-impl<X: Asked> Walker<X> {
+impl<X: FilterCall> Walker<X> {
     /// Takes an event through a configuration, of which these are the parts of a kit.
     pub(crate) fn pass(
         &mut self,
@@ -94,7 +94,7 @@ impl<X: Asked> Walker<X> {
             → MayAt X.may (boxes_of self.new.parts.filters) k e v
             → MayAt X.may (boxes_of self.old.parts.filters) k e v }
     {
-        let steps = lay_config(alloc, config)?;
+        let steps = flatten_config(alloc, config)?;
         let events = alone(alloc, event)?;
         let cells = event_flow::run(alloc, self, steps.as_slice(), events)?;
         Passage::of_cells(alloc, &self.parts, cells)
@@ -152,7 +152,7 @@ fn alone(alloc: Global, event: &Event) -> Result<Events, AllocError>
 }
 
 // Has an event meet the built-in filter that the plugin of a number is.
-fn meet_anew(
+fn apply_from_text(
     plugins: &[Plugin],
     at: usize,
     event: &mut Event,

@@ -17,7 +17,7 @@ use crate::passage::Passage;
 use crate::walker::{Walker, filter_plugins, plain_filters};
 use config_tree::Config;
 use event_tree::Event;
-use foreign_parts::Asked;
+use foreign_parts::FilterCall;
 use std::alloc::{AllocError, Global};
 use std::mem;
 
@@ -26,7 +26,7 @@ use std::mem;
 ///
 /// Each built-in filter without a pattern is read from its settings anew each time an event meets it,
 /// which is counted in [`Kit::built`]. The others, the conditions and the outputs are those of the kit.
-pub fn walk<X: Asked>(
+pub fn walk<X: FilterCall>(
     alloc: Global,
     config: &Config,
     kit: &mut Kit<X>,

@@ -1,3 +1,4 @@
+// The codecs of inputs and outputs, read from their settings.
 ghost use Rattle.std.specs.Prelude.{◌≡◌, IfOk};
 ghost use Rattle.filter_settings.specs.Settings.{Gives};
 ghost use Rattle.plugin_settings.specs.Codecs as spec;

@@ -1,3 +1,4 @@
+// The settings that every input has.
 ghost use Rattle.std.specs.Prelude.{◌≡◌};
 ghost use Rattle.filter_settings.specs.Settings.{Leaves};
 ghost use Rattle.plugin_settings.specs.Common as spec;

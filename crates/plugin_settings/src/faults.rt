@@ -1,3 +1,4 @@
+// The fault of a setting that is unknown.
 ghost use Rattle.config_tree.specs.declared.fault.SettingFault.TheVariants as setting;
 ghost use Rattle.filter_settings.specs.Settings.{IsFault};
 

@@ -1,3 +1,4 @@
+// The settings of the inputs `generator` and `file`.
 ghost use Rattle.std.specs.Prelude.{◌≡◌, IfOk, option_and_then};
 ghost use Rattle.filter_settings.specs.Readers.{text_of};
 ghost use Rattle.filter_settings.specs.Settings.{Gives, wanted};

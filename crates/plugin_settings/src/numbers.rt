@@ -1,3 +1,4 @@
+// Settings that are whole numbers or ports.
 ghost use Rattle.std.specs.Prelude.{◌≡◌};
 ghost use Rattle.filter_settings.specs.Settings.{Gives, wanted};
 ghost use Rattle.plugin_settings.specs.Numbers as spec;

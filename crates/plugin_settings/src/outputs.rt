@@ -1,3 +1,4 @@
+// The settings of the built-in outputs.
 ghost use Rattle.filter_settings.specs.Settings.{Gives, Leaves, wanted};
 ghost use Rattle.plugin_settings.specs.Outputs as spec;
 

@@ -1,3 +1,4 @@
+// Inputs and outputs of any kind with their settings, read by the plugin's name.
 ghost use Rattle.filter_settings.specs.Settings.{Gives};
 ghost use Rattle.plugin_settings.specs.Inputs as inputs;
 ghost use Rattle.plugin_settings.specs.Outputs as outputs;

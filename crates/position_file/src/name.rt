@@ -1,3 +1,4 @@
+// The name of the position file of a path.
 ghost use Rattle.std.specs.Prelude.{◌≡◌, ◌<◌, ◌∷◌, ◌++◌, [], string_bytes, IfOk, OnOk};
 ghost use Rattle.std.specs.Char.{digit_char};
 ghost use Rattle.position_file.specs.Names.{is_plain, byte_named, path_named, start_of, position_name};

@@ -1,3 +1,4 @@
+// What a position file records, or how it is damaged.
 /// What a position file records.
 #[derive(Clone, Copy)]
 pub enum Recorded {

@@ -15,13 +15,13 @@ use Rattle.queue_page.specs.Elements.{and_then}
 use Rattle.queue_page.specs.Pages.{extended, opened, recorded}
 use Rattle.queue_page.proofs.Differing.{damage_differs}
 use Rattle.queue_page.proofs.ElementReads.{and_then_ok}
-use Rattle.queue_laws.specs.Checkpoints.{Misfit, bounded, misfit, told, told_by, unslotted}
+use Rattle.queue_laws.specs.Checkpoints.{Mismatch, bounded, misfit, told, told_by, no_intact_slot}
 use Rattle.queue_laws.specs.Folders.{Role, head, page, checkpoint, Folder}
 use Rattle.queue_laws.specs.Found.{Damaged, Held, falling, found, found_in, head_held, held, held_by, is_new, nothing_found, of_head, opened_page, or_damage, read_all, told_at, unless}
 use Rattle.queue_core.proofs.QueuePages.{damage_ok, in_bounds}
 use Rattle.pq_tools.specs.Damages.{HoldsBytes, OpenedDamageDiffers}
 
-abbrev Differs : Misfit → Type 0
+abbrev Differs : Mismatch → Type 0
 Differs m = m.found ≢ m.expected
 
 same_fault : {A E : Type 0} (a b : E) → ◌≡◌ {A = Result A E} (Err a) (Err b) → a ≡ b
@@ -44,7 +44,7 @@ damage_err (Err m) damage e h = (m, refl, same_fault (damage m) e h)
 
 -- ---- checkpoints
 
-either_differs : (b : Bool) (x y : Misfit) → (b ≡ true → Differs x) → (b ≡ false → Differs y) → Differs (if b then x else y)
+either_differs : (b : Bool) (x y : Mismatch) → (b ≡ true → Differs x) → (b ≡ false → Differs y) → Differs (if b then x else y)
 either_differs true x y one two = one refl
 either_differs false x y one two = two refl
 
@@ -54,8 +54,8 @@ turn_differs file none long equal same =
     let odd : turn_of (take 48 file) % 2 ≡ 1 = misplaced_turn_is_odd file none (grind (arith, nat_tests, long)) (sym (at stored_crc) ∙ eqb-true _ _ equal ∙ at computed_crc) in
     omega (arith, at turn_of, odd, same)
 
-unslotted_differs : (file : List ℕ) → newest_in file ≡ None → Differs (unslotted (slots_of file))
-unfolding unslotted
+unslotted_differs : (file : List ℕ) → newest_in file ≡ None → Differs (no_intact_slot (slots_of file))
+unfolding no_intact_slot
 unslotted_differs file none =
     let s = slots_of file in
     let turn = misfit 0 s.turn (s.turn - 1) in
@@ -63,23 +63,23 @@ unslotted_differs file none =
     either_differs (nat_lt s.length 48) (misfit 0 s.length 48) (if s.stored == s.computed then turn else sums) (λ short same. grind (arith, nat_tests, short, same))
     (λ long. either_differs (s.stored == s.computed) turn sums (turn_differs file none long) (λ other same. false≢true (sym other ∙ eq-eqb _ _ same)))
 
-bounded_by : (s : PageState) (m : Misfit) (a b c : Bool) → (a ≡ true → Differs (misfit 0 s.page 0xFFFF_FFFE)) → (b ≡ true → Differs (misfit 0 s.least 1))
+bounded_by : (s : PageState) (m : Mismatch) (a b c : Bool) → (a ≡ true → Differs (misfit 0 s.page 0xFFFF_FFFE)) → (b ≡ true → Differs (misfit 0 s.least 1))
     → (b ≡ false → c ≡ true → Differs (misfit 0 s.least (0x7FFF_FFFF_FFFF_FFFF - s.count)))
-    → ◌≡◌ {A = Result PageState Misfit}
+    → ◌≡◌ {A = Result PageState Mismatch}
     (if a then Err (misfit 0 s.page 0xFFFF_FFFE) else (if b then Err (misfit 0 s.least 1) else (if c then Err (misfit 0 s.least (0x7FFF_FFFF_FFFF_FFFF - s.count)) else Ok s))) (Err m) → Differs m
 bounded_by s m true b c one two three is = subst Differs (same_fault (misfit 0 s.page 0xFFFF_FFFE) m is) (one refl)
 bounded_by s m false true c one two three is = subst Differs (same_fault (misfit 0 s.least 1) m is) (two refl)
 bounded_by s m false false true one two three is = subst Differs (same_fault (misfit 0 s.least (0x7FFF_FFFF_FFFF_FFFF - s.count)) m is) (three refl refl)
 bounded_by s m false false false one two three is = absurd (no_fault s m is)
 
-bounded_differs : (s : PageState) (m : Misfit) → bounded s ≡ Err m → Differs m
+bounded_differs : (s : PageState) (m : Mismatch) → bounded s ≡ Err m → Differs m
 unfolding bounded
 bounded_differs s m is =
     bounded_by s m (s.page == 0xFFFF_FFFF) (s.least == 0) (nat_lt 0x7FFF_FFFF_FFFF_FFFF (s.least + s.count)) (λ e same. grind (arith, nat_tests, e, same)) (λ e same. grind (arith, nat_tests, e, same))
     (λ some e same. grind (arith, nat_tests, some, e, same)) is
 
-told_by_differs : (file : List ℕ) (newest : Option (ℕ × PageState)) (m : Misfit) → newest_in file ≡ newest → told_by (slots_of file) newest ≡ Err m → Differs m
-told_by_differs file None m is h = subst Differs (same_fault {A = PageState} (unslotted (slots_of file)) m h) (unslotted_differs file is)
+told_by_differs : (file : List ℕ) (newest : Option (ℕ × PageState)) (m : Mismatch) → newest_in file ≡ newest → told_by (slots_of file) newest ≡ Err m → Differs m
+told_by_differs file None m is h = subst Differs (same_fault {A = PageState} (no_intact_slot (slots_of file)) m h) (unslotted_differs file is)
 told_by_differs file (Some newest) m is h =
     let version = (slots_of file).version in
     elim (chosen (version == 1) (bounded newest.1) (Err (misfit 0 version 1)) (Err m) h) [
@@ -87,7 +87,7 @@ told_by_differs file (Some newest) m is h =
       | inr w ↦ subst Differs (same_fault {A = PageState} (misfit 0 version 1) m w.1) (λ same. false≢true (sym w.0 ∙ eq-eqb _ _ same))
     ]
 
-told_differs : (file : Option (List ℕ)) (m : Misfit) → told file ≡ Err m → Differs m
+told_differs : (file : Option (List ℕ)) (m : Mismatch) → told file ≡ Err m → Differs m
 told_differs file m h = told_by_differs (bytes_of file) (newest_in (bytes_of file)) m refl h
 
 told_at_differs : (role : Role) (file : Option (List ℕ)) (d : Damaged) → told_at role file ≡ Err d → Differs d.1

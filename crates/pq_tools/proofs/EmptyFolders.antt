@@ -16,7 +16,7 @@ use Rattle.queue_page.specs.Pages.{PageRows}
 use Rattle.queue_page.specs.Views.{PageView}
 use Rattle.queue_page.specs.declared.row.PageRow.{PageRow}
 use Rattle.queue_laws.specs.Folders.{Folder, Role, checkpoint, head, names_in, number_text, page}
-use Rattle.queue_laws.specs.Found.{Damaged, Found, found, is_bare, is_new, none_of, since}
+use Rattle.queue_laws.specs.Found.{Damaged, Found, found, has_page_0_at_most, is_new, none_of, since}
 use Rattle.queue_laws.specs.Kept.{Page, Queue, all_rows, leading}
 use Rattle.queue_laws.proofs.NewFolders.{new_is_empty}
 use Rattle.queue_core.specs.Collected.{IsLost}
@@ -24,8 +24,8 @@ use Rattle.queue_core.specs.Known.{IsFirst, IsOfFolder}
 use Rattle.queue_core.specs.Listing.{AreNumbers}
 use Rattle.queue_core.specs.Marks.{read_in}
 use Rattle.queue_core.specs.Queues.{ArePages, IsQueueOf, below}
-use Rattle.queue_core.specs.declared.opening.Opened.{Opened}
-use Rattle.queue_core.specs.declared.tails.Tail.{Tail}
+use Rattle.queue_core.specs.declared.opening.OpenedQueue.{OpenedQueue}
+use Rattle.queue_core.specs.declared.sealed_pages.SealedPage.{SealedPage}
 use Rattle.queue_core.proofs.Listings.{are_numbers}
 use Rattle.queue_core.proofs.Members.{any_decides, is_first}
 use Rattle.persistent_queue.specs.Opening.{page_opened, queue_opened, queue_with, tails_opened}
@@ -77,8 +77,8 @@ module _ (folder : List ℕ) (content : Content) (starts : folder_start folder �
   pub head_none : f head ≡ None
   head_none = none_if_not (f head) (λ some. no_file (codes "checkpoint." ++ codes "head", head_part, some))
 
-  bare : is_bare f ≡ true
-  unfolding is_bare
+  bare : has_page_0_at_most f ≡ true
+  unfolding has_page_0_at_most
   bare = ap₂ (λ (a b : Bool). a && b)
       (none_if_all checkpoint f 0x1_0000_0000 0 (λ n within. none_there (codes "checkpoint.") checkpoint refl (λ n. refl) n (omega (arith, within))))
       (none_if_all page f 0xFFFF_FFFF 1 (λ n within. none_there (codes "page.") page refl (λ n. refl) n (omega (arith, within))))
@@ -86,7 +86,7 @@ module _ (folder : List ℕ) (content : Content) (starts : folder_start folder �
   pub is_new_folder : is_new f ≡ true
   unfolding is_new
   is_new_folder =
-      ap (λ (o : Option (List ℕ)). not (is_some (slots_of (bytes_of o)).newest) && nat_lt (length (bytes_of o)) 49 && is_bare f) head_none
+      ap (λ (o : Option (List ℕ)). not (is_some (slots_of (bytes_of o)).newest) && nat_lt (length (bytes_of o)) 49 && has_page_0_at_most f) head_none
       ∙ ap₂ (λ (a b : Bool). not a && true && b) (no_slot (newest_in []) refl) bare
 
   -- it isn't damaged
@@ -98,11 +98,11 @@ module _ (folder : List ℕ) (content : Content) (starts : folder_start folder �
 
   -- ---- the queue that is made there
 
-  first_of : (o : Opened) → IsOfFolder f o → IsFirst o
+  first_of : (o : OpenedQueue) → IsOfFolder f o → IsFirst o
   first_of o is = ⊎_elim (λ first. first.1)
       (λ reads. absurd (omega (arith, slot_long (bytes_of (f head)) o.turn o.state reads.head_is.is, ap (λ (x : Option (List ℕ)). length (bytes_of x)) head_none))) is
 
-  pub made_new : (o : Opened) → IsOfFolder f o → queue_opened folder limits o ≡ new_queue folder
+  pub made_new : (o : OpenedQueue) → IsOfFolder f o → queue_opened folder limits o ≡ new_queue folder
   made_new o of =
       let first = first_of o of in
       let top : o.pages.top ≡ record { version = 2; state = new_state } = first.top ∙ ap (λ (s : PageState). record { version = 2; state = s }) first.state in
@@ -111,10 +111,10 @@ module _ (folder : List ℕ) (content : Content) (starts : folder_start folder �
   no_rows : (s : PageState) (top : PageView) (read : PageRows) → top ≡ record { version = read.version; state = record s { count = length read.rows; length = read.length } } → top.state.count ≡ 0 → read.rows ≡ []
   no_rows s top read view none = nil_from_length read.rows (sym (ap (λ (v : PageView). v.state.count) view) ∙ none)
 
-  pub has_none : (o : Opened) (queue : Queue) → IsOfFolder f o → IsQueueOf f o queue → IsNewQueue queue []
+  pub has_none : (o : OpenedQueue) (queue : Queue) → IsOfFolder f o → IsQueueOf f o queue → IsNewQueue queue []
   has_none o queue of is =
       let first = first_of o of in
-      let tails : queue.tails ≡ [] = subst (λ (ts : List Tail). ArePages ts o.pages.pages.items queue.tails) first.tails is.tails in
+      let tails : queue.tails ≡ [] = subst (λ (ts : List SealedPage). ArePages ts o.pages.pages.items queue.tails) first.tails is.tails in
       let count : o.pages.top.state.count ≡ 0 = ap (λ (v : PageView). v.state.count) first.top ∙ ap (λ (s : PageState). s.count) first.state in
       let none : is.read.rows ≡ [] = no_rows o.state o.pages.top is.read is.top_is count in
       let rows : queue.top.rows ≡ [] = ap (λ (p : Page). p.rows) is.top ∙ none in

@@ -5,7 +5,7 @@ use Rattle.std.proofs.lemmas.Bool.Decides.{nat_tests}
 use Rattle.queue_laws.specs.Folders.{Folder}
 use Rattle.queue_laws.specs.Found.{Row}
 use Rattle.persistent_queue.specs.Calls.{end_of}
-use Rattle.persistent_queue.specs.Views.{OpenPage, QueueView}
+use Rattle.persistent_queue.specs.Views.{OpenPageView, QueueView}
 use Rattle.persistent_queue.specs.Writing.{behind_append, behind_write, is_spent_with, made_ready, needs_page}
 use Rattle.pq_tools.specs.Numbers.{new_queue, row_size, runs_out, spends_numbers}
 use Rattle.pq_tools.specs.Salvage.{salvage}
@@ -15,7 +15,7 @@ next_row : (needed : Bool) (size : ℕ) (v : QueueView) → ((behind_append size
 next_row true size v = (omega arith, omega arith)
 next_row false size v = (omega arith, omega arith)
 
-has_number : (needed : Bool) (top : OpenPage) → end_of top < 2 ^ 63 - 1 → suc top.number < 2 ^ 32 - 1 → is_spent_with needed top ≡ false
+has_number : (needed : Bool) (top : OpenPageView) → end_of top < 2 ^ 63 - 1 → suc top.number < 2 ^ 32 - 1 → is_spent_with needed top ≡ false
 unfolding is_spent_with
 has_number true top row page =
     let last : (end_of top == 2 ^ 63 - 1) ≡ false = grind (arith, nat_tests, row) in

@@ -11,8 +11,8 @@ use Rattle.queue_laws.specs.Found.{Damaged, Found, Held, found, is_new}
 use Rattle.queue_laws.specs.Kept.{leading}
 use Rattle.queue_laws.proofs.NewFolders.{new_is_empty}
 use Rattle.queue_core.specs.Known.{AreStated, IsFirst, IsOfFolder, IsReadOf}
-use Rattle.queue_core.specs.declared.opening.Opened.{Opened}
-use Rattle.queue_core.specs.declared.tails.Tail.{Tail}
+use Rattle.queue_core.specs.declared.opening.OpenedQueue.{OpenedQueue}
+use Rattle.queue_core.specs.declared.sealed_pages.SealedPage.{SealedPage}
 use Rattle.queue_core.proofs.ScanReads.{found_rows, rows_found}
 use Rattle.queue_core.proofs.StandingPages.{pages_are_found}
 use Rattle.persistent_queue.specs.Opening.{below_number, page_opened, tails_opened, unread_in, unread_of}
@@ -39,18 +39,18 @@ below_count from number (suc count) = elim (cases_lt number from) [
 
 -- ---- all pages
 
-tails_count : (tails : List Tail) (views : List PageView) → tail_rows tails views ≡ unread_in (tails_opened [] tails views)
+tails_count : (tails : List SealedPage) (views : List PageView) → tail_rows tails views ≡ unread_in (tails_opened [] tails views)
 tails_count [] views = refl
 tails_count (t ∷ tails) [] = refl
 tails_count (t ∷ tails) (v ∷ views) = ap₂ (λ (a b : ℕ). a + b) (sym (below_count t.state.first_open v.state.least v.state.count)) (tails_count tails views)
 
-rows_count : (o : Opened) → open_rows o ≡ unread_in (tails_opened [] o.pages.tails.items o.pages.pages.items) + unread_of (page_opened [] o.state.page o.turn o.state.first_open o.pages.top)
+rows_count : (o : OpenedQueue) → open_rows o ≡ unread_in (tails_opened [] o.pages.tails.items o.pages.pages.items) + unread_of (page_opened [] o.state.page o.turn o.state.first_open o.pages.top)
 rows_count o = ap₂ (λ (a b : ℕ). a + b) (tails_count o.pages.tails.items o.pages.pages.items) (sym (below_count o.state.first_open o.pages.top.state.least o.pages.top.state.count))
 
-pub rows_fit : (o : Opened) → AreStated o.state o.pages → open_rows o < 2 ^ 64
+pub rows_fit : (o : OpenedQueue) → AreStated o.state o.pages → open_rows o < 2 ^ 64
 rows_fit o stated = omega (arith, rows_count o, unread_fits [] o stated)
 
-module _ (f : Folder) (o : Opened) (stated : AreStated o.state o.pages) (rows : Found) (is : found f ≡ Ok rows) where
+module _ (f : Folder) (o : OpenedQueue) (stated : AreStated o.state o.pages) (rows : Found) (is : found f ≡ Ok rows) where
   ok_same : {x y : Found} → ◌≡◌ {A = Result Found Damaged} (Ok x) (Ok y) → x ≡ y
   ok_same same = cc
 
@@ -67,7 +67,7 @@ module _ (f : Folder) (o : Opened) (stated : AreStated o.state o.pages) (rows : 
   read_count : IsReadOf f o → open_rows o ≡ length rows.rows
   read_count reads =
       let s = reads.scanned in
-      let numbers = map (λ (t : Tail). t.number) o.pages.tails.items in
+      let numbers = map (λ (t : SealedPage). t.number) o.pages.tails.items in
       let rises = stated.rises f in
       let r = found_rows f o.state numbers o.pages.tails.items s.tails rises o.pages.pages.items s.pages o.pages.top s.top in
       let same : rows ≡ r.rows = ok_same (sym is ∙ pages_are_found f o.state numbers reads.tells reads.standing ∙ rows_found f o.state numbers o.pages.tails.items s.tails rises o.pages.pages.items s.pages o.pages.top r) in
@@ -78,5 +78,5 @@ module _ (f : Folder) (o : Opened) (stated : AreStated o.state o.pages) (rows : 
 
 -- ---- one page after the other
 
-pub rows_more : (tails : List Tail) (views : List PageView) (t : Tail) (v : PageView) (rest : List Tail) (more : List PageView) → tails ≡ t ∷ rest → views ≡ v ∷ more → tail_rows tails views ≡ rows_from t.state.first_open v.state + tail_rows rest more
-rows_more tails views t v rest more split parts = ap₂ (λ (ts : List Tail) (vs : List PageView). tail_rows ts vs) split parts
+pub rows_more : (tails : List SealedPage) (views : List PageView) (t : SealedPage) (v : PageView) (rest : List SealedPage) (more : List PageView) → tails ≡ t ∷ rest → views ≡ v ∷ more → tail_rows tails views ≡ rows_from t.state.first_open v.state + tail_rows rest more
+rows_more tails views t v rest more split parts = ap₂ (λ (ts : List SealedPage) (vs : List PageView). tail_rows ts vs) split parts

@@ -7,7 +7,7 @@ use Rattle.queue_page.specs.Blocks.{IsPart, left_of}
 use Rattle.queue_page.specs.Elements.{element_at, number_of, total_of}
 use Rattle.queue_page.specs.Pages.{is_version, row_at, version_of, whole_page}
 use Rattle.queue_page.specs.Runs.{Run, run}
-use Rattle.queue_page.specs.Views.{BlockView, PageView}
+use Rattle.queue_page.specs.Views.{PageBufferView, PageView}
 use Rattle.queue_page.specs.declared.row.PageRow.{PageRow}
 use Rattle.queue_page.proofs.ElementReads.{element_took}
 use Rattle.queue_page.proofs.Fronts.{length-left}
@@ -47,7 +47,7 @@ module _ (file : List ℕ) (old : PageRun) where
         ap (λ l. (run l old.page.version old.number old.place bytes).rows) one_more
         ∙ ap (λ (r : Run). r.rows) (run_with (old.left - 1) old.page.version old.number old.place bytes (Err m) some_bytes read)
 
-    pub one_row : (row : PageRow) (block : BlockView) (m : ℕ) → element_at old.page.version old.number old.place bytes ≡ Ok row → IsPart file block → (old.number + 1 < 2 ^ 64 → m ≡ old.number + 1) → m < 2 ^ 64
+    pub one_row : (row : PageRow) (block : PageBufferView) (m : ℕ) → element_at old.page.version old.number old.place bytes ≡ Ok row → IsPart file block → (old.number + 1 < 2 ^ 64 → m ≡ old.number + 1) → m < 2 ^ 64
         → row.next ≤ old.page.state.length → IsNextRow file old (record { page = old.page; block = block; place = row.next; number = m; left = old.left - 1 }) row
     one_row row block m read part next fits within =
         let took = element_took old.page.version old.number old.place bytes row read in

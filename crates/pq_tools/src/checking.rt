@@ -1,3 +1,4 @@
+// `--pqcheck`: counts the rows of a queue, or tells its first damage.
 ghost use Rattle.std.specs.Prelude.{◌≡◌, ◌≢◌, IsTrue, Err, map, string_bytes, true};
 ghost use Rattle.io_traits.specs.Counts.{HasCause};
 ghost use Rattle.io_traits.specs.Folders.{folder_start};

@@ -5,11 +5,11 @@ ghost use Rattle.queue_page.specs.Views.{PageView};
 ghost use Rattle.pq_tools.specs.Counts as spec;
 ghost use Rattle.pq_tools.specs.Counts.{tail_rows};
 
-use queue_core::{Opened, Tail};
+use queue_core::{OpenedQueue, SealedPage};
 use queue_page::Page;
 
 /// How many rows of a folder that was read aren't recorded as acknowledged.
-pub(crate) fn open_rows(opened: &Opened) -> u64
+pub(crate) fn open_rows(opened: &OpenedQueue) -> u64
     requires { AreStated opened.now.state opened.now.pages }
     ensures { result ≡ spec.open_rows opened.now }
 {
@@ -29,7 +29,7 @@ fn rows_from(page: &Page, first_open: u64) -> u64
 }
 
 /// Those of pages below the head, and so many of the head page.
-fn with_tails(tails: &[Tail], pages: &[Page], top: u64) -> u64
+fn with_tails(tails: &[SealedPage], pages: &[Page], top: u64) -> u64
     requires states { map (λ t. t.state) tails.now ≡ map (λ (p : PageView). p.state) pages.now }
     requires few { tail_rows tails.now pages.now + top < 2 ^ 64 }
     ensures { result ≡ tail_rows tails.now pages.now + top }

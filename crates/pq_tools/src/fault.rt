@@ -1,3 +1,4 @@
+// Why a queue was not repaired.
 ghost use Rattle.std.specs.Prelude.{◌≡◌};
 
 use std::alloc::AllocError;

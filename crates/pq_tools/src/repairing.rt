@@ -1,3 +1,4 @@
+// `--pqrepair`: writes the intact rows of a queue into a new one.
 ghost use Rattle.std.specs.Prelude.{◌≡◌, ◌≢◌, ◌==◌, length, IsTrue, IfOk, IfErr, OnOk, Err, List, [], map, string_bytes, true, false};
 ghost use Rattle.io_traits.specs.Counts.{HasCause};
 ghost use Rattle.io_traits.specs.Folders.{Lists, folder_start};

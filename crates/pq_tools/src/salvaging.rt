@@ -8,7 +8,7 @@ ghost use Rattle.pq_tools.specs.PageRuns.{BeginsRun, GivesRow, run_from};
 ghost use Rattle.pq_tools.specs.declared.fault.RepairFault.TheVariants as r;
 
 use crate::fault::RepairFault;
-use queue_page::{BLOCK_LEN, Block, Page, PageRow};
+use queue_page::{BLOCK_LEN, Page, PageBuffer, PageRow};
 use std::alloc::{AllocError, Global};
 use store_disk::{QueueFault, Store};
 
@@ -18,7 +18,7 @@ pub(crate) struct PageRun {
     /// The page, whose extent is its whole file.
     pub(crate) page: Page,
     /// The part of the file that was read last.
-    pub(crate) block: Block,
+    pub(crate) block: PageBuffer,
     /// The place of the next element.
     pub(crate) place: u64,
     /// Its number.
@@ -74,7 +74,7 @@ fn run_of(alloc: Global, page: Page, number: u64) -> Result<PageRun, AllocError>
     ensures run { IfOk result (λ run. run ≡ run_from page number) }
 {
     let behind = (u64::MAX - number).saturating_add(1);
-    let block = Block::new(alloc, BLOCK_LEN)?;
+    let block = PageBuffer::new(alloc, BLOCK_LEN)?;
     Ok(PageRun {
         page,
         block,

@@ -1,3 +1,4 @@
+// How a tool ended, with its status number and its line.
 ghost use Rattle.std.specs.Prelude.{◌≡◌, Some};
 ghost use Rattle.pq_tools.specs.Statuses.{number_of, status_text};
 

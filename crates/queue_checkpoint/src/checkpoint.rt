@@ -1,3 +1,4 @@
+// The checkpoint file of a page: its two slots, written and read.
 ghost use Rattle.std.specs.Prelude.{◌≡◌, ◌≤◌, length, IsTrue, IsErr, Some, IfOk, OnOk};
 ghost use Rattle.io_traits.specs.Counts.{HasCause};
 ghost use Rattle.io_traits.specs.Reads.{bytes_of, file_length};

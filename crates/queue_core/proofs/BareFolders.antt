@@ -8,7 +8,7 @@ use Rattle.io_traits.specs.Reads.{bytes_of}
 use Rattle.queue_checkpoint.specs.Checkpoints.{slots_of}
 use Rattle.queue_checkpoint.specs.declared.checkpoint.Slots.{Slots}
 use Rattle.queue_laws.specs.Folders.{Role, head, page, checkpoint, Folder}
-use Rattle.queue_laws.specs.Found.{none_of, is_bare, is_new}
+use Rattle.queue_laws.specs.Found.{none_of, has_page_0_at_most, is_new}
 use Rattle.queue_core.specs.Listing.{IsListed}
 use Rattle.queue_core.specs.declared.listing.Listing.{Listing}
 use Rattle.queue_core.proofs.Members.{is_first, is_later, first_or_later}
@@ -73,26 +73,26 @@ module _ (folder : Folder) (l : Listing) (listed : IsListed folder l) where
       let found = (listed.checkpoints.each n).0 (subst (λ l. Contains l n) is (is_first n items)) in
       not_if_one checkpoint folder 0x1_0000_0000 0 n (omega arith) (omega (arith, found.0)) found.1
 
-  pub is_not_bare : length l.checkpoints.items ≢ 0 → is_bare folder ≡ false
-  unfolding is_bare
+  pub is_not_bare : length l.checkpoints.items ≢ 0 → has_page_0_at_most folder ≡ false
+  unfolding has_page_0_at_most
   is_not_bare some = ap (λ (b : Bool). b && none_of page 0xFFFF_FFFF 1 folder) (some_checkpoint l.checkpoints.items refl some)
 
-  pub is_bare_so : length l.checkpoints.items ≡ 0 → is_bare folder ≡ list_all (λ n. n == 0) l.pages.items
-  unfolding is_bare
+  pub is_bare_so : length l.checkpoints.items ≡ 0 → has_page_0_at_most folder ≡ list_all (λ n. n == 0) l.pages.items
+  unfolding has_page_0_at_most
   is_bare_so none = ap₂ (λ (a b : Bool). a && b) (no_checkpoints none) (pages (list_all (λ n. n == 0) l.pages.items) refl)
 
 module _ (folder : Folder) (slots : Slots) (are : slots ≡ slots_of (bytes_of (folder head))) where
   pub not_if_slot : is_some slots.newest ≡ true → is_new folder ≡ false
   unfolding is_new
-  not_if_slot some = ap (λ (b : Bool). not b && nat_lt (length (bytes_of (folder head))) 49 && is_bare folder) (ap (λ (s : Slots). is_some s.newest) (sym are) ∙ some)
+  not_if_slot some = ap (λ (b : Bool). not b && nat_lt (length (bytes_of (folder head))) 49 && has_page_0_at_most folder) (ap (λ (s : Slots). is_some s.newest) (sym are) ∙ some)
 
   pub not_if_long : nat_lt slots.length 49 ≡ false → is_new folder ≡ false
   unfolding is_new
   not_if_long long =
-      ap (λ (b : Bool). not (is_some (slots_of (bytes_of (folder head))).newest) && b && is_bare folder) (ap (λ (s : Slots). nat_lt s.length 49) (sym are) ∙ long)
-      ∙ ap (λ (b : Bool). b && is_bare folder) (and_never (not (is_some (slots_of (bytes_of (folder head))).newest)))
+      ap (λ (b : Bool). not (is_some (slots_of (bytes_of (folder head))).newest) && b && has_page_0_at_most folder) (ap (λ (s : Slots). nat_lt s.length 49) (sym are) ∙ long)
+      ∙ ap (λ (b : Bool). b && has_page_0_at_most folder) (and_never (not (is_some (slots_of (bytes_of (folder head))).newest)))
 
-  pub new_as_bare : is_some slots.newest ≡ false → nat_lt slots.length 49 ≡ true → is_new folder ≡ is_bare folder
+  pub new_as_bare : is_some slots.newest ≡ false → nat_lt slots.length 49 ≡ true → is_new folder ≡ has_page_0_at_most folder
   unfolding is_new
   new_as_bare none short =
-      ap₂ (λ (a b : Bool). not a && b && is_bare folder) (ap (λ (s : Slots). is_some s.newest) (sym are) ∙ none) (ap (λ (s : Slots). nat_lt s.length 49) (sym are) ∙ short)
+      ap₂ (λ (a b : Bool). not a && b && has_page_0_at_most folder) (ap (λ (s : Slots). is_some s.newest) (sym are) ∙ none) (ap (λ (s : Slots). nat_lt s.length 49) (sym are) ∙ short)

@@ -27,9 +27,9 @@ use Rattle.queue_core.specs.Reading.{AreStanding, IsScanned}
 use Rattle.queue_core.specs.Ready.{FirstReady}
 use Rattle.queue_core.specs.Unread.{IsRead, LeavesTidy}
 use Rattle.queue_core.specs.declared.listing.Listing.{Listing}
-use Rattle.queue_core.specs.declared.opening.Opened.{Opened}
-use Rattle.queue_core.specs.declared.reading.Scanned.{Scanned}
-use Rattle.queue_core.specs.declared.tails.Tail.{Tail}
+use Rattle.queue_core.specs.declared.opening.OpenedQueue.{OpenedQueue}
+use Rattle.queue_core.specs.declared.scanned.Scanned.{Scanned}
+use Rattle.queue_core.specs.declared.sealed_pages.SealedPage.{SealedPage}
 use Rattle.queue_core.proofs.QueueHead.{head_parts}
 use Rattle.queue_core.proofs.QueueOpens.{listed}
 use Rattle.queue_core.proofs.QueuePages.{damage_ok}
@@ -76,18 +76,18 @@ module _ (h : ℕ) (a m : Folder) (pages : (n : ℕ) → n < h → m (page n) �
       one : held_at m n ≡ held_at a n
       one = ap₂ (held_with n) (slots_of n stand.1 stand.2) (pages n stand.1)
 
-  tails_same : (from : ℕ) (tails : List Tail) → AreStanding from h m (map (λ t. t.number) tails) → map (held_tail m) tails ≡ map (held_tail a) tails
+  tails_same : (from : ℕ) (tails : List SealedPage) → AreStanding from h m (map (λ t. t.number) tails) → map (held_tail m) tails ≡ map (held_tail a) tails
   tails_same from [] stand = refl
   tails_same from (t ∷ tails) stand =
       ap₂ (λ (o : Option (List ℕ)) (rest : List HeldPage). page_with t.number t.state o ∷ rest) (pages t.number stand.1) (tails_same (suc t.number) tails stand.4)
 
-  views_same : (from : ℕ) (tails : List Tail) → AreStanding from h m (map (λ t. t.number) tails) → views_of m tails ≡ views_of a tails
+  views_same : (from : ℕ) (tails : List SealedPage) → AreStanding from h m (map (λ t. t.number) tails) → views_of m tails ≡ views_of a tails
   views_same from [] stand = refl
   views_same from (t ∷ tails) stand =
       ap₂ (λ (o : Option (List ℕ)) (r : Result (List PageView) Damaged). and_then (view_at false (page_with t.number t.state o)) (λ y. and_then r (λ ys. Ok (y ∷ ys))))
       (pages t.number stand.1) (views_same (suc t.number) tails stand.4)
 
-  pub newest_same : (from : ℕ) (tails : List Tail) → AreStanding from h m (map (λ t. t.number) tails) → AreNewest m tails → AreNewest a tails
+  pub newest_same : (from : ℕ) (tails : List SealedPage) → AreStanding from h m (map (λ t. t.number) tails) → AreNewest m tails → AreNewest a tails
   newest_same from [] stand are = tt
   newest_same from (t ∷ tails) stand are =
       (subst (λ (o : Option (List ℕ)). IsNewest (bytes_of o) t.turn t.state) (slots_of t.number stand.1 stand.2) are.0, newest_same (suc t.number) tails stand.4 are.1)
@@ -167,7 +167,7 @@ module _ {S : Type 0} (store : StoreWords S) (tell : ImagesTell store) (names : 
           }
 
   -- a new folder
-  first_left : (o : Opened) (folder : Folder) → IsFirst o → Held first_queue folder → IsLeft o folder
+  first_left : (o : OpenedQueue) (folder : Folder) → IsFirst o → Held first_queue folder → IsLeft o folder
   first_left o folder is held =
       let records = held.top.records in
       let begins = held.top.is_page.begins in
@@ -178,20 +178,20 @@ module _ {S : Type 0} (store : StoreWords S) (tell : ImagesTell store) (names : 
       record { fits = records.fits; is = newest_says (bytes_of (folder head)) records.slot records.bytes records.newest ∙ ap₂ (λ (t : ℕ) (s : PageState). Some (t, s)) records.turn_is records.says_is }) in
       record {
         head_is = subst (IsNewest (bytes_of (folder head)) o.turn) (sym is.state) (subst (λ (t : ℕ). IsNewest (bytes_of (folder head)) t (record { page = 0; first_open = 1; least = 1; count = 0; length = 1 })) (sym is.turn) said);
-        standing = subst (λ (tails : List Tail). AreStanding 0 o.state.page folder (map (λ t. t.number) tails)) (sym is.tails) (λ n past below. absurd (omega (arith, below, ap (λ (s : PageState). s.page) is.state)));
+        standing = subst (λ (tails : List SealedPage). AreStanding 0 o.state.page folder (map (λ t. t.number) tails)) (sym is.tails) (λ n past below. absurd (omega (arith, below, ap (λ (s : PageState). s.page) is.state)));
         newest = subst (AreNewest folder) (sym is.tails) tt;
         exact = ap (λ (n : ℕ). length (bytes_of (folder (page n)))) (ap (λ (s : PageState). s.page) is.state) ∙ ap (λ (x : Option (List ℕ)). length (bytes_of x)) held.top.stands ∙ long
             ∙ sym (ap (λ (v : PageView). v.state.length) is.top ∙ ap (λ (s : PageState). s.length) is.state);
       }
 
-  pub opens_first : (file slots : List ℕ) (o : Opened) (old new : S) → AreApart names → file ≡ names (page 0) → slots ≡ names head → IsBegun store names old → FirstReady store file slots old new → IsFirst o → WasOpened store names o old new
+  pub opens_first : (file slots : List ℕ) (o : OpenedQueue) (old new : S) → AreApart names → file ≡ names (page 0) → slots ≡ names head → IsBegun store names old → FirstReady store file slots old new → IsFirst o → WasOpened store names o old new
   opens_first file slots o old new apart file_is slots_are begun made is = record {
     reads = λ told_is. inl (begun.is told_is, is);
     leaves = λ told_is. first_left o (now new) is ((made names apart (record { is = begun.is; rests = begun.rests; file_is = file_is; slots_are = slots_are })).held told_is);
   }
 
   -- what reads gave before is what they give
-  pub opened_from : (o : Opened) (old s2 new : S) → (IsTrue store.tells → store.seen s2 ≡ store.seen old) → WasOpened store names o s2 new → WasOpened store names o old new
+  pub opened_from : (o : OpenedQueue) (old s2 new : S) → (IsTrue store.tells → store.seen s2 ≡ store.seen old) → WasOpened store names o s2 new → WasOpened store names o old new
   opened_from o old s2 new same opened = record {
     reads = λ told_is. subst (λ (c : Content). IsOfFolder (read_in names c) o) (same told_is) (opened.reads told_is);
     leaves = opened.leaves;

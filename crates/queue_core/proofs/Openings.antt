@@ -16,7 +16,7 @@ use Rattle.store_disk.specs.declared.pages.PageState.{PageState}
 use Rattle.queue_checkpoint.specs.Checkpoints.{slots_of}
 use Rattle.queue_checkpoint.specs.declared.checkpoint.Slots.{Slots}
 use Rattle.queue_laws.specs.Folders.{head, page, Folder, Names, AreApart, folder_in}
-use Rattle.queue_laws.specs.Checkpoints.{Misfit, told, told_by}
+use Rattle.queue_laws.specs.Checkpoints.{Mismatch, told, told_by}
 use Rattle.queue_laws.specs.Found.{Damaged, or_damage, told_at, is_new, nothing_found, of_head, found}
 use Rattle.queue_laws.specs.Kept.{Kept}
 use Rattle.queue_laws.proofs.NewFolders.{new_is_empty}
@@ -30,16 +30,16 @@ use Rattle.queue_core.specs.Unread.{IsRead, StaysFound, LeavesTidy}
 use Rattle.queue_core.specs.Telling.{misfit_of, as_told}
 use Rattle.queue_core.specs.Opened.{IsOpened, FindsOpened, IsLook, IsSeen, IsBegun, HoldsFound, KeepsOpened, OpeningKeeps}
 use Rattle.queue_core.specs.declared.listing.Listing.{Listing}
-use Rattle.queue_core.specs.declared.looking.Look.{Look}
-use Rattle.queue_core.specs.declared.opening.Opened.{Opened}
-use Rattle.queue_core.specs.declared.telling.Differing.{Differing}
+use Rattle.queue_core.specs.declared.look.Look.{Look}
+use Rattle.queue_core.specs.declared.opening.OpenedQueue.{OpenedQueue}
+use Rattle.queue_core.specs.declared.checkpoint_state.Differing.{Differing}
 use Rattle.queue_core.proofs.Standings.{found_tidied}
 use Rattle.queue_core.proofs.Tidying.{rest_found}
 
 -- ---- what is found
 
 -- a fault that is handed on
-pub hands_on : (names : Names) (folder : Folder) (result : Result Opened QueueFault) (lost : QueueFault) → IsErrAnd result (λ e. e ≡ lost) → IsLost names lost (found folder) → FindsOpened names folder result
+pub hands_on : (names : Names) (folder : Folder) (result : Result OpenedQueue QueueFault) (lost : QueueFault) → IsErrAnd result (λ e. e ≡ lost) → IsLost names lost (found folder) → FindsOpened names folder result
 hands_on names folder result lost err is_lost =
     let p = err_from_is_err_and result err in
     subst (λ r. FindsOpened names folder r) (sym (p.1 ∙ ap Err p.2)) is_lost
@@ -50,10 +50,10 @@ no_damage names f.Fault found none = tt
 no_damage names f.Memory found none = tt
 
 -- the head slot tells no page
-pub head_damaged : (folder : Folder) (m : Misfit) → is_new folder ≡ false → told (folder head) ≡ Err m → found folder ≡ Err (head, m)
+pub head_damaged : (folder : Folder) (m : Mismatch) → is_new folder ≡ false → told (folder head) ≡ Err m → found folder ≡ Err (head, m)
 head_damaged folder m other tells =
     cond-false (is_new folder) (Ok nothing_found) (and_then (told_at head (folder head)) (of_head folder)) other
-    ∙ ap (λ (t : Result PageState Misfit). and_then (or_damage t (λ m. (head, m))) (of_head folder)) tells
+    ∙ ap (λ (t : Result PageState Mismatch). and_then (or_damage t (λ m. (head, m))) (of_head folder)) tells
 
 -- what is told of the slots is told of the file
 pub told_as : (file : _) (slots : Slots) (result : Result (ℕ × PageState) Differing) → slots ≡ slots_of (bytes_of file) → as_told result ≡ told_by slots slots.newest → told file ≡ as_told result
@@ -77,7 +77,7 @@ module _ {S : Type 0} (store : StoreWords S) (tell : ImagesTell store) (names : 
       (keeps names apart (record { is = begun.is; rests = begun.rests; file_is = file_is; slots_are = slots_are }))
       (λ i told holds chances. holds chances ∙ sym (new_is_empty (now old) (begun.is told)))
 
-  pub first_found : (old : S) (o : Opened) → IsBegun store names old → IsTrue store.tells → o.pages.top.state.least + o.pages.top.state.count ≡ 1 → IsOpened (now old) o
+  pub first_found : (old : S) (o : OpenedQueue) → IsBegun store names old → IsTrue store.tells → o.pages.top.state.least + o.pages.top.state.count ≡ 1 → IsOpened (now old) o
   first_found old o begun told next = record { rows = nothing_found; is_found = new_is_empty (now old) (begun.is told); next = sym next }
 
   -- pages of a folder without what isn't read
@@ -96,7 +96,7 @@ module _ {S : Type 0} (store : StoreWords S) (tell : ImagesTell store) (names : 
       pub found_here : s.page < 2 ^ 32 → IsTrue store.tells → found (now old) ≡ found_of (now mid) s (filter (λ n. nat_lt n s.page) l.pages.items)
       found_here fits told_is = found_tidied (now old) (now mid) s l.pages.items (read.listed told_is).pages (read.tells told_is) fits (tidy.tidied told_is)
 
-      pub reads_pages : s.page < 2 ^ 32 → IsTrue store.tells → (numbers : List ℕ) → numbers ≡ filter (λ n. nat_lt n s.page) l.pages.items → (o : Opened) → IsScanned (now mid) s numbers o.pages → IsOpened (now old) o
+      pub reads_pages : s.page < 2 ^ 32 → IsTrue store.tells → (numbers : List ℕ) → numbers ≡ filter (λ n. nat_lt n s.page) l.pages.items → (o : OpenedQueue) → IsScanned (now mid) s numbers o.pages → IsOpened (now old) o
       reads_pages fits told_is numbers are o scanned = record {
         rows = scanned.rows;
         is_found = found_here fits told_is ∙ ap (found_of (now mid) s) (sym are) ∙ scanned.is_found;
@@ -162,7 +162,7 @@ module _ {S : Type 0} (store : StoreWords S) (tell : ImagesTell store) (names : 
       then_opened new holds = one_then_other store tell old s2 new (Left old) (λ i. NoChances names i → found (folder_in names i) ≡ found (now s2)) (Left old) then_looked holds (λ i told_is left. left)
           (λ i told_is is. inr (told_is, λ chances. is chances ∙ ap (λ c. found (read_in names c)) (reads_same told_is)))
 
-      pub finds : (result : Result Opened QueueFault) → IsTrue store.tells → FindsOpened names (now s2) result → FindsOpened names (now old) result
+      pub finds : (result : Result OpenedQueue QueueFault) → IsTrue store.tells → FindsOpened names (now s2) result → FindsOpened names (now old) result
       finds result told_is is = subst (λ c. FindsOpened names (read_in names c) result) (reads_same told_is) is
 
   pub opening_keeps : (old new : S) → KeepsOpened store names old new → OpeningKeeps store names old new

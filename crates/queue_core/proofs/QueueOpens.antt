@@ -18,8 +18,8 @@ use Rattle.queue_laws.proofs.SameFiles.{same_held, tail_below}
 use Rattle.queue_core.specs.Opening.{held_tail, held_at, held_of}
 use Rattle.queue_core.specs.Reading.{AreStanding, IsScanned}
 use Rattle.queue_core.specs.Queues.{page_of, HaveBytes, AreNewest, AreTold, IsNewest, ArePages, IsCut}
-use Rattle.queue_core.specs.declared.reading.Scanned.{Scanned}
-use Rattle.queue_core.specs.declared.tails.Tail.{Tail}
+use Rattle.queue_core.specs.declared.scanned.Scanned.{Scanned}
+use Rattle.queue_core.specs.declared.sealed_pages.SealedPage.{SealedPage}
 use Rattle.queue_core.proofs.TornMarks.{number_of}
 use Rattle.queue_core.proofs.QueuePages.{damage_ok, Built, build}
 use Rattle.queue_core.proofs.QueueHead.{HeadParts, head_sound, head_held_so, head_parts, head_rows}
@@ -27,7 +27,7 @@ use Rattle.queue_core.proofs.QueueHead.{HeadParts, head_sound, head_held_so, hea
 -- ---- which pages these are
 
 -- the numbers are those of the tails, whose checkpoints tell so
-pub record AreListed (m : Folder) (numbers : List ℕ) (tails : List Tail) : Type 0 where
+pub record AreListed (m : Folder) (numbers : List ℕ) (tails : List SealedPage) : Type 0 where
   pub numbers_are : map (λ t. t.number) tails ≡ numbers
   pub tells : AreTold m tails
 
@@ -43,7 +43,7 @@ first_of x y xs ys is = cc
 rest_of : (x y : HeldPage) (xs ys : List HeldPage) → x ∷ xs ≡ y ∷ ys → xs ≡ ys
 rest_of x y xs ys is = cc
 
-pub listed : (m : Folder) (numbers : List ℕ) (tails : List Tail) → held_of m numbers ≡ Ok (map (held_tail m) tails) → AreListed m numbers tails
+pub listed : (m : Folder) (numbers : List ℕ) (tails : List SealedPage) → held_of m numbers ≡ Ok (map (held_tail m) tails) → AreListed m numbers tails
 listed m [] [] is = record { numbers_are = refl; tells = tt }
 listed m [] (t ∷ tails) is = absurd (none_some (ok_held is))
   where

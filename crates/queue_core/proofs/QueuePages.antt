@@ -16,7 +16,7 @@ use Rattle.queue_page.proofs.FileBytes.{front_bytes}
 use Rattle.queue_page.proofs.PageReads.{recorded_took}
 use Rattle.queue_page.proofs.Spelling.{pages_are_spelled}
 use Rattle.queue_laws.specs.Folders.{page, checkpoint, Folder}
-use Rattle.queue_laws.specs.Checkpoints.{Misfit, misfit, bounded, told, told_by}
+use Rattle.queue_laws.specs.Checkpoints.{Mismatch, misfit, bounded, told, told_by}
 use Rattle.queue_laws.specs.Found.{Damaged, or_damage, Found, since, Held, falling, opened_page, with_page, read_all}
 use Rattle.queue_laws.specs.Kept.{Page, leading, state_as, NoTail, AreNumbered, IsSound, Rising, all_rows}
 use Rattle.queue_laws.specs.Resting.{Records, TailHeld, TailsHeld}
@@ -24,7 +24,7 @@ use Rattle.queue_laws.proofs.Recording.{read_is_recorded}
 use Rattle.queue_core.specs.Opening.{held_tail, view_at, views_of}
 use Rattle.queue_core.specs.Reading.{AreStanding}
 use Rattle.queue_core.specs.Queues.{below, page_of, ArePages, HaveBytes, IsNewest, AreNewest, AreTold}
-use Rattle.queue_core.specs.declared.tails.Tail.{Tail}
+use Rattle.queue_core.specs.declared.sealed_pages.SealedPage.{SealedPage}
 
 -- ---- rows
 
@@ -56,11 +56,11 @@ pub record InBounds (s : PageState) : Type 0 where
   pub least : 1 ≤ s.least
   pub numbers : s.least + s.count < 2 ^ 63
 
-err_not_ok : (m : Misfit) (s : PageState) → ◌≡◌ {A = Result PageState Misfit} (Err m) (Ok s) → ⊥
+err_not_ok : (m : Mismatch) (s : PageState) → ◌≡◌ {A = Result PageState Mismatch} (Err m) (Ok s) → ⊥
 err_not_ok m s is = absurd cc
 
 in_bounds_by : (s t : PageState) (a b c : Bool) → (a ≡ false → s.page ≢ 0xFFFF_FFFF) → (b ≡ false → 1 ≤ s.least) → (c ≡ false → s.least + s.count < 2 ^ 63)
-    → ◌≡◌ {A = Result PageState Misfit}
+    → ◌≡◌ {A = Result PageState Mismatch}
     (if a then Err (misfit 0 s.page 0xFFFF_FFFE) else (if b then Err (misfit 0 s.least 1) else (if c then Err (misfit 0 s.least (0x7FFF_FFFF_FFFF_FFFF - s.count)) else Ok s))) (Ok t) → InBounds s
 in_bounds_by s t true b c one two three is = absurd (err_not_ok (misfit 0 s.page 0xFFFF_FFFE) t is)
 in_bounds_by s t false true c one two three is = absurd (err_not_ok (misfit 0 s.least 1) t is)
@@ -71,7 +71,7 @@ pub in_bounds : (s t : PageState) → bounded s ≡ Ok t → InBounds s
 unfolding bounded
 in_bounds s t is = in_bounds_by s t (s.page == 0xFFFF_FFFF) (s.least == 0) (nat_lt 0x7FFF_FFFF_FFFF_FFFF (s.least + s.count)) (λ e. grind (arith, nat_tests, e)) (λ e. grind (arith, nat_tests, e)) (λ e. grind (arith, nat_tests, e)) is
 
-within_if : (v : Bool) (s : PageState) (m : Misfit) → (if v then bounded s else Err m) ≡ Ok s → bounded s ≡ Ok s
+within_if : (v : Bool) (s : PageState) (m : Mismatch) → (if v then bounded s else Err m) ≡ Ok s → bounded s ≡ Ok s
 within_if true s m is = is
 within_if false s m is = absurd (err_not_ok m s is)
 
@@ -149,12 +149,12 @@ module _ (number turn : ℕ) (s : PageState) (slots file : Option (List ℕ)) (r
 -- ---- all of them
 
 -- the first of the pages as they are to callers
-record FirstView (b : Folder) (s : PageState) (tails : List Tail) (views : List PageView) (read : PageRows) : Type 0 where
+record FirstView (b : Folder) (s : PageState) (tails : List SealedPage) (views : List PageView) (read : PageRows) : Type 0 where
   more : List PageView
   is : views ≡ view_of s read ∷ more
   behind : views_of b tails ≡ Ok more
 
-first_view : (b : Folder) (t : Tail) (tails : List Tail) (views : List PageView) (read : PageRows) → opened false t.state (bytes_of (b (page t.number))) ≡ Ok read → views_of b (t ∷ tails) ≡ Ok views
+first_view : (b : Folder) (t : SealedPage) (tails : List SealedPage) (views : List PageView) (read : PageRows) → opened false t.state (bytes_of (b (page t.number))) ≡ Ok read → views_of b (t ∷ tails) ≡ Ok views
     → FirstView b t.state tails views read
 first_view b t tails views read opens seen =
     let first = and_then_ok (view_at false (held_tail b t)) (λ y. and_then (views_of b tails) (λ ys. Ok (y ∷ ys))) views seen in
@@ -169,7 +169,7 @@ first_view b t tails views read opens seen =
     ok_view : {x y : PageView} → ◌≡◌ {A = Result PageView Damaged} (Ok x) (Ok y) → x ≡ y
     ok_view is = cc
 
-pub record Built (b : Folder) (from end h : ℕ) (tails : List Tail) (views : List PageView) (top : Page) (found : Found) : Type 0 where
+pub record Built (b : Folder) (from end h : ℕ) (tails : List SealedPage) (views : List PageView) (top : Page) (found : Found) : Type 0 where
   pub pages : List Page
   pub are : ArePages tails views pages
   pub held : TailsHeld pages b
@@ -188,7 +188,7 @@ module _ (b : Folder) (top : Held) (q_top : Page) (low : q_top.number < 2 ^ 32 -
       some_none : {d : Damaged} → ◌≡◌ {A = Option Damaged} (Some d) None → ⊥
       some_none is = absurd cc
 
-  pub build : (from end : ℕ) (tails : List Tail) (views : List PageView) (found : Found) → views_of b tails ≡ Ok views → from ≤ q_top.number → read_all (map (held_tail b) tails) top ≡ Ok found
+  pub build : (from end : ℕ) (tails : List SealedPage) (views : List PageView) (found : Found) → views_of b tails ≡ Ok views → from ≤ q_top.number → read_all (map (held_tail b) tails) top ≡ Ok found
       → falling end (map (held_tail b) tails ++ top ∷ []) ≡ None → AreStanding from q_top.number b (map (λ t. t.number) tails) → HaveBytes b tails → AreNewest b tails → AreTold b tails
       → Built b from end q_top.number tails views q_top found
   build from end [] views found seen below_top reads falls stand bytes newest tells =

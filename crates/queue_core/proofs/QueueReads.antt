@@ -16,8 +16,8 @@ use Rattle.queue_page.proofs.PageReads.{as_rows, recorded_took}
 use Rattle.queue_laws.specs.Folders.{Folder, Names, AreApart, page, checkpoint}
 use Rattle.queue_core.specs.Marks.{read_in}
 use Rattle.queue_core.specs.Queues.{IsNewest, AreNewest, HaveBytes, LeavesRead}
-use Rattle.queue_core.specs.declared.reading.Scanned.{Scanned}
-use Rattle.queue_core.specs.declared.tails.Tail.{Tail}
+use Rattle.queue_core.specs.declared.scanned.Scanned.{Scanned}
+use Rattle.queue_core.specs.declared.sealed_pages.SealedPage.{SealedPage}
 use Rattle.queue_core.proofs.QueueHead.{head_parts}
 use Rattle.queue_core.proofs.Removals.{is_or_not}
 
@@ -34,10 +34,10 @@ no_page s v opens =
     false≢true (ap (λ (extent : List ℕ). is_version (version_of extent)) (sym (take_none s.length)) ∙ known)
 
 -- one checkpoint more
-pub newest_more : (folder : Folder) (tails items : List Tail) (t : Tail) → items ≡ tails ++ t ∷ [] → AreNewest folder tails → IsNewest (bytes_of (folder (checkpoint t.number))) t.turn t.state → AreNewest folder items
+pub newest_more : (folder : Folder) (tails items : List SealedPage) (t : SealedPage) → items ≡ tails ++ t ∷ [] → AreNewest folder tails → IsNewest (bytes_of (folder (checkpoint t.number))) t.turn t.state → AreNewest folder items
 newest_more folder tails items t more are is = subst (AreNewest folder) (sym more) (one tails are)
   where
-    one : (tails : List Tail) → AreNewest folder tails → AreNewest folder (tails ++ t ∷ [])
+    one : (tails : List SealedPage) → AreNewest folder tails → AreNewest folder (tails ++ t ∷ [])
     one [] are = (is, tt)
     one (x ∷ tails) are = (are.0, one tails are.1)
 

@@ -18,8 +18,8 @@ use Rattle.queue_core.specs.Ready.{FirstReady}
 use Rattle.queue_core.specs.Unread.{IsRead, StaysFound, LeavesTidy}
 use Rattle.queue_core.specs.Queues.{IsNewest, ArePages, IsQueueOf, LeavesRead, OpensReady}
 use Rattle.queue_core.specs.declared.listing.Listing.{Listing}
-use Rattle.queue_core.specs.declared.opening.Opened.{Opened}
-use Rattle.queue_core.specs.declared.reading.Scanned.{Scanned}
+use Rattle.queue_core.specs.declared.opening.OpenedQueue.{OpenedQueue}
+use Rattle.queue_core.specs.declared.scanned.Scanned.{Scanned}
 use Rattle.queue_core.proofs.Keeping.{at_rest_rests}
 use Rattle.queue_core.proofs.Openings.{found_here}
 use Rattle.queue_core.proofs.QueueOpens.{opens_queue}
@@ -58,7 +58,7 @@ module _ {S : Type 0} (store : StoreWords S) (tell : ImagesTell store) (names : 
       }
 
   -- a new folder
-  pub ready_first : (file slots : List ℕ) (o : Opened) (old new : S) → AreApart names → file ≡ names (page 0) → slots ≡ names head → IsBegun store names old → FirstReady store file slots old new → o.pages.tails.items ≡ []
+  pub ready_first : (file slots : List ℕ) (o : OpenedQueue) (old new : S) → AreApart names → file ≡ names (page 0) → slots ≡ names head → IsBegun store names old → FirstReady store file slots old new → o.pages.tails.items ≡ []
       → o.turn ≡ 0 → o.state ≡ record { page = 0; first_open = 1; least = 1; count = 0; length = 1 } → o.pages.top ≡ record { version = 2; state = o.state } → OpensReady store names o old new
   ready_first file slots o old new apart file_is slots_are begun made none turn_is state_is top_is told_is = record {
     queue = first_queue;
@@ -74,7 +74,7 @@ module _ {S : Type 0} (store : StoreWords S) (tell : ImagesTell store) (names : 
   }
 
   -- what reads gave before is what they give
-  pub ready_from : (o : Opened) (old s2 new : S) → (IsTrue store.tells → store.seen s2 ≡ store.seen old) → OpensReady store names o s2 new → OpensReady store names o old new
+  pub ready_from : (o : OpenedQueue) (old s2 new : S) → (IsTrue store.tells → store.seen s2 ≡ store.seen old) → OpensReady store names o s2 new → OpensReady store names o old new
   ready_from o old s2 new same opens told_is =
       let q = opens told_is in
       record { queue = q.queue; is = subst (λ (c : Content). IsQueueOf (read_in names c) o q.queue) (same told_is) q.is; ready = q.ready }

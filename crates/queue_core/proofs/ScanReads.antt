@@ -18,10 +18,10 @@ use Rattle.queue_laws.specs.Found.{Damaged, or_damage, Found, Held, head_held, f
 use Rattle.queue_core.specs.Collected.{collected, IsLost}
 use Rattle.queue_core.specs.Opening.{held_tail, held_of, view_at, views_of, falls_at}
 use Rattle.queue_core.specs.Marks.{read_in}
-use Rattle.queue_core.specs.declared.telling.Differing.{Differing}
+use Rattle.queue_core.specs.declared.checkpoint_state.Differing.{Differing}
 use Rattle.queue_core.specs.Reading.{found_of, FindsScanned}
-use Rattle.queue_core.specs.declared.reading.Scanned.{Scanned}
-use Rattle.queue_core.specs.declared.tails.Tail.{Tail}
+use Rattle.queue_core.specs.declared.scanned.Scanned.{Scanned}
+use Rattle.queue_core.specs.declared.sealed_pages.SealedPage.{SealedPage}
 use Rattle.queue_core.proofs.Collecting.{lost_of}
 
 or_ok : {X M : Type 0} (r : Result X M) (damage : M → Damaged) (x : X) → or_damage r damage ≡ Ok x → r ≡ Ok x
@@ -118,11 +118,11 @@ top_lost (p ∷ tails) top views e tails_are top_is =
 
 -- ---- the folder
 
-views_are : (folder : Folder) (tails : List Tail) → collected (view_at false) (map (held_tail folder) tails) ≡ views_of folder tails
+views_are : (folder : Folder) (tails : List SealedPage) → collected (view_at false) (map (held_tail folder) tails) ≡ views_of folder tails
 views_are folder [] = refl
 views_are folder (t ∷ tails) = ap (λ (r : Result (List PageView) Damaged). and_then (view_at false (held_tail folder t)) (λ y. and_then r (λ ys. Ok (y ∷ ys)))) (views_are folder tails)
 
-module _ (folder : Folder) (s : PageState) (numbers : List ℕ) (tails : List Tail) (held : held_of folder numbers ≡ Ok (map (held_tail folder) tails)) where
+module _ (folder : Folder) (s : PageState) (numbers : List ℕ) (tails : List SealedPage) (held : held_of folder numbers ≡ Ok (map (held_tail folder) tails)) where
   abbrev top : Held
   top = head_held folder s
 
@@ -173,13 +173,13 @@ handed_on names folder s numbers result lost err is_lost =
     subst (λ r. FindsScanned names folder s numbers r) (sym (p.1 ∙ ap Err p.2)) is_lost
 
 -- where none falls
-pub none_falls : (folder : Folder) (s : PageState) (slice tails : List Tail) (result : Option (ℕ × Differing)) → slice ≡ tails → result ≡ None
+pub none_falls : (folder : Folder) (s : PageState) (slice tails : List SealedPage) (result : Option (ℕ × Differing)) → slice ≡ tails → result ≡ None
     → ((folder : Folder) → option_map falls_at result ≡ falling 0 (map (held_tail folder) slice ++ head_held folder s ∷ [])) → falling 0 (map (held_tail folder) tails ++ head_held folder s ∷ []) ≡ None
 none_falls folder s slice tails result same is says =
     subst (λ l. falling 0 (map (held_tail folder) l ++ head_held folder s ∷ []) ≡ None) same (sym (says folder) ∙ ap (option_map falls_at) is)
 
 -- what was read of the pages, where reads give the same as at first
-module _ (names : Names) (old now : Content) (same : now ≡ old) (slice tails : List Tail) (is_slice : slice ≡ tails) where
+module _ (names : Names) (old now : Content) (same : now ≡ old) (slice tails : List SealedPage) (is_slice : slice ≡ tails) where
   pub pages_lost : (fault : QueueFault) → IsLost names fault (views_of (read_in names now) slice) → IsLost names fault (views_of (read_in names old) tails)
   pages_lost fault lost = subst (λ (c : Content). IsLost names fault (views_of (read_in names c) tails)) same (subst (λ l. IsLost names fault (views_of (read_in names now) l)) is_slice lost)
 

@@ -15,8 +15,8 @@ use Rattle.queue_core.specs.Opened.{IsOpened}
 use Rattle.queue_core.specs.Queues.{AreNewest, IsNewest}
 use Rattle.queue_core.specs.Reading.{AreStanding, IsScanned, found_of}
 use Rattle.queue_core.specs.declared.listing.Listing.{Listing}
-use Rattle.queue_core.specs.declared.opening.Opened.{Opened}
-use Rattle.queue_core.specs.declared.reading.Scanned.{Scanned}
+use Rattle.queue_core.specs.declared.opening.OpenedQueue.{OpenedQueue}
+use Rattle.queue_core.specs.declared.scanned.Scanned.{Scanned}
 use Rattle.queue_core.proofs.QueueOpens.{listed}
 use Rattle.queue_core.proofs.StandingPages.{pages_are_found}
 use Rattle.queue_core.proofs.Standings.{below_stand}
@@ -47,7 +47,7 @@ module _ (f : Folder) (l : Listing) (s : PageState) (is_listed : IsListed f l) (
         }
 
 -- a new folder
-pub first_seen : (f : Folder) (o : Opened) → IsFirst o → is_new f ≡ true → IsOpened f o
+pub first_seen : (f : Folder) (o : OpenedQueue) → IsFirst o → is_new f ≡ true → IsOpened f o
 first_seen f o first new = record {
   rows = nothing_found;
   is_found = new_is_empty f new;

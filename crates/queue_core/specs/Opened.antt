@@ -14,18 +14,18 @@ use Rattle.queue_core.specs.Collected.{IsLost}
 use Rattle.queue_core.specs.Listing.{IsListed}
 use Rattle.queue_core.specs.Marks.{read_in, NoChances}
 use Rattle.queue_core.specs.Ready.{Keeps}
-use Rattle.queue_core.specs.declared.looking.Look.{Look}
-use Rattle.queue_core.specs.declared.opening.Opened.{Opened}
+use Rattle.queue_core.specs.declared.look.Look.{Look}
+use Rattle.queue_core.specs.declared.opening.OpenedQueue.{OpenedQueue}
 
 -- ---- what is found
 
 -- the folder holds rows, behind which comes the next number of the head page
-pub record IsOpened (folder : Folder) (o : Opened) : Type 0 where
+pub record IsOpened (folder : Folder) (o : OpenedQueue) : Type 0 where
   pub rows : Found
   pub is_found : found folder ≡ Ok rows
   pub next : rows.next ≡ o.pages.top.state.least + o.pages.top.state.count
 
-abbrev pub FindsOpened : Names → Folder → Result Opened QueueFault → Type 0
+abbrev pub FindsOpened : Names → Folder → Result OpenedQueue QueueFault → Type 0
 FindsOpened names folder (Ok o) = IsOpened folder o
 FindsOpened names folder (Err fault) = IsLost names fault (found folder)
 

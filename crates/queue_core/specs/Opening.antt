@@ -9,11 +9,11 @@ use Rattle.queue_laws.specs.Checkpoints.{misfit}
 use Rattle.queue_laws.specs.Found.{Damaged, or_damage, told_at, Held}
 use Rattle.queue_core.specs.Collected.{collected}
 use Rattle.queue_core.specs.Telling.{misfit_of}
-use Rattle.queue_core.specs.declared.telling.Differing.{Differing}
-use Rattle.queue_core.specs.declared.tails.Tail.{Tail}
+use Rattle.queue_core.specs.declared.checkpoint_state.Differing.{Differing}
+use Rattle.queue_core.specs.declared.sealed_pages.SealedPage.{SealedPage}
 
 -- a page below the head as its checkpoint tells of it, with the bytes of its file
-abbrev pub held_tail : Folder → Tail → Held
+abbrev pub held_tail : Folder → SealedPage → Held
 held_tail folder t = record { number = t.number; state = t.state; bytes = bytes_of (folder (page t.number)) }
 
 abbrev pub held_at : Folder → ℕ → Result Held Damaged
@@ -25,10 +25,10 @@ held_of folder numbers = collected (held_at folder) numbers
 
 -- ---- what the pages say
 
-abbrev pub IsBounded : Tail → Type 0
+abbrev pub IsBounded : SealedPage → Type 0
 IsBounded t = t.state.least + t.state.count ≤ 2 ^ 63 - 1
 
-abbrev pub AllBounded : List Tail → Type 0
+abbrev pub AllBounded : List SealedPage → Type 0
 AllBounded [] = ⊤
 AllBounded (t ∷ tails) = IsBounded t × AllBounded tails
 
@@ -37,7 +37,7 @@ abbrev pub view_at : Bool → Held → Result PageView Damaged
 view_at is_head p = or_damage (opened_view is_head p.state p.bytes) (λ m. (page p.number, misfit m.place m.found m.expected))
 
 -- those below the head, or the first damage of one
-abbrev pub views_of : Folder → List Tail → Result (List PageView) Damaged
+abbrev pub views_of : Folder → List SealedPage → Result (List PageView) Damaged
 views_of folder tails = collected (λ t. view_at false (held_tail folder t)) tails
 
 -- the page of this number has a least number that is below the end before it

@@ -16,9 +16,9 @@ use Rattle.queue_laws.specs.Found.{found}
 use Rattle.queue_laws.specs.Kept.{Page, Queue, all_rows}
 use Rattle.queue_core.specs.Marks.{read_in}
 use Rattle.queue_core.specs.Ready.{Ready}
-use Rattle.queue_core.specs.declared.opening.Opened.{Opened}
-use Rattle.queue_core.specs.declared.reading.Scanned.{Scanned}
-use Rattle.queue_core.specs.declared.tails.Tail.{Tail}
+use Rattle.queue_core.specs.declared.opening.OpenedQueue.{OpenedQueue}
+use Rattle.queue_core.specs.declared.scanned.Scanned.{Scanned}
+use Rattle.queue_core.specs.declared.sealed_pages.SealedPage.{SealedPage}
 
 -- ---- pages as they were read
 
@@ -40,7 +40,7 @@ page_of number turn s read = record {
 }
 
 -- the pages of which these tell, as they are to callers, with as many rows
-abbrev pub ArePages : List Tail → List PageView → List Page → Type 0
+abbrev pub ArePages : List SealedPage → List PageView → List Page → Type 0
 ArePages [] views pages = pages ≡ []
 ArePages (t ∷ tails) views pages =
     (read : PageRows) × (rest : List Page) × (more : List PageView) × (pages ≡ page_of t.number t.turn t.state read ∷ rest) × (length read.rows ≡ t.state.count) × (views ≡ view_of t.state read ∷ more)
@@ -53,22 +53,22 @@ pub record IsNewest (slots : List ℕ) (turn : ℕ) (s : PageState) : Type 0 whe
   pub fits : FitsSlot turn s
   pub is : newest_in slots ≡ Some (turn, s)
 
-abbrev pub AreNewest : Folder → List Tail → Type 0
+abbrev pub AreNewest : Folder → List SealedPage → Type 0
 AreNewest folder [] = ⊤
 AreNewest folder (t ∷ tails) = IsNewest (bytes_of (folder (checkpoint t.number))) t.turn t.state × AreNewest folder tails
 
 -- the newest slot of each tells what was read of it
-abbrev pub AreTold : Folder → List Tail → Type 0
+abbrev pub AreTold : Folder → List SealedPage → Type 0
 AreTold folder [] = ⊤
 AreTold folder (t ∷ tails) = (told (folder (checkpoint t.number)) ≡ Ok t.state) × AreTold folder tails
 
 -- what is recorded of each are bytes
-abbrev pub HaveBytes : Folder → List Tail → Type 0
+abbrev pub HaveBytes : Folder → List SealedPage → Type 0
 HaveBytes folder [] = ⊤
 HaveBytes folder (t ∷ tails) = AreBytesIn 0 t.state.length (bytes_of (folder (page t.number))) × HaveBytes folder tails
 
 -- the queue of a folder that was opened
-pub record IsQueueOf (folder : Folder) (o : Opened) (q : Queue) : Type 0 where
+pub record IsQueueOf (folder : Folder) (o : OpenedQueue) (q : Queue) : Type 0 where
   pub tails : ArePages o.pages.tails.items o.pages.pages.items q.tails
   pub read : PageRows
   pub top : q.top ≡ page_of o.state.page o.turn o.state read
@@ -97,10 +97,10 @@ module _ {S : Type 0} (store : StoreWords S) where
     pub short : r.top.state.length < 2 ^ 64
 
   -- the queue of a folder that was opened is ready
-  pub record OpensQueue (names : Names) (o : Opened) (old new : S) : Type 0 where
+  pub record OpensQueue (names : Names) (o : OpenedQueue) (old new : S) : Type 0 where
     pub queue : Queue
     pub is : IsQueueOf (read_in names (store.seen old)) o queue
     pub ready : Ready store names queue new
 
-  abbrev pub OpensReady : Names → Opened → S → S → Type 0
+  abbrev pub OpensReady : Names → OpenedQueue → S → S → Type 0
   OpensReady names o old new = IsTrue store.tells → OpensQueue names o old new

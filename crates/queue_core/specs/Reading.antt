@@ -12,7 +12,7 @@ use Rattle.queue_laws.specs.Found.{Damaged, Found, head_held, found_in, found}
 use Rattle.queue_core.specs.Collected.{IsLost}
 use Rattle.queue_core.specs.Marks.{read_in, NoChances}
 use Rattle.queue_core.specs.Opening.{held_tail, held_of, view_at, views_of}
-use Rattle.queue_core.specs.declared.reading.Scanned.{Scanned}
+use Rattle.queue_core.specs.declared.scanned.Scanned.{Scanned}
 
 -- what a folder holds whose head slot says this, and that has the pages of these numbers below
 abbrev pub found_of : Folder → PageState → List ℕ → Result Found Damaged

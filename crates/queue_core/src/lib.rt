@@ -1,33 +1,33 @@
 //! The persistent queue of a pipeline, over its page files and checkpoints.
 #![tactic(auto)]
 
+mod checkpoint_state;
+mod inspection;
 pub mod laws;
 mod listing;
-mod looking;
+mod look;
 mod marking;
 mod naming;
 mod opening;
+mod page_scan;
 mod purging;
-mod reading;
 mod removing;
 mod rolling;
 mod rows;
-mod scanning;
-mod seeing;
+mod scanned;
+mod sealed_pages;
 mod starting;
-mod tails;
-mod telling;
 mod unread;
 
+pub use inspection::read_folder;
 pub use listing::{Listing, list_folder};
 pub use marking::{Mark, mark_pages};
 pub use naming::{checkpoint_name, head_name, page_name};
-pub use opening::{Opened, open_folder};
+pub use opening::{OpenedQueue, open_folder};
 pub use purging::remove_page;
-pub use reading::{Scanned, read_pages};
 pub use removing::remove_files;
 pub use rolling::{NextPage, begin_page};
 pub use rows::add_row;
-pub use seeing::read_folder;
+pub use scanned::{Scanned, read_pages};
+pub use sealed_pages::SealedPage;
 pub use starting::make_first;
-pub use tails::Tail;

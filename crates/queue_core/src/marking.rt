@@ -1,3 +1,4 @@
+// Recording in checkpoint files how far pages are acknowledged.
 ghost use Rattle.std.specs.Prelude.{◌≡◌, IsTrue, OnOk, IsErr};
 ghost use Rattle.io_traits.specs.Counts.{HasCause};
 ghost use Rattle.store_trait.specs.Moments.{EachMoment};

@@ -12,13 +12,13 @@ ghost use Rattle.queue_core.specs.Queues.{IsNewest, OpensReady};
 ghost use Rattle.queue_core.specs.Unread.{IsRead};
 ghost use Rattle.queue_core.specs.Opened.{FindsOpened, IsSeen, IsBegun, HoldsFound, KeepsOpened, OpeningKeeps};
 
+use crate::checkpoint_state::told;
 use crate::listing::Listing;
-use crate::looking::{Look, is_new, look_at};
+use crate::look::{Look, is_new, look_at};
 use crate::naming::page_name;
-use crate::reading::{Scanned, read_pages};
+use crate::scanned::{Scanned, read_pages};
+use crate::sealed_pages::damaged;
 use crate::starting::{FIRST_STATE, make_first};
-use crate::tails::damaged;
-use crate::telling::told;
 use crate::unread::remove_unread;
 use queue_page::Page;
 use std::alloc::Global;
@@ -26,7 +26,7 @@ use store_disk::{PageState, QueueFault, Store};
 
 /// A folder that is open.
 #[derive(Drop)]
-pub struct Opened {
+pub struct OpenedQueue {
     /// The turn of the newest slot of the head.
     pub turn: u64,
     /// What that slot says of the head page.
@@ -45,7 +45,7 @@ pub fn open_folder<S: Store>(
     alloc: Global,
     store: &mut S,
     folder: &str,
-) -> Result<Opened, QueueFault>
+) -> Result<OpenedQueue, QueueFault>
     requires { folder_start folder.now ≡ folder.now }
     ensures found { IsTrue S.tells → FindsOpened (names_in folder.now)
         (read_in (names_in folder.now) (S.seen store.old)) result }
@@ -70,7 +70,7 @@ fn open_seen<S: Store>(
     store: &mut S,
     folder: &str,
     look: Look,
-) -> Result<Opened, QueueFault>
+) -> Result<OpenedQueue, QueueFault>
     requires { look.head ≡ names_in folder.now head }
     ensures found { IsSeen S.Store (names_in folder.now) look store.old → IsTrue S.tells
         → FindsOpened (names_in folder.now)
@@ -105,7 +105,7 @@ fn begin_folder<S: Store>(
     store: &mut S,
     folder: &str,
     checkpoint: &str,
-) -> Result<Opened, QueueFault>
+) -> Result<OpenedQueue, QueueFault>
     requires { checkpoint.now ≡ names_in folder.now head }
     ensures found { IsBegun S.Store (names_in folder.now) store.old → IsTrue S.tells
         → FindsOpened (names_in folder.now)
@@ -125,7 +125,7 @@ fn begin_folder<S: Store>(
     let tails = Vec::new(alloc);
     let pages = Vec::new(alloc);
     let top = Page::start(FIRST_STATE);
-    Ok(Opened {
+    Ok(OpenedQueue {
         turn: 0,
         state: FIRST_STATE,
         pages: Scanned { tails, pages, top },
@@ -140,7 +140,7 @@ fn open_pages<S: Store>(
     listing: Listing,
     turn: u64,
     state: PageState,
-) -> Result<Opened, QueueFault>
+) -> Result<OpenedQueue, QueueFault>
     requires { state.least + state.count ≤ 2 ^ 63 - 1 }
     ensures found { IsRead S.Store (names_in folder.now) listing state store.old → IsTrue S.tells
         → FindsOpened (names_in folder.now)
@@ -163,5 +163,5 @@ fn open_pages<S: Store>(
     let mut numbers = listing.pages;
     numbers.retain(|number| *number < state.page);
     let pages = read_pages(alloc, store, folder, numbers.as_slice(), &state)?;
-    Ok(Opened { turn, state, pages })
+    Ok(OpenedQueue { turn, state, pages })
 }

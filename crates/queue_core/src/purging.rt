@@ -1,3 +1,4 @@
+// Removing a page whose rows are all acknowledged.
 ghost use Rattle.std.specs.Prelude.{◌≡◌, ◌⊎◌, OnOk, IsErr};
 ghost use Rattle.io_traits.specs.Counts.{HasCause};
 ghost use Rattle.queue_core.specs.Others.{KeepsOthers};

@@ -1,3 +1,4 @@
+// Removing files of a queue, settled by one sync.
 ghost use Rattle.std.specs.Prelude.{◌≡◌, List, ℕ, Contains, IsTrue, OnOk, IsErr};
 ghost use Rattle.io_traits.specs.Counts.{HasCause};
 ghost use Rattle.queue_core.specs.Others.{KeepsOthers};

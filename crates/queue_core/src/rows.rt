@@ -1,3 +1,4 @@
+// Appending a row to the head page.
 ghost use Rattle.std.specs.Prelude.{◌≡◌, ◌<◌, ◌+◌, ◌-◌, ◌^◌, ◌++◌, IsTrue, IsErr, OnOk, OnErr, Some, length};
 ghost use Rattle.io_traits.specs.Counts.{HasCause};
 ghost use Rattle.io_traits.specs.Reads.{bytes_of};

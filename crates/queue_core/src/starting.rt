@@ -1,3 +1,4 @@
+// Making the first files of a new queue.
 ghost use Rattle.std.specs.Prelude.{◌≡◌, ◌⊎◌, OnOk, IsErr};
 ghost use Rattle.io_traits.specs.Counts.{HasCause};
 ghost use Rattle.queue_core.specs.Others.{KeepsOthers};

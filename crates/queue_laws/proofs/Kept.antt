@@ -6,8 +6,8 @@ use Rattle.store_disk.specs.declared.pages.PageState.{PageState}
 use Rattle.queue_checkpoint.specs.Checkpoints.{slots_of}
 use Rattle.queue_page.specs.Elements.{and_then}
 use Rattle.queue_laws.specs.Folders.{head, page, Folder}
-use Rattle.queue_laws.specs.Checkpoints.{Misfit, misfit, told, told_by}
-use Rattle.queue_laws.specs.Found.{Damaged, or_damage, told_at, is_new, is_bare, Held, head_held, unless, opened_page, read_all, found_in, of_head, nothing_found, found}
+use Rattle.queue_laws.specs.Checkpoints.{Mismatch, misfit, told, told_by}
+use Rattle.queue_laws.specs.Found.{Damaged, or_damage, told_at, is_new, has_page_0_at_most, Held, head_held, unless, opened_page, read_all, found_in, of_head, nothing_found, found}
 use Rattle.queue_laws.specs.Laws.{StandingIsKept}
 use Rattle.queue_laws.proofs.Standing.{fits, none_falls, reads}
 
@@ -20,12 +20,12 @@ pub not_new : (folder : Folder) (s : PageState) → told (folder head) ≡ Ok s 
 unfolding is_new
 not_new folder s is =
     let slots = slots_of (bytes_of (folder head)) in
-    ap (λ (b : Bool). not b && nat_lt (length (bytes_of (folder head))) 49 && is_bare folder) (some_newest slots slots.newest s is)
+    ap (λ (b : Bool). not b && nat_lt (length (bytes_of (folder head))) 49 && has_page_0_at_most folder) (some_newest slots slots.newest s is)
 
 pub found_as : (folder : Folder) (s : PageState) → told (folder head) ≡ Ok s → found folder ≡ of_head folder s
 found_as folder s is =
     cond-false (is_new folder) (Ok nothing_found) (and_then (told_at head (folder head)) (of_head folder)) (not_new folder s is)
-    ∙ ap (λ (t : Result PageState Misfit). and_then (or_damage t (λ m. (head, m))) (of_head folder)) is
+    ∙ ap (λ (t : Result PageState Mismatch). and_then (or_damage t (λ m. (head, m))) (of_head folder)) is
 
 pub standing_is_kept : StandingIsKept
 standing_is_kept q folder is stands =

@@ -9,7 +9,7 @@ use Rattle.queue_checkpoint.specs.Checkpoints.{newest_in}
 use Rattle.queue_checkpoint.proofs.FileReads.{no_slot, none_said}
 use Rattle.store_disk.specs.declared.pages.PageState.{PageState}
 use Rattle.queue_laws.specs.Folders.{Role, head, page, checkpoint, Folder}
-use Rattle.queue_laws.specs.Found.{Row, since, none_of, is_bare, is_new, nothing_found, found}
+use Rattle.queue_laws.specs.Found.{Row, since, none_of, has_page_0_at_most, is_new, nothing_found, found}
 use Rattle.queue_laws.specs.Laws.{StaysNew, FirstIsHeld, FirstIsEmpty}
 
 none_same : (kind : ℕ → Role) (a b : Folder) (count from : ℕ) → ((n : ℕ) → from ≤ n → b (kind n) ≡ a (kind n)) → none_of kind count from b ≡ none_of kind count from a
@@ -32,8 +32,8 @@ none_there kind folder (suc count) from none n past within =
     (λ other. none_there kind folder count (suc from) parts.1 n (omega (arith, past, other)) (omega (arith, within)))
     (cases_eq from n)
 
-bare_same : (a b : Folder) → ((n : ℕ) → 1 ≤ n → b (page n) ≡ a (page n)) → ((n : ℕ) → b (checkpoint n) ≡ a (checkpoint n)) → is_bare b ≡ is_bare a
-unfolding is_bare
+bare_same : (a b : Folder) → ((n : ℕ) → 1 ≤ n → b (page n) ≡ a (page n)) → ((n : ℕ) → b (checkpoint n) ≡ a (checkpoint n)) → has_page_0_at_most b ≡ has_page_0_at_most a
+unfolding has_page_0_at_most
 bare_same a b pages slots = ap₂ (λ (x y : Bool). x && y) (none_same checkpoint a b 0x1_0000_0000 0 (λ n past. slots n)) (none_same page a b 0xFFFF_FFFF 1 pages)
 
 -- nothing but page 0 stands in a bare folder
@@ -41,8 +41,8 @@ record Bare (folder : Folder) : Type 0 where
   checkpoints : (n : ℕ) → n < 2 ^ 32 → folder (checkpoint n) ≡ None
   pages : (n : ℕ) → 1 ≤ n → n < 2 ^ 32 → folder (page n) ≡ None
 
-bare_is : (folder : Folder) → is_bare folder ≡ true → Bare folder
-unfolding is_bare
+bare_is : (folder : Folder) → has_page_0_at_most folder ≡ true → Bare folder
+unfolding has_page_0_at_most
 bare_is folder is =
     let parts = and_parts (none_of checkpoint 0x1_0000_0000 0 folder) (none_of page 0xFFFF_FFFF 1 folder) is in
     record {
@@ -68,7 +68,7 @@ new_head folder is =
 pub new_is_empty : (folder : Folder) → is_new folder ≡ true → found folder ≡ Ok nothing_found
 new_is_empty folder is = cond-true (is_new folder) _ _ is
 
-new_bare : (folder : Folder) → is_new folder ≡ true → is_bare folder ≡ true
+new_bare : (folder : Folder) → is_new folder ≡ true → has_page_0_at_most folder ≡ true
 unfolding is_new
 new_bare folder is = (and_parts _ _ is).1
 
@@ -77,7 +77,7 @@ unfolding is_new
 stays_new a b is none short pages slots =
     let said : newest_in (bytes_of (b head)) ≡ None = none_said (bytes_of (b head)) none in
     let few : nat_lt (length (bytes_of (b head))) 49 ≡ true = grind (arith, nat_tests, short) in
-    ap₂ (λ (o : Option _) (rest : Bool). not (is_some o) && rest && is_bare b) said few ∙ bare_same a b pages slots ∙ new_bare a is
+    ap₂ (λ (o : Option _) (rest : Bool). not (is_some o) && rest && has_page_0_at_most b) said few ∙ bare_same a b pages slots ∙ new_bare a is
 
 pub first_is_held : FirstIsHeld
 first_is_held a b is pages slots begun records =

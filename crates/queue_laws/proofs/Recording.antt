@@ -13,7 +13,7 @@ use Rattle.queue_checkpoint.proofs.SlotBytes.{read_version, read_state, spelling
 use Rattle.queue_checkpoint.proofs.FileReads.{newest_says, sayer}
 use Rattle.queue_checkpoint.proofs.SlotWrites.{may_hold}
 use Rattle.queue_page.specs.declared.row.PageRow.{PageRow}
-use Rattle.queue_laws.specs.Checkpoints.{Misfit, misfit, bounded, told, told_by}
+use Rattle.queue_laws.specs.Checkpoints.{Mismatch, misfit, bounded, told, told_by}
 use Rattle.queue_laws.specs.Kept.{Page, state_as, state_at, IsSound}
 use Rattle.queue_laws.specs.Resting.{Records, MayRecord}
 use Rattle.queue_laws.specs.Laws.{ReadIsRecorded}
@@ -67,7 +67,7 @@ version_told slots newest s is = elim (cases_Bool (slots.version == 1)) [
   | inr other ↦ absurd (not_ok (misfit 0 slots.version 1) s (sym (cond-false (slots.version == 1) (bounded newest.1) (Err (misfit 0 slots.version 1)) other) ∙ is))
 ]
   where
-    not_ok : (m : Misfit) (s : PageState) → ◌≡◌ {A = Result PageState Misfit} (Err m) (Ok s) → ⊥
+    not_ok : (m : Mismatch) (s : PageState) → ◌≡◌ {A = Result PageState Mismatch} (Err m) (Ok s) → ⊥
     not_ok m s is = absurd cc
 
 pub read_is_recorded : ReadIsRecorded

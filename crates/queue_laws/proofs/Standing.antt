@@ -10,7 +10,7 @@ use Rattle.queue_page.specs.Pages.{PageRows, recorded, extended}
 use Rattle.queue_page.specs.declared.row.PageRow.{PageRow}
 use Rattle.queue_page.proofs.Spelling.{pages_are_read}
 use Rattle.queue_laws.specs.Folders.{page, checkpoint, Folder}
-use Rattle.queue_laws.specs.Checkpoints.{Misfit, misfit, told}
+use Rattle.queue_laws.specs.Checkpoints.{Mismatch, misfit, told}
 use Rattle.queue_laws.specs.Found.{since, Damaged, or_damage, Found, Held, held_by, held, falling, opened_page, top_found, with_page, read_all}
 use Rattle.queue_laws.specs.Kept.{Page, Queue, first_open_of, IsSince, RowsKept, state_as, Tells, IsTail, AreTails, NoTail, Rising}
 
@@ -61,7 +61,7 @@ fit_one p tails folder rest tail more =
       pages = now ∷ more.pages;
       is =
           ap (λ (o : Option (List ℕ)). held_by p.number (folder (checkpoint p.number)) o rest) tail.stands
-          ∙ ap (λ (t : Result PageState Misfit). and_then (or_damage t (λ m. (checkpoint p.number, m))) (λ s. and_then rest (λ pages. Ok (record { number = p.number; state = s; bytes = file } ∷ pages)))) one.2
+          ∙ ap (λ (t : Result PageState Mismatch). and_then (or_damage t (λ m. (checkpoint p.number, m))) (λ s. and_then rest (λ pages. Ok (record { number = p.number; state = s; bytes = file } ∷ pages)))) one.2
           ∙ ap (λ (r : Result (List Held) Damaged). and_then r (λ pages. Ok (now ∷ pages))) more.is;
       fit = (record { number = refl; first_open = one.0; one = one.1; bytes = tail.bytes; rest = tail.rest; bytes_are = refl; named = tail.named; state = refl; is_page = tail.is_page }, more.fit);
     }

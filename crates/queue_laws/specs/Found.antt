@@ -9,7 +9,7 @@ use Rattle.queue_page.specs.Elements.{and_then}
 use Rattle.queue_page.specs.Pages.{PageRows, opened}
 use Rattle.queue_page.specs.declared.row.PageRow.{PageRow}
 use Rattle.queue_laws.specs.Folders.{Role, head, page, checkpoint, Folder}
-use Rattle.queue_laws.specs.Checkpoints.{Misfit, misfit, told}
+use Rattle.queue_laws.specs.Checkpoints.{Mismatch, misfit, told}
 
 -- ---- rows and damages
 
@@ -29,7 +29,7 @@ since number (r ∷ rows) = if nat_lt r.number number then since number rows els
 
 -- the file that is damaged, and how
 abbrev pub Damaged : Type 0
-Damaged = Role × Misfit
+Damaged = Role × Mismatch
 
 abbrev pub or_damage : {X M : Type 0} → Result X M → (M → Damaged) → Result X Damaged
 or_damage (Ok x) damage = Ok x
@@ -52,12 +52,12 @@ none_of kind zero from folder = true
 none_of kind (suc count) from folder = not (is_some (folder (kind from))) && none_of kind count (suc from) folder
 
 -- no page but page 0 stands, and no checkpoint of a page below a head
-unfoldable pub is_bare : Folder → Bool
-is_bare folder = none_of checkpoint 0x1_0000_0000 0 folder && none_of page 0xFFFF_FFFF 1 folder
+unfoldable pub has_page_0_at_most : Folder → Bool
+has_page_0_at_most folder = none_of checkpoint 0x1_0000_0000 0 folder && none_of page 0xFFFF_FFFF 1 folder
 
 -- no slot was ever whole, and nothing else stands there
 unfoldable pub is_new : Folder → Bool
-is_new folder = not (is_some (slots_of (bytes_of (folder head))).newest) && nat_lt (length (bytes_of (folder head))) 49 && is_bare folder
+is_new folder = not (is_some (slots_of (bytes_of (folder head))).newest) && nat_lt (length (bytes_of (folder head))) 49 && has_page_0_at_most folder
 
 -- ---- the pages that stand
 

@@ -15,7 +15,7 @@ use Rattle.queue_page.specs.Runs.{Run, run, behind}
 use Rattle.queue_page.specs.Pages.{PageRows, recorded, room_of, run_behind, with_run, extended}
 use Rattle.queue_page.specs.Grammar.{IsElement, AreElements}
 use Rattle.queue_page.specs.Leaving.{IsOpenPage, ComesBehind, SaysFirst}
-use Rattle.queue_page.specs.declared.fault.Misfit.{Misfit}
+use Rattle.queue_page.specs.declared.fault.Mismatch.{Mismatch}
 use Rattle.queue_page.specs.declared.row.PageRow.{PageRow}
 use Rattle.queue_page.proofs.ElementReads.{and_then_ok}
 use Rattle.queue_page.proofs.RunLemmas.{run_took}
@@ -45,7 +45,7 @@ are_more version number place (first ∷ rows) bytes row frame are number_is ele
       are_more version (number + 1) first.next rows rest row frame are.5 numbers (subst (λ p. IsElement version p row frame) there element),
     )
 
-abbrev of_rows : PageRows → Result PageRows Misfit
+abbrev of_rows : PageRows → Result PageRows Mismatch
 of_rows page = Ok page
 
 module _ (s : PageState) (version : ℕ) (rows pending : List PageRow) (front tail : List ℕ) (file : List ℕ) (stands : take (length front) file ≡ front)

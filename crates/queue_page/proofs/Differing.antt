@@ -13,20 +13,20 @@ use Rattle.queue_page.specs.Elements.{number_of, size_of, total_of, body_of, sto
 use Rattle.queue_page.specs.Runs.{Run, run}
 use Rattle.queue_page.specs.Pages.{PageRows, counted, counted_by, is_version, version_of, within}
 use Rattle.queue_page.specs.Laws.{DamageDiffers}
-use Rattle.queue_page.specs.declared.fault.Misfit.{Misfit}
+use Rattle.queue_page.specs.declared.fault.Mismatch.{Mismatch}
 use Rattle.queue_page.specs.declared.row.PageRow.{PageRow}
 use Rattle.queue_page.proofs.ElementReads.{size_short, size_long, element_took, element_is, element_misfit}
 use Rattle.queue_page.proofs.RunReads.{each_run}
 use Rattle.queue_page.proofs.PageReads.{recorded_long_if, recorded_short_if}
 
-abbrev Differs : Misfit → Type 0
+abbrev Differs : Mismatch → Type 0
 Differs m = m.found ≢ m.expected
 
-abbrev at_fault : {A : Type 0} → Misfit → Result A Misfit
+abbrev at_fault : {A : Type 0} → Mismatch → Result A Mismatch
 at_fault m = Err m
 
 -- a fault that is another's
-as_told : {A : Type 0} (m told : Misfit) → at_fault {A = A} m ≡ at_fault told → Differs m → Differs told
+as_told : {A : Type 0} (m told : Mismatch) → at_fault {A = A} m ≡ at_fault told → Differs m → Differs told
 as_told m told h differs = let same : m ≡ told = cc in subst Differs same differs
 
 size_low : (bytes : List ℕ) → IsBytes bytes → size_of bytes < 2 ^ 32
@@ -39,7 +39,7 @@ size_low bytes fit = elim (cases_lt (length bytes) 12) [
 end_differs : (place left total : ℕ) → left < total → total < 2 ^ 33 → place + left < 2 ^ 64 → (place + total) % 2 ^ 64 ≢ place + left
 end_differs place left total over low fits same = omega (arith, over, low, fits, same)
 
-head_differs : (number place left : ℕ) (bytes : List ℕ) (m : Misfit) → IsBytes bytes → place + left < 2 ^ 64 → head_at number place left bytes ≡ Err m → Differs m
+head_differs : (number place left : ℕ) (bytes : List ℕ) (m : Mismatch) → IsBytes bytes → place + left < 2 ^ 64 → head_at number place left bytes ≡ Err m → Differs m
 unfolding head_at
 head_differs number place left bytes m fit fits h =
     let over = misfit place ((place + total_of bytes) % 2 ^ 64) (place + left) in
@@ -58,12 +58,12 @@ body_differs place len at = elim (cases_eq at len) [
   | inr is_not ↦ λ same. let t : (at == len) ≡ false = grind (arith, nat_tests, is_not) in is_not (same ∙ cond-false _ _ _ t)
 ]
 
-row_differs : (number place : ℕ) (frame : List ℕ) (said : Result (Origin × Ev) ℕ) (m : Misfit) → row_by number place frame said ≡ Err m → Differs m
+row_differs : (number place : ℕ) (frame : List ℕ) (said : Result (Origin × Ev) ℕ) (m : Mismatch) → row_by number place frame said ≡ Err m → Differs m
 row_differs number place frame (Ok said) m h = absurd cc
 row_differs number place frame (Err left) m h =
     as_told {A = PageRow} (body_misfit place (length (body_of frame)) (length (body_of frame) - left)) m h (body_differs place (length (body_of frame)) (length (body_of frame) - left))
 
-frame_differs : (version number place : ℕ) (frame : List ℕ) (m : Misfit) → frame_at version number place frame ≡ Err m → Differs m
+frame_differs : (version number place : ℕ) (frame : List ℕ) (m : Mismatch) → frame_at version number place frame ≡ Err m → Differs m
 unfolding frame_at
 frame_differs version number place frame m h =
     let other = misfit place (stored_crc frame) (computed_crc frame) in
@@ -72,14 +72,14 @@ frame_differs version number place frame m h =
       | inr w ↦ as_told {A = PageRow} other m w.1 (λ same. false≢true (sym w.0 ∙ eq-eqb _ _ same))
     ]
 
-element_by : (version number place : ℕ) (bytes : List ℕ) (m : Misfit) → IsBytes bytes → place + length bytes < 2 ^ 64 → (head : Result ℕ Misfit) → head_at number place (length bytes) bytes ≡ head
+element_by : (version number place : ℕ) (bytes : List ℕ) (m : Mismatch) → IsBytes bytes → place + length bytes < 2 ^ 64 → (head : Result ℕ Mismatch) → head_at number place (length bytes) bytes ≡ head
     → element_at version number place bytes ≡ Err m → Differs m
 element_by version number place bytes m fit fits (Ok total) is h = frame_differs version number place (take total bytes) m (sym (element_is version number place bytes (length bytes) total refl is) ∙ h)
 element_by version number place bytes m fit fits (Err fault) is h =
     as_told {A = PageRow} fault m (sym (element_misfit version number place bytes (length bytes) fault refl is) ∙ h) (head_differs number place (length bytes) bytes fault fit fits is)
 
-run_differs : (limit version number place : ℕ) (bytes : List ℕ) → IsBytes bytes → place + length bytes < 2 ^ 64 → (m : Misfit) → (run limit version number place bytes).stop ≡ Some m → Differs m
-run_differs limit version = each_run version (λ l n p b r. IsBytes b → p + length b < 2 ^ 64 → (m : Misfit) → r.stop ≡ Some m → Differs m)
+run_differs : (limit version number place : ℕ) (bytes : List ℕ) → IsBytes bytes → place + length bytes < 2 ^ 64 → (m : Mismatch) → (run limit version number place bytes).stop ≡ Some m → Differs m
+run_differs limit version = each_run version (λ l n p b r. IsBytes b → p + length b < 2 ^ 64 → (m : Mismatch) → r.stop ≡ Some m → Differs m)
     (λ l n p b empty fit fits m stop. let none : None ≡ Some m = stop in absurd cc)
     (λ l n p b fault some read fit fits m stop.
     let is : Some fault ≡ Some m = stop in
@@ -90,7 +90,7 @@ run_differs limit version = each_run version (λ l n p b r. IsBytes b → p + le
     rest (IsBytes-drop (total_of b) b fit) (omega (arith, fits, length-drop (total_of b) b, took.within)) m stop)
     limit
 
-counted_differs : (s : PageState) (version : ℕ) (found : Run) (stop : Option Misfit) (m : Misfit) → found.stop ≡ stop → ((fault : Misfit) → found.stop ≡ Some fault → Differs fault) → counted_by s version found stop ≡ Err m → Differs m
+counted_differs : (s : PageState) (version : ℕ) (found : Run) (stop : Option Mismatch) (m : Mismatch) → found.stop ≡ stop → ((fault : Mismatch) → found.stop ≡ Some fault → Differs fault) → counted_by s version found stop ≡ Err m → Differs m
 counted_differs s version found (Some fault) m is differs h = as_told {A = PageRows} fault m h (differs fault is)
 counted_differs s version found None m is differs h =
     let other = misfit 0 (length found.rows) s.count in

@@ -11,18 +11,18 @@ use Rattle.byte_reader.proofs.Fronts.{chosen}
 use Rattle.element_code.specs.declared.row.Origin.{Origin}
 use Rattle.queue_page.specs.Answers.{Tells, IsNoMisfit}
 use Rattle.queue_page.specs.Bodies.{body_at}
-use Rattle.queue_page.specs.Views.{BlockView}
+use Rattle.queue_page.specs.Views.{PageBufferView}
 use Rattle.queue_page.specs.Blocks.{IsFront, left_of, window_of}
 use Rattle.queue_page.proofs.Fronts.{length-left}
 use Rattle.queue_page.specs.Elements.{number_of, size_of, total_of, body_of, stored_crc, computed_crc, is_element, head_at, frame_at, element_at, next_of, misfit, and_then, row_by, body_misfit}
-use Rattle.queue_page.specs.declared.fault.Misfit.{Misfit}
+use Rattle.queue_page.specs.declared.fault.Mismatch.{Mismatch}
 use Rattle.queue_page.specs.declared.fault.RowFault.{RowFault}
 use Rattle.queue_page.specs.declared.fault.RowFault.TheVariants as r
 use Rattle.queue_page.specs.declared.row.PageRow.{PageRow}
 
 -- a call that met no damage tells nothing of the bytes
-pub tells_lost : {X Y : Type 0} (view : X → Y) (fault : RowFault) (read : Result Y Misfit) → IsNoMisfit fault → Tells view (Err fault) read
-tells_lost view (r.Misfit m) read none = absurd none
+pub tells_lost : {X Y : Type 0} (view : X → Y) (fault : RowFault) (read : Result Y Mismatch) → IsNoMisfit fault → Tells view (Err fault) read
+tells_lost view (r.Mismatch m) read none = absurd none
 tells_lost view r.Fault read none = none
 tells_lost view r.Memory read none = none
 
@@ -137,7 +137,7 @@ front_same_head front bytes is = elim (cases_lt (length bytes) 12) [
       same_head front bytes (front_head 12 front bytes is.is wide) wide long
 ]
 
-pub told_head : (file : List ℕ) (block : BlockView) (place end count : ℕ) (front : List ℕ) → place ≤ end → end ≤ length file → count ≡ min (end - place) 12
+pub told_head : (file : List ℕ) (block : PageBufferView) (place end count : ℕ) (front : List ℕ) → place ≤ end → end ≤ length file → count ≡ min (end - place) 12
     → IsFront (left_of file place end) count (window_of block place end) → front ≡ window_of block place end → SameHead front (left_of file place end)
 told_head file block place end count front order within is held front_is =
     let bytes = left_of file place end in
@@ -157,7 +157,7 @@ frame_in_front total front bytes is fits = front_head total front bytes is.is (o
 pub element_is : (version number place : ℕ) (bytes : List ℕ) (left total : ℕ) → left ≡ length bytes → head_at number place left bytes ≡ Ok total → element_at version number place bytes ≡ frame_at version number place (take total bytes)
 unfolding element_at
 element_is version number place bytes left total is head =
-    ap (λ (h : Result ℕ Misfit). and_then h (λ t. frame_at version number place (take t bytes))) (ap (λ n. head_at number place n bytes) (sym is) ∙ head)
+    ap (λ (h : Result ℕ Mismatch). and_then h (λ t. frame_at version number place (take t bytes))) (ap (λ n. head_at number place n bytes) (sym is) ∙ head)
 
 -- the frame in what a block holds is that of the element
 pub element_framed : (version number place end total : ℕ) (file window held : List ℕ) → end ≤ length file → head_at number place (end - place) (left_of file place end) ≡ Ok total → held ≡ window
@@ -166,19 +166,19 @@ element_framed version number place end total file window held within head is sa
     ap (frame_at version number place) (ap (take total) is ∙ same)
     ∙ sym (element_is version number place (left_of file place end) (end - place) total (sym (length-left file place end within)) head)
 
-pub element_misfit : (version number place : ℕ) (bytes : List ℕ) (left : ℕ) (fault : Misfit) → left ≡ length bytes → head_at number place left bytes ≡ Err fault → element_at version number place bytes ≡ Err fault
+pub element_misfit : (version number place : ℕ) (bytes : List ℕ) (left : ℕ) (fault : Mismatch) → left ≡ length bytes → head_at number place left bytes ≡ Err fault → element_at version number place bytes ≡ Err fault
 unfolding element_at
 element_misfit version number place bytes left fault is head =
-    ap (λ (h : Result ℕ Misfit). and_then h (λ t. frame_at version number place (take t bytes))) (ap (λ n. head_at number place n bytes) (sym is) ∙ head)
+    ap (λ (h : Result ℕ Mismatch). and_then h (λ t. frame_at version number place (take t bytes))) (ap (λ n. head_at number place n bytes) (sym is) ∙ head)
 
 -- what was told of the head is told of the element, where it is at fault
-pub tells_element : {Y : Type 0} (view : Y → Y) (f : PageRow → Result Y Misfit) (version number place : ℕ) (bytes : List ℕ) (left : ℕ) (fault : RowFault) → left ≡ length bytes → Tells (λ total. total) (Err fault) (head_at number place left bytes)
+pub tells_element : {Y : Type 0} (view : Y → Y) (f : PageRow → Result Y Mismatch) (version number place : ℕ) (bytes : List ℕ) (left : ℕ) (fault : RowFault) → left ≡ length bytes → Tells (λ total. total) (Err fault) (head_at number place left bytes)
     → Tells view (Err fault) (and_then (element_at version number place bytes) f)
-tells_element view f version number place bytes left (r.Misfit m) is told = ap (λ e. and_then e f) (element_misfit version number place bytes left m is told)
+tells_element view f version number place bytes left (r.Mismatch m) is told = ap (λ e. and_then e f) (element_misfit version number place bytes left m is told)
 tells_element view f version number place bytes left r.Fault is told = told
 tells_element view f version number place bytes left r.Memory is told = told
 
-and_then_all : (read : Result PageRow Misfit) → and_then read (λ row. Ok row) ≡ read
+and_then_all : (read : Result PageRow Mismatch) → and_then read (λ row. Ok row) ≡ read
 and_then_all (Ok row) = refl
 and_then_all (Err m) = refl
 
@@ -192,18 +192,18 @@ pub and_then_ok : {A B E : Type 0} (r : Result A E) (f : A → Result B E) (y : 
 and_then_ok (Ok x) f y h = (x, refl, h)
 and_then_ok (Err e) f y h = absurd cc
 
-abbrev ok_misfit : ℕ → Result ℕ Misfit
+abbrev ok_misfit : ℕ → Result ℕ Mismatch
 ok_misfit n = Ok n
 
 -- the row of which the place behind it was told
-pub next_row : (read : Result PageRow Misfit) (next : ℕ) → next_of read ≡ Ok next → (row : PageRow) × (read ≡ Ok row) × (next ≡ row.next)
+pub next_row : (read : Result PageRow Mismatch) (next : ℕ) → next_of read ≡ Ok next → (row : PageRow) × (read ≡ Ok row) × (next ≡ row.next)
 next_row (Ok row) next h =
     let made : ok_misfit row.next ≡ ok_misfit next = h in
     let same : row.next ≡ next = cc in
     (row, refl, sym same)
 next_row (Err m) next h = let none : Err m ≡ ok_misfit next = h in absurd cc
 
-pub next_misfit : (read : Result PageRow Misfit) (m : Misfit) → next_of read ≡ Err m → read ≡ Err m
+pub next_misfit : (read : Result PageRow Mismatch) (m : Mismatch) → next_of read ≡ Err m → read ≡ Err m
 next_misfit (Ok row) m h = let none : ok_misfit row.next ≡ Err m = h in absurd cc
 next_misfit (Err e) m h = let same : e ≡ m = cc in ap Err same
 

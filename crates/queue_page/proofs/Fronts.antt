@@ -2,7 +2,7 @@
 use Rattle.std.proofs.Common.{◌≡◌, ⊎_elim, ℕ, ◌+◌, ◌-◌, ◌≤◌, List, length, take, drop, sym, ◌∙◌, ap, arith, length-take, length-drop}
 use Rattle.std.proofs.lemmas.Bool.{cases_lt}
 use Rattle.std.proofs.lemmas.List.{take_min, take-take, take_all, drop-take, drop-drop}
-use Rattle.queue_page.specs.Views.{BlockView}
+use Rattle.queue_page.specs.Views.{PageBufferView}
 use Rattle.queue_page.specs.Blocks.{IsPart, IsFront, window_of, left_of}
 
 -- a front by its own length
@@ -22,7 +22,7 @@ left_is file place end order = let sum : end ≡ place + (end - place) = omega a
 pub length-left : (file : List ℕ) (place end : ℕ) → end ≤ length file → length (left_of file place end) ≡ end - place
 length-left file place end within = omega (arith, length-drop place (take end file), length-take end file)
 
-part_from : (file : List ℕ) (block : BlockView) (place : ℕ) → IsPart file block → block.place ≤ place → place ≤ block.place + length block.bytes
+part_from : (file : List ℕ) (block : PageBufferView) (place : ℕ) → IsPart file block → block.place ≤ place → place ≤ block.place + length block.bytes
     → drop (place - block.place) block.bytes ≡ take (length block.bytes - (place - block.place)) (drop place file)
 part_from file block place part low high =
     let k = place - block.place in
@@ -33,7 +33,7 @@ part_from file block place part low high =
     ∙ ap (take more) (drop-drop k block.place file ∙ ap (λ (p : ℕ). drop p file) there)
 
 -- a window of a part of a file is a front of what is left of the file there
-pub window_front : (file : List ℕ) (block : BlockView) (place count end : ℕ) → IsPart file block → block.place ≤ place → place + count ≤ block.place + length block.bytes → place + count ≤ end
+pub window_front : (file : List ℕ) (block : PageBufferView) (place count end : ℕ) → IsPart file block → block.place ≤ place → place + count ≤ block.place + length block.bytes → place + count ≤ end
     → end ≤ length file → IsFront (left_of file place end) count (window_of block place end)
 window_front file block place count end part low held order within =
     let k = place - block.place in

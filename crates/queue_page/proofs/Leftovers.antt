@@ -18,7 +18,7 @@ use Rattle.queue_page.specs.Runs.{run, behind}
 use Rattle.queue_page.specs.Views.{PageView}
 use Rattle.queue_page.specs.Pages.{PageRows, recorded, counted, is_version, version_of, within as within_extent, room_of, run_behind, with_run, extended, opened, opened_view}
 use Rattle.queue_page.specs.Leaving.{SaysSame}
-use Rattle.queue_page.specs.declared.fault.Misfit.{Misfit}
+use Rattle.queue_page.specs.declared.fault.Mismatch.{Mismatch}
 use Rattle.queue_page.proofs.ElementReads.{and_then_ok}
 use Rattle.queue_page.proofs.RunLemmas.{run_took, none_behind, none_there, FrontStands}
 use Rattle.queue_page.proofs.PageReads.{recorded_long_if, recorded_took, as_rows}
@@ -61,7 +61,7 @@ module _ (s : PageState) (bytes other : List ℕ) where
       let end : rest.end ≡ r.end = none.end ∙ sym took.end_is in
       ap (with_run rows) again ∙ (λ i. record { version = rows.version; rows = all i; length = end i })
 
-  abbrev more : Bool → PageRows → Result PageRows Misfit
+  abbrev more : Bool → PageRows → Result PageRows Mismatch
   more head rows = Ok (extended head s bytes rows)
 
   same_by : (head : Bool) (rows last : PageRows) → recorded s bytes ≡ Ok rows → more head rows ≡ Ok last → Fronted last.length bytes other → opened head s other ≡ opened head s bytes

@@ -8,16 +8,16 @@ use Rattle.queue_page.specs.Elements.{misfit, and_then}
 use Rattle.queue_page.specs.Views.{PageView}
 use Rattle.queue_page.specs.Runs.{Run}
 use Rattle.queue_page.specs.Pages.{PageRows, recorded, recorded_view, counted, counted_by, counted_view, is_version, version_of, within, view_of, with_run, run_behind, behind_view, extended, opened_view}
-use Rattle.queue_page.specs.declared.fault.Misfit.{Misfit}
+use Rattle.queue_page.specs.declared.fault.Mismatch.{Mismatch}
 
-abbrev seen_page : PageView → Result PageView Misfit
+abbrev seen_page : PageView → Result PageView Mismatch
 seen_page page = Ok page
 
 abbrev plain : ℕ → PageState → PageView
 plain version state = record { version = version; state = state }
 
 module _ (s : PageState) (file : List ℕ) where
-  abbrev view : Result PageRows Misfit → Result PageView Misfit
+  abbrev view : Result PageRows Mismatch → Result PageView Mismatch
   view read = and_then read (λ page. Ok (view_of s page))
 
   recorded_if : recorded s file ≡ (if nat_lt (length file) s.length then Err (misfit (length file) (length file) s.length)
@@ -41,7 +41,7 @@ module _ (s : PageState) (file : List ℕ) where
   recorded_version version long is known =
       ap view (long_if long ∙ cond-true _ _ _ (ap is_version is ∙ known)) ∙ ap (λ v. counted_view s v (take s.length file)) is
 
-abbrev ran : ℕ → Result ℕ Misfit
+abbrev ran : ℕ → Result ℕ Mismatch
 ran n = Ok n
 
 pub ok_number : (a b : ℕ) → ran a ≡ ran b → a ≡ b
@@ -50,12 +50,12 @@ ok_number a b h = cc
 -- ---- the head page, with the run behind its extent
 
 -- a page that was read, as rows
-pub record Rows (s : PageState) (read : Result PageRows Misfit) (page : PageView) : Type 0 where
+pub record Rows (s : PageState) (read : Result PageRows Mismatch) (page : PageView) : Type 0 where
   pub rows : PageRows
   pub is : read ≡ Ok rows
   pub seen : view_of s rows ≡ page
 
-pub as_rows : (s : PageState) (read : Result PageRows Misfit) (page : PageView) → and_then read (λ rows. Ok (view_of s rows)) ≡ Ok page → Rows s read page
+pub as_rows : (s : PageState) (read : Result PageRows Mismatch) (page : PageView) → and_then read (λ rows. Ok (view_of s rows)) ≡ Ok page → Rows s read page
 as_rows s (Ok rows) page h = let made : seen_page (view_of s rows) ≡ seen_page page = h in let same : view_of s rows ≡ page = cc in record { rows = rows; is = refl; seen = same }
 as_rows s (Err m) page h = absurd cc
 
@@ -91,20 +91,20 @@ pub recorded_long_if : (s : PageState) (file : List ℕ) → s.length ≤ length
     → recorded s file ≡ (if is_version (version_of (take s.length file)) then counted s (version_of (take s.length file)) (within s (take s.length file)) else Err (misfit 0 (version_of (take s.length file)) 2))
 recorded_long_if s file long = long_if s file long
 
-record CountedTook (s : PageState) (version : ℕ) (found : Run) (stop : Option Misfit) (rows : PageRows) : Type 0 where
+record CountedTook (s : PageState) (version : ℕ) (found : Run) (stop : Option Mismatch) (rows : PageRows) : Type 0 where
   version_is : rows.version ≡ version
   rows_are : rows.rows ≡ found.rows
   stops : stop ≡ None
   count : length rows.rows ≡ s.count
   length_is : rows.length ≡ s.length
 
-abbrev those : PageRows → Result PageRows Misfit
+abbrev those : PageRows → Result PageRows Mismatch
 those rows = Ok rows
 
 abbrev counted_rows : PageState → ℕ → Run → PageRows
 counted_rows s version found = record { version = version; rows = found.rows; length = s.length }
 
-counted_took : (s : PageState) (version : ℕ) (found : Run) (stop : Option Misfit) (rows : PageRows) → counted_by s version found stop ≡ Ok rows → CountedTook s version found stop rows
+counted_took : (s : PageState) (version : ℕ) (found : Run) (stop : Option Mismatch) (rows : PageRows) → counted_by s version found stop ≡ Ok rows → CountedTook s version found stop rows
 counted_took s version found (Some fault) rows h = absurd cc
 counted_took s version found None rows h = elim (chosen (length found.rows == s.count) (those (counted_rows s version found)) (Err (misfit 0 (length found.rows) s.count)) (Ok rows) h) [
   | inr w ↦ let none : Err (misfit 0 (length found.rows) s.count) ≡ those rows = w.1 in absurd cc

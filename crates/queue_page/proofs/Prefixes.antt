@@ -7,7 +7,7 @@ use Rattle.store_trait.specs.Tails.{passes}
 use Rattle.queue_page.specs.Elements.{element_at, total_of, is_element}
 use Rattle.queue_page.specs.Grammar.{AreElements}
 use Rattle.queue_page.specs.Runs.{Run, run}
-use Rattle.queue_page.specs.declared.fault.Misfit.{Misfit}
+use Rattle.queue_page.specs.declared.fault.Mismatch.{Mismatch}
 use Rattle.queue_page.specs.declared.row.PageRow.{PageRow}
 use Rattle.queue_page.proofs.ElementReads.{element_took}
 use Rattle.queue_page.proofs.RunReads.{run_rest, each_run}
@@ -27,7 +27,7 @@ pub record IsPrefix (rows all : List PageRow) : Type 0 where
 none_first : (all : List PageRow) → IsPrefix [] all
 none_first all = record { count = 0; few = omega arith; are = refl }
 
-abbrev row_read : PageRow → Result PageRow Misfit
+abbrev row_read : PageRow → Result PageRow Mismatch
 row_read row = Ok row
 
 -- bytes behind the first total

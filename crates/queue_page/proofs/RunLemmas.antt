@@ -4,7 +4,7 @@ use Rattle.std.proofs.lemmas.List.{take-take, drop-take, drop-drop, nil_from_len
 use Rattle.store_trait.specs.Tails.{passes}
 use Rattle.queue_page.specs.Elements.{element_at, total_of, is_element}
 use Rattle.queue_page.specs.Runs.{Run, run, no_run, behind}
-use Rattle.queue_page.specs.declared.fault.Misfit.{Misfit}
+use Rattle.queue_page.specs.declared.fault.Mismatch.{Mismatch}
 use Rattle.queue_page.specs.declared.row.PageRow.{PageRow}
 use Rattle.queue_page.proofs.ElementReads.{element_took, element_again, took_element}
 use Rattle.queue_page.proofs.RunReads.{run_rest, run_with, each_run}
@@ -18,7 +18,7 @@ pub record RunTook (limit version number place : ℕ) (bytes : List ℕ) (r : Ru
   pub again : (other : List ℕ) → take size other ≡ take size bytes
       → run limit version number place other ≡ behind r.rows (run (limit - length r.rows) version (number + length r.rows) (place + size) (drop size other))
 
-nothing_took : (limit version number place : ℕ) (bytes : List ℕ) (stop : Option Misfit) → RunTook limit version number place bytes (no_run place stop)
+nothing_took : (limit version number place : ℕ) (bytes : List ℕ) (stop : Option Mismatch) → RunTook limit version number place bytes (no_run place stop)
 nothing_took limit version number place bytes stop =
     let whole : limit ≡ limit - 0 = omega arith in
     let same : number ≡ number + 0 = omega arith in

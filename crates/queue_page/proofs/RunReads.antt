@@ -7,8 +7,8 @@ use Rattle.std.proofs.lemmas.List.{drop-drop}
 use Rattle.queue_page.specs.Blocks.{left_of}
 use Rattle.queue_page.specs.Elements.{element_at, total_of}
 use Rattle.queue_page.specs.Runs.{Run, run, no_run, behind, run_by, end_of}
-use Rattle.queue_page.specs.declared.element.Spot.{Spot}
-use Rattle.queue_page.specs.declared.fault.Misfit.{Misfit}
+use Rattle.queue_page.specs.declared.element.ElementPosition.{ElementPosition}
+use Rattle.queue_page.specs.declared.fault.Mismatch.{Mismatch}
 use Rattle.queue_page.specs.declared.row.PageRow.{PageRow}
 use Rattle.queue_page.specs.declared.run.RunEnd.{RunEnd}
 use Rattle.queue_page.proofs.Fronts.{length-left}
@@ -38,17 +38,17 @@ module _ (limit version number place : ℕ) (bytes : List ℕ) where
   abbrev pub run_rest : Run
   run_rest = run limit version (number + 1) (place + total_of bytes) (drop (total_of bytes) bytes)
 
-  pub run_with : (read : Result PageRow Misfit) → 0 < length bytes → element_at version number place bytes ≡ read → run (suc limit) version number place bytes ≡ run_by place read run_rest
+  pub run_with : (read : Result PageRow Mismatch) → 0 < length bytes → element_at version number place bytes ≡ read → run (suc limit) version number place bytes ≡ run_by place read run_rest
   run_with read some is = let t : (length bytes == 0) ≡ false = grind (arith, nat_tests, some) in run_if ∙ cond-false _ _ _ t ∙ ap (λ e. run_by place e run_rest) is
 
 -- What holds of no element, of a fault, and of an element with a run behind it for which it holds, holds of each run.
 module _ (version : ℕ) (Holds : ℕ → ℕ → ℕ → List ℕ → Run → Type 0)
     (none : (limit number place : ℕ) (bytes : List ℕ) → (limit ≡ 0) ⊎ (length bytes ≡ 0) → Holds limit number place bytes (no_run place None))
-    (fault : (limit number place : ℕ) (bytes : List ℕ) (m : Misfit) → 0 < length bytes → element_at version number place bytes ≡ Err m → Holds (suc limit) number place bytes (no_run place (Some m)))
+    (fault : (limit number place : ℕ) (bytes : List ℕ) (m : Mismatch) → 0 < length bytes → element_at version number place bytes ≡ Err m → Holds (suc limit) number place bytes (no_run place (Some m)))
     (more : (limit number place : ℕ) (bytes : List ℕ) (row : PageRow) → 0 < length bytes → element_at version number place bytes ≡ Ok row
     → Holds limit (number + 1) (place + total_of bytes) (drop (total_of bytes) bytes) (run_rest limit version number place bytes) → Holds (suc limit) number place bytes (behind (row ∷ []) (run_rest limit version number place bytes))) where
   by_first : (limit number place : ℕ) (bytes : List ℕ) → 0 < length bytes → Holds limit (number + 1) (place + total_of bytes) (drop (total_of bytes) bytes) (run_rest limit version number place bytes)
-      → (read : Result PageRow Misfit) → element_at version number place bytes ≡ read → Holds (suc limit) number place bytes (run_by place read (run_rest limit version number place bytes))
+      → (read : Result PageRow Mismatch) → element_at version number place bytes ≡ read → Holds (suc limit) number place bytes (run_by place read (run_rest limit version number place bytes))
   by_first limit number place bytes some of_rest (Ok row) is = more limit number place bytes row some is of_rest
   by_first limit number place bytes some of_rest (Err m) is = fault limit number place bytes m some is
 
@@ -66,7 +66,7 @@ module _ (version : ℕ) (Holds : ℕ → ℕ → ℕ → List ℕ → Run → T
 -- ---- as the code reads it
 
 -- what was read so far, and the run of what is left: together they are the run
-pub record SoFar (limit : ℕ) (first : Spot) (count : ℕ) (now : Spot) (file : List ℕ) : Type 0 where
+pub record SoFar (limit : ℕ) (first : ElementPosition) (count : ℕ) (now : ElementPosition) (file : List ℕ) : Type 0 where
   pub rows : List PageRow
   pub many : length rows ≡ count
   pub is : behind rows (run (limit - count) first.version (first.number + count) now.place (left_of file now.place first.end)) ≡ run limit first.version first.number first.place (left_of file first.place first.end)
@@ -77,7 +77,7 @@ behind_none r = refl
 behind_both : (rows : List PageRow) (row : PageRow) (r : Run) → behind rows (behind (row ∷ []) r) ≡ behind (rows ++ row ∷ []) r
 behind_both rows row r = let same = append_assoc rows (row ∷ []) r.rows in λ i. record { rows = sym same i; end = r.end; stop = r.stop }
 
-pub start : (limit : ℕ) (first : Spot) (file : List ℕ) → SoFar limit first 0 first file
+pub start : (limit : ℕ) (first : ElementPosition) (file : List ℕ) → SoFar limit first 0 first file
 start limit first file =
     let whole : limit - 0 ≡ limit = omega arith in
     let same : first.number + 0 ≡ first.number = omega arith in
@@ -91,7 +91,7 @@ pub left_more : (file : List ℕ) (place end total : ℕ) → drop total (left_o
 left_more file place end total = drop-drop total place (take end file)
 
 -- one element more
-pub turn : (limit : ℕ) (first : Spot) (count : ℕ) (now : Spot) (file : List ℕ) (row : PageRow) (next : Spot) → SoFar limit first count now file → count < limit → now.place < first.end → first.end ≤ length file
+pub turn : (limit : ℕ) (first : ElementPosition) (count : ℕ) (now : ElementPosition) (file : List ℕ) (row : PageRow) (next : ElementPosition) → SoFar limit first count now file → count < limit → now.place < first.end → first.end ≤ length file
     → element_at first.version (first.number + count) now.place (left_of file now.place first.end) ≡ Ok row → next.place ≡ row.next → SoFar limit first (count + 1) next file
 turn limit first count now file row next so_far less before within read there =
     let v = first.version in
@@ -113,18 +113,18 @@ turn limit first count now file row next so_far less before within read there =
       is = sym (behind_both so_far.rows row rest) ∙ ap (behind so_far.rows) (sym one) ∙ so_far.is;
     }
 
-abbrev pub ran : RunEnd → Result RunEnd Misfit
+abbrev pub ran : RunEnd → Result RunEnd Mismatch
 ran end = Ok end
 
 -- what was read at a spot, by the first one
-pub read_at : (first now : Spot) (count : ℕ) (file : List ℕ) (read : Result PageRow Misfit) → now.version ≡ first.version → now.number ≡ first.number + count → now.end ≡ first.end
+pub read_at : (first now : ElementPosition) (count : ℕ) (file : List ℕ) (read : Result PageRow Mismatch) → now.version ≡ first.version → now.number ≡ first.number + count → now.end ≡ first.end
     → element_at now.version now.number now.place (left_of file now.place now.end) ≡ read → element_at first.version (first.number + count) now.place (left_of file now.place first.end) ≡ read
 read_at first now count file read version number end h =
     ap (λ k. element_at k (first.number + count) now.place (left_of file now.place first.end)) (sym version) ∙ ap (λ k. element_at now.version k now.place (left_of file now.place first.end)) (sym number)
     ∙ ap (λ k. element_at now.version now.number now.place (left_of file now.place k)) (sym end) ∙ h
 
 -- where it ends, with nothing or with a fault
-ended : (limit : ℕ) (first : Spot) (count : ℕ) (now : Spot) (file : List ℕ) (stop : Option Misfit) → (so_far : SoFar limit first count now file)
+ended : (limit : ℕ) (first : ElementPosition) (count : ℕ) (now : ElementPosition) (file : List ℕ) (stop : Option Mismatch) → (so_far : SoFar limit first count now file)
     → run (limit - count) first.version (first.number + count) now.place (left_of file now.place first.end) ≡ no_run now.place stop
     → Ok (end_of (run limit first.version first.number first.place (left_of file first.place first.end))) ≡ ran (record { count = count; end = now.place; stop = stop })
 ended limit first count now file stop so_far none =
@@ -132,19 +132,19 @@ ended limit first count now file stop so_far none =
     let many : length (so_far.rows ++ []) ≡ count = ap length (append-nil so_far.rows) ∙ so_far.many in
     ap (λ r. Ok (end_of r)) (sym all) ∙ ap (λ n. Ok (record { count = n; end = now.place; stop = stop })) many
 
-pub ended_at_limit : (limit : ℕ) (first : Spot) (count : ℕ) (now : Spot) (file : List ℕ) → SoFar limit first count now file → limit ≤ count
+pub ended_at_limit : (limit : ℕ) (first : ElementPosition) (count : ℕ) (now : ElementPosition) (file : List ℕ) → SoFar limit first count now file → limit ≤ count
     → Ok (end_of (run limit first.version first.number first.place (left_of file first.place first.end))) ≡ ran (record { count = count; end = now.place; stop = None })
 ended_at_limit limit first count now file so_far full =
     let none : limit - count ≡ 0 = omega arith in
     ended limit first count now file None so_far (ap (λ l. run l first.version (first.number + count) now.place (left_of file now.place first.end)) none ∙ run_none first.version (first.number + count) now.place (left_of file now.place first.end))
 
-pub ended_at_end : (limit : ℕ) (first : Spot) (count : ℕ) (now : Spot) (file : List ℕ) → SoFar limit first count now file → first.end ≤ now.place
+pub ended_at_end : (limit : ℕ) (first : ElementPosition) (count : ℕ) (now : ElementPosition) (file : List ℕ) → SoFar limit first count now file → first.end ≤ now.place
     → first.end ≤ length file → Ok (end_of (run limit first.version first.number first.place (left_of file first.place first.end))) ≡ ran (record { count = count; end = now.place; stop = None })
 ended_at_end limit first count now file so_far past within =
     let none : length (left_of file now.place first.end) ≡ 0 = omega (arith, length-left file now.place first.end within) in
     ended limit first count now file None so_far (run_empty (limit - count) first.version (first.number + count) now.place (left_of file now.place first.end) none)
 
-pub ended_at_fault : (limit : ℕ) (first : Spot) (count : ℕ) (now : Spot) (file : List ℕ) (fault : Misfit) → SoFar limit first count now file → count < limit → now.place < first.end → first.end ≤ length file
+pub ended_at_fault : (limit : ℕ) (first : ElementPosition) (count : ℕ) (now : ElementPosition) (file : List ℕ) (fault : Mismatch) → SoFar limit first count now file → count < limit → now.place < first.end → first.end ≤ length file
     → element_at first.version (first.number + count) now.place (left_of file now.place first.end) ≡ Err fault
     → Ok (end_of (run limit first.version first.number first.place (left_of file first.place first.end))) ≡ ran (record { count = count; end = now.place; stop = Some fault })
 ended_at_fault limit first count now file fault so_far less before within read =

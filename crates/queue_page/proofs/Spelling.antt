@@ -17,7 +17,7 @@ use Rattle.queue_page.specs.Runs.{Run, run, no_run, behind}
 use Rattle.queue_page.specs.Pages.{counted, counted_by, is_version, version_of, within}
 use Rattle.queue_page.specs.Grammar.{IsElement, AreElements, IsPage}
 use Rattle.queue_page.specs.Laws.{ElementsAreRead, ElementsAreSpelled, NoElementBeginsAnother, RunsAreLongest, PagesAreRead, PagesAreSpelled}
-use Rattle.queue_page.specs.declared.fault.Misfit.{Misfit}
+use Rattle.queue_page.specs.declared.fault.Mismatch.{Mismatch}
 use Rattle.queue_page.specs.declared.row.PageRow.{PageRow}
 use Rattle.queue_page.proofs.BodyReads.{body_sound}
 use Rattle.queue_page.proofs.ElementReads.{number_long, size_long, same_head, ElementTook, element_took, frame_took}
@@ -35,7 +35,7 @@ elements_are_read version place row front rest is = (element_read version place 
 record Said (version place number : ℕ) (frame : List ℕ) (row : PageRow) : Type 0 where
   body : body_at version (body_of frame) ≡ Ok (row.origin, row.event)
 
-abbrev a_row : PageRow → Result PageRow Misfit
+abbrev a_row : PageRow → Result PageRow Mismatch
 a_row row = Ok row
 
 said_by : (version number place : ℕ) (frame : List ℕ) (row : PageRow) (said : Result (Origin × Ev) ℕ) → body_at version (body_of frame) ≡ said → row_by number place frame said ≡ a_row row → Said version place number frame row
@@ -155,7 +155,7 @@ pub record IsRunOf (limit version number place : ℕ) (bytes : List ℕ) (r : Ru
   pub are : AreElements version number place r.rows (take size bytes)
   pub all : r.stop ≡ None → length r.rows < limit → size ≡ length bytes
 
-none_of : (limit version number place : ℕ) (bytes : List ℕ) (stop : Option Misfit) → (stop ≡ None → 0 < limit → 0 ≡ length bytes) → IsRunOf limit version number place bytes (no_run place stop)
+none_of : (limit version number place : ℕ) (bytes : List ℕ) (stop : Option Mismatch) → (stop ≡ None → 0 < limit → 0 ≡ length bytes) → IsRunOf limit version number place bytes (no_run place stop)
 none_of limit version number place bytes stop all = record { size = 0; within = omega arith; many = omega arith; are = refl; all = all }
 
 module _ (version : ℕ) (known : (version ≡ 1) ⊎ (version ≡ 2)) where

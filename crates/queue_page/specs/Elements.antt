@@ -6,7 +6,7 @@ use Rattle.crc_frame.specs.Crc.{crc32}
 use Rattle.event_tree.specs.Events.{Ev}
 use Rattle.element_code.specs.declared.row.Origin.{Origin}
 use Rattle.queue_page.specs.Bodies.{body_at}
-use Rattle.queue_page.specs.declared.fault.Misfit.{Misfit}
+use Rattle.queue_page.specs.declared.fault.Mismatch.{Mismatch}
 use Rattle.queue_page.specs.declared.row.PageRow.{PageRow}
 
 -- ---- its parts
@@ -39,7 +39,7 @@ is_element place bytes = (length bytes == total_of bytes) && (stored_crc bytes =
 
 -- ---- its faults, one behind the other
 
-abbrev pub misfit : ℕ → ℕ → ℕ → Misfit
+abbrev pub misfit : ℕ → ℕ → ℕ → Mismatch
 misfit place found expected = record { place = place; found = found; expected = expected }
 
 abbrev pub and_then : {A B E : Type 0} → Result A E → (A → Result B E) → Result B E
@@ -47,28 +47,28 @@ and_then (Ok x) f = f x
 and_then (Err e) f = Err e
 
 -- Its number is the next one, and it ends within the so many bytes that are left: how many it has. An end has 64 bits.
-unfoldable pub head_at : ℕ → ℕ → ℕ → List ℕ → Result ℕ Misfit
+unfoldable pub head_at : ℕ → ℕ → ℕ → List ℕ → Result ℕ Mismatch
 head_at number place left bytes =
     if number_of bytes == number then (if nat_lt left (total_of bytes) then Err (misfit place ((place + total_of bytes) % 2 ^ 64) (place + left)) else Ok (total_of bytes))
     else Err (misfit place (number_of bytes) number)
 
 -- a body of so many bytes that stops being one at a place within it, or at its end
-abbrev pub body_misfit : ℕ → ℕ → ℕ → Misfit
+abbrev pub body_misfit : ℕ → ℕ → ℕ → Mismatch
 body_misfit place len at = misfit place at (if at == len then len + 1 else len)
 
-abbrev pub row_by : ℕ → ℕ → List ℕ → Result (Origin × Ev) ℕ → Result PageRow Misfit
+abbrev pub row_by : ℕ → ℕ → List ℕ → Result (Origin × Ev) ℕ → Result PageRow Mismatch
 row_by number place frame (Ok said) = Ok (record { number = number; origin = said.0; event = said.1; next = place + length frame })
 row_by number place frame (Err left) = Err (body_misfit place (length (body_of frame)) (length (body_of frame) - left))
 
 -- its checksum matches, and its body says a row
-unfoldable pub frame_at : ℕ → ℕ → ℕ → List ℕ → Result PageRow Misfit
+unfoldable pub frame_at : ℕ → ℕ → ℕ → List ℕ → Result PageRow Mismatch
 frame_at version number place frame =
     if stored_crc frame == computed_crc frame then row_by number place frame (body_at version (body_of frame)) else Err (misfit place (stored_crc frame) (computed_crc frame))
 
 -- the row of this number at the front of these bytes, or the element's first fault
-unfoldable pub element_at : ℕ → ℕ → ℕ → List ℕ → Result PageRow Misfit
+unfoldable pub element_at : ℕ → ℕ → ℕ → List ℕ → Result PageRow Mismatch
 element_at version number place bytes = and_then (head_at number place (length bytes) bytes) (λ total. frame_at version number place (take total bytes))
 
 -- the place behind the row that was read
-abbrev pub next_of : Result PageRow Misfit → Result ℕ Misfit
+abbrev pub next_of : Result PageRow Mismatch → Result ℕ Mismatch
 next_of read = and_then read (λ row. Ok row.next)

@@ -5,7 +5,7 @@ use Rattle.queue_page.specs.Elements.{element_at}
 use Rattle.queue_page.specs.Runs.{run, behind}
 use Rattle.queue_page.specs.Pages.{PageRows, recorded}
 use Rattle.queue_page.specs.Grammar.{IsElement, AreElements, IsPage}
-use Rattle.queue_page.specs.declared.fault.Misfit.{Misfit}
+use Rattle.queue_page.specs.declared.fault.Mismatch.{Mismatch}
 use Rattle.queue_page.specs.declared.row.PageRow.{PageRow}
 
 abbrev pub AreBytes : List ℕ → Type 0
@@ -47,4 +47,4 @@ PagesAreSpelled =
 -- What is told of a damage are two numbers that differ.
 abbrev pub DamageDiffers : Type 0
 DamageDiffers =
-    (s : PageState) (file : List ℕ) (damage : Misfit) → AreBytes file → 1 ≤ s.least → s.length < 2 ^ 64 → recorded s file ≡ Err damage → damage.found ≢ damage.expected
+    (s : PageState) (file : List ℕ) (damage : Mismatch) → AreBytes file → 1 ≤ s.least → s.length < 2 ^ 64 → recorded s file ≡ Err damage → damage.found ≢ damage.expected

@@ -5,7 +5,7 @@ use Rattle.queue_page.specs.Blocks.{left_of}
 use Rattle.queue_page.specs.Elements.{number_of, element_at, misfit, and_then}
 use Rattle.queue_page.specs.Runs.{Run, run}
 use Rattle.queue_page.specs.Views.{PageView}
-use Rattle.queue_page.specs.declared.fault.Misfit.{Misfit}
+use Rattle.queue_page.specs.declared.fault.Mismatch.{Mismatch}
 use Rattle.queue_page.specs.declared.row.PageRow.{PageRow}
 
 -- a page: its version, its rows, and how many bytes it has
@@ -18,12 +18,12 @@ abbrev pub is_version : ℕ → Bool
 is_version version = (version == 1) || (version == 2)
 
 -- the elements of an extent, if nothing is wrong with one and they are as many as was recorded
-abbrev pub counted_by : PageState → ℕ → Run → Option Misfit → Result PageRows Misfit
+abbrev pub counted_by : PageState → ℕ → Run → Option Mismatch → Result PageRows Mismatch
 counted_by s version found (Some fault) = Err fault
 counted_by s version found None =
     if length found.rows == s.count then Ok (record { version = version; rows = found.rows; length = s.length }) else Err (misfit 0 (length found.rows) s.count)
 
-abbrev pub counted : PageState → ℕ → Run → Result PageRows Misfit
+abbrev pub counted : PageState → ℕ → Run → Result PageRows Mismatch
 counted s version found = counted_by s version found found.stop
 
 -- the version of an extent; 0 where it has no byte
@@ -36,7 +36,7 @@ within s extent = run s.length (version_of extent) s.least 1 (drop 1 extent)
 
 -- The page within its recorded extent: the file is as long as that, its first byte is a version, its elements have no fault, and there are as
 -- many as was recorded.
-unfoldable pub recorded : PageState → List ℕ → Result PageRows Misfit
+unfoldable pub recorded : PageState → List ℕ → Result PageRows Mismatch
 recorded s file =
     if nat_lt (length file) s.length then Err (misfit (length file) (length file) s.length)
     else (if is_version (version_of (take s.length file)) then counted s (version_of (take s.length file)) (within s (take s.length file)) else Err (misfit 0 (version_of (take s.length file)) 2))
@@ -57,7 +57,7 @@ abbrev pub extended : Bool → PageState → List ℕ → PageRows → PageRows
 extended head s file page = if head then with_run page (run_behind s page.version file) else page
 
 -- a page, as it is opened: of the head page the rows behind its extent are kept
-abbrev pub opened : Bool → PageState → List ℕ → Result PageRows Misfit
+abbrev pub opened : Bool → PageState → List ℕ → Result PageRows Mismatch
 opened head s file = and_then (recorded s file) (λ page. Ok (extended head s file page))
 
 -- how the page stands then
@@ -68,14 +68,14 @@ abbrev pub view_of : PageState → PageRows → PageView
 view_of s page = record { version = page.version; state = state_of s page }
 
 -- what is opened, as callers see it
-abbrev pub recorded_view : PageState → List ℕ → Result PageView Misfit
+abbrev pub recorded_view : PageState → List ℕ → Result PageView Mismatch
 recorded_view s file = and_then (recorded s file) (λ page. Ok (view_of s page))
 
-abbrev pub opened_view : Bool → PageState → List ℕ → Result PageView Misfit
+abbrev pub opened_view : Bool → PageState → List ℕ → Result PageView Mismatch
 opened_view head s file = and_then (opened head s file) (λ page. Ok (view_of s page))
 
 -- the elements of an extent of a page of this version
-abbrev pub counted_view : PageState → ℕ → List ℕ → Result PageView Misfit
+abbrev pub counted_view : PageState → ℕ → List ℕ → Result PageView Mismatch
 counted_view s version extent = and_then (counted s version (run s.length version s.least 1 (drop 1 extent))) (λ page. Ok (view_of s page))
 
 -- the page with the run behind its extent
@@ -96,7 +96,7 @@ whole_page file =
     else None
 
 -- the row at a place of a page, whatever its number is
-abbrev pub row_at : PageView → ℕ → List ℕ → Result PageRow Misfit
+abbrev pub row_at : PageView → ℕ → List ℕ → Result PageRow Mismatch
 row_at page place file = element_at page.version (number_of (left_of file place page.state.length)) place (left_of file place page.state.length)
 
 -- the page with one element more, of so many bytes

@@ -1,7 +1,7 @@
 -- The longest run of intact elements with the next numbers at the front of some bytes.
 use Rattle.std.specs.Prelude.{ℕ, zero, suc, ◌+◌, ◌==◌, List, [], ◌∷◌, ◌++◌, length, drop, if◌then◌else◌, Option, Some, None, Result, Ok, Err}
 use Rattle.queue_page.specs.Elements.{element_at, total_of}
-use Rattle.queue_page.specs.declared.fault.Misfit.{Misfit}
+use Rattle.queue_page.specs.declared.fault.Mismatch.{Mismatch}
 use Rattle.queue_page.specs.declared.row.PageRow.{PageRow}
 use Rattle.queue_page.specs.declared.run.RunEnd.{RunEnd}
 
@@ -9,9 +9,9 @@ use Rattle.queue_page.specs.declared.run.RunEnd.{RunEnd}
 pub record Run : Type 0 where
   pub rows : List PageRow
   pub end : ℕ
-  pub stop : Option Misfit
+  pub stop : Option Mismatch
 
-abbrev pub no_run : ℕ → Option Misfit → Run
+abbrev pub no_run : ℕ → Option Mismatch → Run
 no_run place stop = record { rows = []; end = place; stop = stop }
 
 -- rows in front of a run
@@ -19,7 +19,7 @@ abbrev pub behind : List PageRow → Run → Run
 behind rows run = record { rows = rows ++ run.rows; end = run.end; stop = run.stop }
 
 -- an element, and the run behind it
-abbrev pub run_by : ℕ → Result PageRow Misfit → Run → Run
+abbrev pub run_by : ℕ → Result PageRow Mismatch → Run → Run
 run_by place (Ok row) rest = behind (row ∷ []) rest
 run_by place (Err fault) rest = no_run place (Some fault)
 

@@ -7,6 +7,6 @@ pub record PageView : Type 0 where
   pub state : PageState
 
 -- these bytes stand in a file from this place on
-pub record BlockView : Type 0 where
+pub record PageBufferView : Type 0 where
   pub place : ℕ
   pub bytes : List ℕ

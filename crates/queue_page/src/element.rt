@@ -8,8 +8,8 @@ ghost use Rattle.queue_page.specs.Blocks.{AreBytesIn, IsPart, HoldsFrom, OnFile,
 ghost use Rattle.queue_page.specs.Elements.{number_of, size_of, body_of, stored_crc, computed_crc, misfit, head_at, frame_at, element_at, next_of, body_misfit};
 ghost use Rattle.queue_page.specs.declared.fault.RowFault.TheVariants as r;
 
-use crate::block::Block;
-use crate::fault::{Misfit, RowFault};
+use crate::fault::{Mismatch, RowFault};
+use crate::page_buffer::PageBuffer;
 use crate::row::PageRow;
 use byteorder::{BigEndian, ByteOrder};
 use crc_frame::crc32;
@@ -32,7 +32,7 @@ pub(crate) const FRAME_LEN: u64 = 16;
 
 /// Where an element is wanted.
 #[derive(Clone, Copy)]
-pub(crate) struct Spot {
+pub(crate) struct ElementPosition {
     /// The version of the page.
     pub(crate) version: u8,
     /// The number of the element.
@@ -62,7 +62,7 @@ fn size_in(bytes: &[u8]) -> u32
 }
 
 /// How many bytes the element has whose first bytes these are.
-fn total_at(spot: &Spot, head: &[u8]) -> Result<u64, Misfit>
+fn total_at(spot: &ElementPosition, head: &[u8]) -> Result<u64, Mismatch>
     requires { spot.now.place ≤ spot.now.end }
     ensures total { result ≡ head_at spot.now.number spot.now.place
         (spot.now.end - spot.now.place) head.now }
@@ -71,14 +71,14 @@ fn total_at(spot: &Spot, head: &[u8]) -> Result<u64, Misfit>
     let number = number_in(head);
     let total = u64::from(size_in(head)) + FRAME_LEN;
     if number != spot.number {
-        return Err(Misfit {
+        return Err(Mismatch {
             place: spot.place,
             found: number,
             expected: spot.number,
         });
     }
     if spot.end - spot.place < total {
-        return Err(Misfit {
+        return Err(Mismatch {
             place: spot.place,
             found: spot.place.wrapping_add(total),
             expected: spot.end,
@@ -112,11 +112,11 @@ fn fault_in(version: u8, body: &[u8]) -> Option<usize>
 }
 
 /// What is wrong with a body of so many bytes that stops being one there.
-fn body_misfit(place: u64, len: u64, at: u64) -> Misfit
+fn body_misfit(place: u64, len: u64, at: u64) -> Mismatch
     requires { len < 2 ^ 63 }
     ensures { result ≡ body_misfit place len at }
 {
-    Misfit {
+    Mismatch {
         place,
         found: at,
         expected: if at == len { len + 1 } else { len },
@@ -124,7 +124,7 @@ fn body_misfit(place: u64, len: u64, at: u64) -> Misfit
 }
 
 /// The body of the element that these bytes are, whose CRC-32 matches.
-fn body_in<'f>(spot: &Spot, frame: &'f [u8]) -> Result<&'f [u8], Misfit>
+fn body_in<'f>(spot: &ElementPosition, frame: &'f [u8]) -> Result<&'f [u8], Mismatch>
     requires long { 16 ≤ length frame.now }
     ensures body { IfOk result (λ body. body.now ≡ body_of frame.now) }
     ensures matches { OnOk result (stored_crc frame.now ≡ computed_crc frame.now) }
@@ -135,7 +135,7 @@ fn body_in<'f>(spot: &Spot, frame: &'f [u8]) -> Result<&'f [u8], Misfit>
     let stored = BigEndian::read_u32(crc);
     let computed = crc32(covered);
     if stored != computed {
-        return Err(Misfit {
+        return Err(Mismatch {
             place: spot.place,
             found: u64::from(stored),
             expected: u64::from(computed),
@@ -145,7 +145,7 @@ fn body_in<'f>(spot: &Spot, frame: &'f [u8]) -> Result<&'f [u8], Misfit>
 }
 
 /// The row of the element that these bytes are.
-fn row_in(alloc: Global, spot: &Spot, frame: &[u8]) -> Result<PageRow, RowFault>
+fn row_in(alloc: Global, spot: &ElementPosition, frame: &[u8]) -> Result<PageRow, RowFault>
     requires long { 16 ≤ length frame.now }
     requires fits { spot.now.place + length frame.now < 2 ^ 64 }
     ensures row { Tells (λ row. row) result
@@ -162,7 +162,7 @@ fn row_in(alloc: Global, spot: &Spot, frame: &[u8]) -> Result<PageRow, RowFault>
             event,
             next: spot.place + frame.len() as u64,
         }),
-        Err(ElementFault::At(at)) => Err(RowFault::Misfit(body_misfit(
+        Err(ElementFault::At(at)) => Err(RowFault::Mismatch(body_misfit(
             spot.place,
             body.len() as u64,
             at as u64,
@@ -172,7 +172,7 @@ fn row_in(alloc: Global, spot: &Spot, frame: &[u8]) -> Result<PageRow, RowFault>
 }
 
 /// Tests the element that these bytes are, of which no row is made, and gives the place behind it.
-fn next_in(spot: &Spot, frame: &[u8]) -> Result<u64, Misfit>
+fn next_in(spot: &ElementPosition, frame: &[u8]) -> Result<u64, Mismatch>
     requires long { 16 ≤ length frame.now }
     requires fits { spot.now.place + length frame.now < 2 ^ 64 }
     ensures next { result ≡ next_of
@@ -191,8 +191,8 @@ fn next_in(spot: &Spot, frame: &[u8]) -> Result<u64, Misfit>
 fn read_total<S: Store>(
     store: &mut S,
     name: &str,
-    block: &mut Block,
-    spot: &Spot,
+    block: &mut PageBuffer,
+    spot: &ElementPosition,
 ) -> Result<u64, RowFault>
     requires { spot.now.place ≤ spot.now.end }
     ensures total { OnFile S.Store store.old name.now block.old (λ file.
@@ -214,8 +214,8 @@ fn read_total<S: Store>(
 fn read_frame<S: Store>(
     store: &mut S,
     name: &str,
-    block: &mut Block,
-    spot: &Spot,
+    block: &mut PageBuffer,
+    spot: &ElementPosition,
     total: u64,
 ) -> Result<(), RowFault>
     requires within { spot.now.place + total ≤ spot.now.end }
@@ -233,7 +233,7 @@ fn read_frame<S: Store>(
     block.fill(store, name, spot.place, total as usize)?;
     let held = block.window(spot.place, spot.end).len() as u64;
     if held < total {
-        return Err(RowFault::Misfit(Misfit {
+        return Err(RowFault::Mismatch(Mismatch {
             place: spot.place,
             found: spot.place.wrapping_add(total),
             expected: spot.place.wrapping_add(held),
@@ -246,8 +246,8 @@ fn read_frame<S: Store>(
 fn read_whole<S: Store>(
     store: &mut S,
     name: &str,
-    block: &mut Block,
-    spot: &Spot,
+    block: &mut PageBuffer,
+    spot: &ElementPosition,
 ) -> Result<u64, RowFault>
     requires { spot.now.place ≤ spot.now.end }
     ensures total { OnFile S.Store store.old name.now block.old (λ file.
@@ -276,8 +276,8 @@ pub(crate) fn read_element<S: Store>(
     alloc: Global,
     store: &mut S,
     name: &str,
-    block: &mut Block,
-    spot: &Spot,
+    block: &mut PageBuffer,
+    spot: &ElementPosition,
 ) -> Result<PageRow, RowFault>
     requires { spot.now.place ≤ spot.now.end }
     ensures row { OnFile S.Store store.old name.now block.old (λ file.
@@ -302,8 +302,8 @@ pub(crate) fn read_element<S: Store>(
 pub(crate) fn test_element<S: Store>(
     store: &mut S,
     name: &str,
-    block: &mut Block,
-    spot: &Spot,
+    block: &mut PageBuffer,
+    spot: &ElementPosition,
 ) -> Result<u64, RowFault>
     requires { spot.now.place ≤ spot.now.end }
     ensures next { OnFile S.Store store.old name.now block.old (λ file.
@@ -327,7 +327,7 @@ pub(crate) fn test_element<S: Store>(
 pub(crate) fn read_number<S: Store>(
     store: &mut S,
     name: &str,
-    block: &mut Block,
+    block: &mut PageBuffer,
     place: u64,
     end: u64,
 ) -> Result<u64, RowFault>

@@ -1,3 +1,4 @@
+// Why a row of a page isn't read: a mismatch in the file, a fault of the store, or want of memory.
 ghost use Rattle.std.specs.Prelude.{◌≡◌};
 ghost use Rattle.queue_page.specs.Answers.{IsNamed};
 
@@ -7,7 +8,7 @@ use store_disk::{Damage, Failed, QueueFault};
 
 /// What is wrong in a page: two numbers that differ, and where.
 #[derive(Clone, Copy)]
-pub(crate) struct Misfit {
+pub(crate) struct Mismatch {
     /// The place in the file, in bytes from its beginning.
     pub(crate) place: u64,
     /// What stands there.
@@ -20,20 +21,20 @@ pub(crate) struct Misfit {
 #[derive(Clone, Copy)]
 pub(crate) enum RowFault {
     /// The page is damaged there.
-    Misfit(Misfit),
+    Mismatch(Mismatch),
     /// A call of the store failed.
     Fault,
     /// There was no memory for it.
     Memory,
 }
 
-impl From<Misfit> for RowFault {
+impl From<Mismatch> for RowFault {
     ghost use Rattle.queue_page.specs.declared.fault.RowFault.TheVariants as r;
 
-    ghost from_gives = { λ misfit fault. fault ≡ r.Misfit misfit };
+    ghost from_gives = { λ misfit fault. fault ≡ r.Mismatch misfit };
 
-    fn from(misfit: Misfit) -> RowFault {
-        RowFault::Misfit(misfit)
+    fn from(misfit: Mismatch) -> RowFault {
+        RowFault::Mismatch(misfit)
     }
 }
 
@@ -62,7 +63,7 @@ pub(crate) fn named(alloc: Global, name: &str, fault: RowFault) -> QueueFault
     ensures { IsNamed name.now fault result }
 {
     match fault {
-        RowFault::Misfit(misfit) => match Text::of(alloc, name) {
+        RowFault::Mismatch(misfit) => match Text::of(alloc, name) {
             Ok(file) => QueueFault::Damaged(Damage {
                 file,
                 place: misfit.place,

@@ -7,17 +7,17 @@
 //! `specs/Pages` what a page says.
 #![tactic(auto)]
 
-mod block;
 mod element;
 mod fault;
 mod framing;
 pub mod laws;
 mod opening;
 mod page;
+mod page_buffer;
 mod row;
 mod run;
 
-pub use block::{BLOCK_LEN, Block};
 pub use framing::frame_row;
 pub use page::Page;
+pub use page_buffer::{BLOCK_LEN, PageBuffer};
 pub use row::PageRow;

@@ -7,10 +7,10 @@ ghost use Rattle.queue_page.specs.Blocks.{AreBytesIn, IsPart, OnFile};
 ghost use Rattle.queue_page.specs.Pages.{IsGrown, version_of, is_version, recorded_view, opened_view, counted_view, room_of, behind_view};
 ghost use Rattle.queue_page.specs.declared.fault.RowFault.TheVariants as r;
 
-use crate::block::Block;
-use crate::element::Spot;
-use crate::fault::{Misfit, RowFault};
+use crate::element::ElementPosition;
+use crate::fault::{Mismatch, RowFault};
 use crate::page::Page;
+use crate::page_buffer::PageBuffer;
 use crate::run::read_run;
 use store_disk::{PageState, Store};
 
@@ -27,7 +27,7 @@ const NUMBERS_END: u64 = 0x7FFF_FFFF_FFFF_FFFF;
 fn read_version<S: Store>(
     store: &mut S,
     name: &str,
-    block: &mut Block,
+    block: &mut PageBuffer,
     end: u64,
 ) -> Result<u8, RowFault>
     ensures version { OnFile S.Store store.old name.now block.old (λ file. end ≤ length file
@@ -53,7 +53,7 @@ pub(crate) fn is_version(version: u8) -> bool
 fn read_elements<S: Store>(
     store: &mut S,
     name: &str,
-    block: &mut Block,
+    block: &mut PageBuffer,
     state: &PageState,
     version: u8,
 ) -> Result<Page, RowFault>
@@ -69,7 +69,7 @@ fn read_elements<S: Store>(
     ensures bytes { IfOk result (λ page. OnFile S.Store store.old name.now block.old (λ file.
         state.now.length ≤ length file → AreBytesIn 1 state.now.length file)) }
 {
-    let first = Spot {
+    let first = ElementPosition {
         version,
         number: state.least,
         place: 1,
@@ -77,10 +77,10 @@ fn read_elements<S: Store>(
     };
     let found = read_run(store, name, block, first, state.length)?;
     if let Some(misfit) = found.stop {
-        return Err(RowFault::Misfit(misfit));
+        return Err(RowFault::Mismatch(misfit));
     }
     if found.count != u64::from(state.count) {
-        return Err(RowFault::Misfit(Misfit {
+        return Err(RowFault::Mismatch(Mismatch {
             place: 0,
             found: found.count,
             expected: u64::from(state.count),
@@ -93,7 +93,7 @@ fn read_elements<S: Store>(
 pub(crate) fn read_recorded<S: Store>(
     store: &mut S,
     name: &str,
-    block: &mut Block,
+    block: &mut PageBuffer,
     state: &PageState,
     len: u64,
 ) -> Result<Page, RowFault>
@@ -108,7 +108,7 @@ pub(crate) fn read_recorded<S: Store>(
     ensures cause { HasCause (S.faults store.old) (S.faults store.new) (result ≡ Err r.Fault) }
 {
     if len < state.length {
-        return Err(RowFault::Misfit(Misfit {
+        return Err(RowFault::Mismatch(Mismatch {
             place: len,
             found: len,
             expected: state.length,
@@ -116,7 +116,7 @@ pub(crate) fn read_recorded<S: Store>(
     }
     let version = read_version(store, name, block, state.length)?;
     if !is_version(version) {
-        return Err(RowFault::Misfit(Misfit {
+        return Err(RowFault::Mismatch(Mismatch {
             place: 0,
             found: u64::from(version),
             expected: u64::from(LAST_VERSION),
@@ -141,7 +141,7 @@ fn room_of(state: &PageState) -> u64
 pub(crate) fn read_behind<S: Store>(
     store: &mut S,
     name: &str,
-    block: &mut Block,
+    block: &mut PageBuffer,
     page: Page,
     len: u64,
 ) -> Result<Page, RowFault>
@@ -158,7 +158,7 @@ pub(crate) fn read_behind<S: Store>(
     ensures cause { HasCause (S.faults store.old) (S.faults store.new) (result ≡ Err r.Fault) }
 {
     let state = *page.state();
-    let first = Spot {
+    let first = ElementPosition {
         version: page.version(),
         number: state.least + u64::from(state.count),
         place: state.length,
@@ -172,7 +172,7 @@ pub(crate) fn read_behind<S: Store>(
 pub(crate) fn read_page<S: Store>(
     store: &mut S,
     name: &str,
-    block: &mut Block,
+    block: &mut PageBuffer,
     state: &PageState,
     head: bool,
     len: u64,

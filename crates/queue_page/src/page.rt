@@ -1,3 +1,4 @@
+// A page file: its rows appended, read and counted.
 ghost use Rattle.std.specs.Prelude.{◌≡◌, ◌≤◌, ◌<◌, ◌+◌, ◌-◌, ◌++◌, ◌^◌, List, ℕ, length, take, false, not, IsTrue, IsErr, IfOk, IfSome, OnOk, OnErr, Some, Err, option_map, if◌then◌else◌};
 ghost use Rattle.io_traits.specs.Counts.{HasCause};
 ghost use Rattle.io_traits.specs.Reads.{bytes_of, file_length};
@@ -15,10 +16,10 @@ ghost use Rattle.queue_page.specs.Pages.{IsGrown, opened_view, kept_of, row_at, 
 ghost use Rattle.queue_page.specs.declared.row.PageRow.{PageRow as Row};
 ghost use Rattle.queue_page.specs.declared.fault.RowFault.TheVariants as r;
 
-use crate::block::{BLOCK_LEN, Block};
-use crate::element::{Spot, read_element, read_number};
+use crate::element::{ElementPosition, read_element, read_number};
 use crate::fault::{RowFault, named};
 use crate::opening::{LAST_VERSION, is_version, read_page};
+use crate::page_buffer::{BLOCK_LEN, PageBuffer};
 use crate::row::PageRow;
 use std::alloc::Global;
 use std::marker::Model;
@@ -230,7 +231,7 @@ impl Page {
         alloc: Global,
         store: &mut S,
         name: &str,
-        block: &mut Block,
+        block: &mut PageBuffer,
         place: u64,
         number: u64,
     ) -> Result<PageRow, QueueFault>
@@ -244,7 +245,7 @@ impl Page {
         ensures same { ChangesNothing S.tells S.seen S.moment S.may_leave store.old store.new }
         ensures cause { HasCause (S.faults store.old) (S.faults store.new) (result ≡ Err f.Fault) }
     {
-        let spot = Spot {
+        let spot = ElementPosition {
             version: self.version,
             number,
             place,
@@ -275,7 +276,7 @@ impl Page {
         ensures same { ChangesNothing S.tells S.seen S.moment S.may_leave store.old store.new }
         ensures cause { HasCause (S.faults store.old) (S.faults store.new) (result ≡ Err f.Fault) }
     {
-        let mut block = Block::new(alloc, 0)?;
+        let mut block = PageBuffer::new(alloc, 0)?;
         match read_there(alloc, store, name, &mut block, self, place) {
             Ok(row) => Ok(row),
             Err(fault) => Err(named(alloc, name, fault)),
@@ -304,7 +305,7 @@ fn scan_file<S: Store>(
     ensures same { ChangesNothing S.tells S.seen S.moment S.may_leave store.old store.new }
     ensures cause { HasCause (S.faults store.old) (S.faults store.new) (result ≡ Err f.Fault) }
 {
-    let mut block = Block::new(alloc, BLOCK_LEN)?;
+    let mut block = PageBuffer::new(alloc, BLOCK_LEN)?;
     match read_page(store, name, &mut block, state, head, len) {
         Ok(page) => Ok(page),
         Err(fault) => Err(named(alloc, name, fault)),
@@ -316,7 +317,7 @@ fn read_there<S: Store>(
     alloc: Global,
     store: &mut S,
     name: &str,
-    block: &mut Block,
+    block: &mut PageBuffer,
     page: &Page,
     place: u64,
 ) -> Result<PageRow, RowFault>
@@ -329,7 +330,7 @@ fn read_there<S: Store>(
 {
     let end = page.state.length;
     let number = read_number(store, name, block, place, end)?;
-    let spot = Spot {
+    let spot = ElementPosition {
         version: page.version,
         number,
         place,

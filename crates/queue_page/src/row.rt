@@ -1,3 +1,4 @@
+// A row as a page gives it, with the place of the next.
 use element_code::Origin;
 use event_tree::Event;
 

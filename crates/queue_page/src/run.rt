@@ -7,9 +7,9 @@ ghost use Rattle.queue_page.specs.Runs.{run, end_of};
 ghost use Rattle.queue_page.specs.Answers.{Tells};
 ghost use Rattle.queue_page.specs.declared.fault.RowFault.TheVariants as r;
 
-use crate::block::Block;
-use crate::element::{Spot, test_element};
-use crate::fault::{Misfit, RowFault};
+use crate::element::{ElementPosition, test_element};
+use crate::fault::{Mismatch, RowFault};
+use crate::page_buffer::PageBuffer;
 use store_disk::Store;
 
 /// Where a run of elements ends.
@@ -20,15 +20,15 @@ pub(crate) struct RunEnd {
     /// The place behind the last.
     pub(crate) end: u64,
     /// What is wrong with the element there, if there is one and it was looked at.
-    pub(crate) stop: Option<Misfit>,
+    pub(crate) stop: Option<Mismatch>,
 }
 
 /// Reads at most so many elements, the first of which is wanted there, up to the first that is at fault.
 pub(crate) fn read_run<S: Store>(
     store: &mut S,
     name: &str,
-    block: &mut Block,
-    first: Spot,
+    block: &mut PageBuffer,
+    first: ElementPosition,
     limit: u64,
 ) -> Result<RunEnd, RowFault>
     requires order { first.place ≤ first.end }
@@ -56,7 +56,7 @@ pub(crate) fn read_run<S: Store>(
                 spot.number += 1;
                 spot.place = next;
             }
-            Err(RowFault::Misfit(misfit)) => {
+            Err(RowFault::Mismatch(misfit)) => {
                 return Ok(RunEnd {
                     count,
                     end: spot.place,

@@ -1,7 +1,8 @@
+// Stores with one file, and faults as they are printed.
 use crate::words::first_number;
 use plain_data::{Items, Text};
 use std::alloc::{AllocError, Global};
-use store_disk::{Damage, MemoryStore, PageState, QueueFault, Script, Table};
+use store_disk::{Damage, FileTable, MemoryStore, PageState, QueueFault, Script};
 
 /// A store with one file, of which the call of this number fails.
 pub fn store_with(
@@ -10,7 +11,7 @@ pub fn store_with(
     name: &str,
     bytes: &[u8],
 ) -> Result<MemoryStore, AllocError> {
-    let mut files = Table::new(alloc);
+    let mut files = FileTable::new(alloc);
     let file = Items::from_vec(Vec::from_slice(alloc, bytes)?);
     let _ = files.insert(Text::of(alloc, name)?, file)?;
     MemoryStore::new(files, Script::new(alloc, &[failing], &[])?, u64::MAX)

@@ -1,3 +1,4 @@
+// CRC-32 and frames of a row's bytes.
 use crate::words::{add_bytes, bytes_of};
 use crc_frame::{crc32, unframe};
 use std::alloc::AllocError;

@@ -1,3 +1,4 @@
+// Segments of dead letters, written and read.
 use crate::files::store_with;
 use crate::pages::add_json;
 use crate::slots::length_of;

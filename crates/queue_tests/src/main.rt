@@ -64,7 +64,7 @@ use std::{fs, io};
 
 /// What the rows of a table are.
 #[derive(Clone, Copy)]
-enum Table {
+enum QueueTable {
     Pages,
     Failing,
     Appends,
@@ -89,31 +89,31 @@ enum Table {
     Frames,
 }
 
-const TABLES: [(&str, Table); 24] = [
-    ("pages", Table::Pages),
-    ("prefixes", Table::Pages),
-    ("heads", Table::Pages),
-    ("failing", Table::Failing),
-    ("appends", Table::Appends),
-    ("slots", Table::Slots),
-    ("turns", Table::Turns),
-    ("names", Table::Names),
-    ("positions", Table::Positions),
-    ("outputs", Table::Outputs),
-    ("batches", Table::Batches),
-    ("images", Table::Images),
-    ("letters", Table::Letters),
-    ("sheds", Table::Sheds),
-    ("segments", Table::Segments),
-    ("counts", Table::Counts),
-    ("queues", Table::Queues),
-    ("stops", Table::Stops),
-    ("senders", Table::Senders),
-    ("runs", Table::Runs),
-    ("halts", Table::Halts),
-    ("faults", Table::Faults),
-    ("tools", Table::Tools),
-    ("frames", Table::Frames),
+const TABLES: [(&str, QueueTable); 24] = [
+    ("pages", QueueTable::Pages),
+    ("prefixes", QueueTable::Pages),
+    ("heads", QueueTable::Pages),
+    ("failing", QueueTable::Failing),
+    ("appends", QueueTable::Appends),
+    ("slots", QueueTable::Slots),
+    ("turns", QueueTable::Turns),
+    ("names", QueueTable::Names),
+    ("positions", QueueTable::Positions),
+    ("outputs", QueueTable::Outputs),
+    ("batches", QueueTable::Batches),
+    ("images", QueueTable::Images),
+    ("letters", QueueTable::Letters),
+    ("sheds", QueueTable::Sheds),
+    ("segments", QueueTable::Segments),
+    ("counts", QueueTable::Counts),
+    ("queues", QueueTable::Queues),
+    ("stops", QueueTable::Stops),
+    ("senders", QueueTable::Senders),
+    ("runs", QueueTable::Runs),
+    ("halts", QueueTable::Halts),
+    ("faults", QueueTable::Faults),
+    ("tools", QueueTable::Tools),
+    ("frames", QueueTable::Frames),
 ];
 
 fn main(rt: HostRuntime) -> io::Result<()> {
@@ -129,29 +129,29 @@ fn main(rt: HostRuntime) -> io::Result<()> {
     Ok(())
 }
 
-fn add_answer(to: &mut String, table: Table, row: &str) -> Result<(), AllocError> {
+fn add_answer(to: &mut String, table: QueueTable, row: &str) -> Result<(), AllocError> {
     match table {
-        Table::Pages => pages::add_opened(to, u64::MAX, row),
-        Table::Failing => pages::add_failing(to, row),
-        Table::Appends => pages::add_appended(to, row),
-        Table::Slots => slots::add_newest(to, row),
-        Table::Turns => slots::add_written(to, row),
-        Table::Names => outputs::add_name(to, row),
-        Table::Positions => outputs::add_position(to, row),
-        Table::Outputs => outputs::add_opened(to, row),
-        Table::Batches => outputs::add_appended(to, row),
-        Table::Images => outputs::add_image(to, row),
-        Table::Letters => letters::add_read(to, row),
-        Table::Sheds => letters::add_shed(to, row),
-        Table::Segments => letters::add_counted(to, row),
-        Table::Counts => letters::add_written(to, row),
-        Table::Queues => queues::add_run(to, row),
-        Table::Stops => queues::add_stops(to, row),
-        Table::Senders => senders::add_runs(to, row),
-        Table::Runs => open_queues::add_run(to, row),
-        Table::Halts => open_queues::add_halts(to, row),
-        Table::Faults => open_queues::add_faults(to, row),
-        Table::Tools => tools::add_call(to, row),
-        Table::Frames => frames::add_read(to, row),
+        QueueTable::Pages => pages::add_opened(to, u64::MAX, row),
+        QueueTable::Failing => pages::add_failing(to, row),
+        QueueTable::Appends => pages::add_appended(to, row),
+        QueueTable::Slots => slots::add_newest(to, row),
+        QueueTable::Turns => slots::add_written(to, row),
+        QueueTable::Names => outputs::add_name(to, row),
+        QueueTable::Positions => outputs::add_position(to, row),
+        QueueTable::Outputs => outputs::add_opened(to, row),
+        QueueTable::Batches => outputs::add_appended(to, row),
+        QueueTable::Images => outputs::add_image(to, row),
+        QueueTable::Letters => letters::add_read(to, row),
+        QueueTable::Sheds => letters::add_shed(to, row),
+        QueueTable::Segments => letters::add_counted(to, row),
+        QueueTable::Counts => letters::add_written(to, row),
+        QueueTable::Queues => queues::add_run(to, row),
+        QueueTable::Stops => queues::add_stops(to, row),
+        QueueTable::Senders => senders::add_runs(to, row),
+        QueueTable::Runs => open_queues::add_run(to, row),
+        QueueTable::Halts => open_queues::add_halts(to, row),
+        QueueTable::Faults => open_queues::add_faults(to, row),
+        QueueTable::Tools => tools::add_call(to, row),
+        QueueTable::Frames => frames::add_read(to, row),
     }
 }

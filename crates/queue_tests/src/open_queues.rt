@@ -6,7 +6,7 @@ use crate::words::first_number;
 use crc_frame::crc32;
 use persistent_queue::Limits;
 use std::alloc::AllocError;
-use store_disk::{Call, MemoryStore};
+use store_disk::{MemoryStore, StoreCall};
 
 /// How many moments of a store are tried, and how many calls as the one that fails.
 const CALLS: u64 = 400;
@@ -48,7 +48,7 @@ fn is_change(store: &MemoryStore, moment: u64) -> bool {
     };
     match store.calls().get(at as usize) {
         Some(logged) => match &logged.call {
-            Call::List(_) | Call::Length(_) | Call::Read(_, _) => false,
+            StoreCall::List(_) | StoreCall::Length(_) | StoreCall::Read(_, _) => false,
             _ => true,
         },
         None => false,

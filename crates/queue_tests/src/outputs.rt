@@ -1,10 +1,11 @@
+// Output files and their position files, with calls that fail.
 use crate::files::add_fault;
 use crate::words::{add_bytes, bytes_of, first_number, first_word};
 use out_files::OutFile;
 use plain_data::{Items, Text};
 use position_file::{PositionOf, Recorded, position_name, read_position};
 use std::alloc::{AllocError, Global};
-use store_disk::{Failed, MemoryStore, QueueFault, Script, Store, Table};
+use store_disk::{Failed, FileTable, MemoryStore, QueueFault, Script, Store};
 
 /// The name of the output file.
 const PATH: &str = "out.log";
@@ -13,15 +14,15 @@ const PATH: &str = "out.log";
 const SLOT: &str = "out.pos";
 
 /// A store with the two files of an output, and a batch.
-struct Case {
+struct OutputCase {
     store: MemoryStore,
     batch: Vec<u8>,
 }
 
 // Written out, so that it is one call wherever an error is handed on.
-impl Drop for Case {
+impl Drop for OutputCase {
     fn drop(self) {
-        let Case {
+        let OutputCase {
             store: _store,
             batch: _batch,
         } = self;
@@ -83,19 +84,19 @@ pub fn add_image(to: &mut String, row: &str) -> Result<(), AllocError> {
 }
 
 // The files and the batch of a row stand between bars. There is no file where there are no bytes.
-fn case_of(alloc: Global, failing: u64, row: &str) -> Result<Case, AllocError> {
+fn case_of(alloc: Global, failing: u64, row: &str) -> Result<OutputCase, AllocError> {
     let (slots, row) = row.split_once('|').unwrap_or((row, ""));
     let (file, batch) = row.split_once('|').unwrap_or((row, ""));
-    let mut files = Table::new(alloc);
+    let mut files = FileTable::new(alloc);
     add_file(&mut files, SLOT, slots)?;
     add_file(&mut files, PATH, file)?;
-    Ok(Case {
+    Ok(OutputCase {
         store: MemoryStore::new(files, Script::new(alloc, &[failing], &[])?, u64::MAX)?,
         batch: bytes_of(alloc, batch)?,
     })
 }
 
-fn add_file(files: &mut Table, name: &str, digits: &str) -> Result<(), AllocError> {
+fn add_file(files: &mut FileTable, name: &str, digits: &str) -> Result<(), AllocError> {
     let bytes = bytes_of(files.allocator(), digits)?;
     if !bytes.is_empty() {
         let _ = files.insert(Text::of(files.allocator(), name)?, Items::from_vec(bytes))?;
@@ -104,7 +105,7 @@ fn add_file(files: &mut Table, name: &str, digits: &str) -> Result<(), AllocErro
 }
 
 // Opens the output and appends the batch.
-fn append(to: &mut String, case: &mut Case) -> Result<(), AllocError> {
+fn append(to: &mut String, case: &mut OutputCase) -> Result<(), AllocError> {
     match opened_with(*to.allocator(), &mut case.store, &case.batch) {
         Ok(true) => to.push_str("done"),
         Ok(false) => to.push_str("not done"),

@@ -1,10 +1,11 @@
+// Page files of a queue, with calls that fail.
 use crate::files::{add_fault, state_of, store_with};
 use crate::words::{add_bytes, bytes_of, first_number, first_word};
 use crc_frame::frame;
 use element_code::{Origin, encode, encode_row};
 use event_json::write_json;
 use event_tree::{Event, Value};
-use queue_page::{BLOCK_LEN, Block, Page, PageRow, frame_row};
+use queue_page::{BLOCK_LEN, Page, PageBuffer, PageRow, frame_row};
 use std::alloc::{AllocError, Global};
 use std::str;
 use store_disk::{MemoryStore, PageState, QueueFault};
@@ -25,16 +26,16 @@ const MOST_ORIGIN_BYTES: usize = 255;
 const SHOWN: usize = 100;
 
 /// A page in its store, as it is recorded.
-struct Case {
+struct PageCase {
     store: MemoryStore,
     state: PageState,
     head: bool,
 }
 
 // Written out, so that it is one call wherever an error is handed on.
-impl Drop for Case {
+impl Drop for PageCase {
     fn drop(self) {
-        let Case {
+        let PageCase {
             store: _store,
             state: _,
             head: _,
@@ -73,11 +74,11 @@ pub fn add_appended(to: &mut String, row: &str) -> Result<(), AllocError> {
     }
 }
 
-fn case_of(alloc: Global, failing: u64, row: &str) -> Result<Case, AllocError> {
+fn case_of(alloc: Global, failing: u64, row: &str) -> Result<PageCase, AllocError> {
     let (kind, row) = first_word(row);
     let (state, row) = state_of(row);
     let bytes = bytes_of(alloc, row)?;
-    Ok(Case {
+    Ok(PageCase {
         store: store_with(alloc, failing, NAME, &bytes)?,
         state,
         head: kind == "head",
@@ -85,7 +86,7 @@ fn case_of(alloc: Global, failing: u64, row: &str) -> Result<Case, AllocError> {
 }
 
 // The page, opened. One whose numbers go too far is no call.
-fn scan(alloc: Global, case: &mut Case) -> Result<Page, QueueFault> {
+fn scan(alloc: Global, case: &mut PageCase) -> Result<Page, QueueFault> {
     let state = case.state;
     let Some(end) = state.least.checked_add(u64::from(state.count)) else {
         return Err(QueueFault::Fault);
@@ -102,7 +103,7 @@ fn add_page(to: &mut String, store: &mut MemoryStore, page: &Page) -> Result<(),
     let (version, count, end) = (page.version(), state.count, state.length);
     write!(to, "version {version}, {count} rows, {end} of ")?;
     write!(to, "{} bytes", file_of(store).len())?;
-    let mut block = Block::new(alloc, BLOCK_LEN)?;
+    let mut block = PageBuffer::new(alloc, BLOCK_LEN)?;
     let mut spelled = Vec::new(alloc);
     spelled.push(version)?;
     let mut place = 1;

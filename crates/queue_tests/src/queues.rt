@@ -9,14 +9,14 @@ use dead_letters::{DeadFault, DeadLetter, DeadLetters, Letters, Shedding, read_r
 use plain_data::{Items, Names, Text};
 use settings_lines::Policy;
 use std::alloc::{AllocError, Global};
-use store_disk::{ListFault, MemoryStore, QueueFault, Script, Store, Table};
+use store_disk::{FileTable, ListFault, MemoryStore, QueueFault, Script, Store};
 
 /// The folder of the queue.
 pub const FOLDER: &str = "q/";
 
 /// What a queue holds, and what it does where that is too little.
 #[derive(Clone, Copy)]
-struct Rules {
+struct LetterLimits {
     policy: Policy,
     limit: u64,
 }
@@ -57,10 +57,10 @@ pub fn add_stops(to: &mut String, row: &str) -> Result<(), AllocError> {
     Ok(())
 }
 
-fn rules_of(row: &str) -> (Rules, &str) {
+fn rules_of(row: &str) -> (LetterLimits, &str) {
     let (policy, row) = first_word(row);
     let (limit, row) = first_number(row);
-    let rules = Rules {
+    let rules = LetterLimits {
         policy: policy_of(policy),
         limit,
     };
@@ -70,7 +70,7 @@ fn rules_of(row: &str) -> (Rules, &str) {
 /// A store with the files of a row, which stand between bars, each with the last part of its name in front; the
 /// call of this number fails.
 pub fn store_of(alloc: Global, failing: u64, files: &str) -> Result<MemoryStore, AllocError> {
-    let mut table = Table::new(alloc);
+    let mut table = FileTable::new(alloc);
     for file in files.split('|') {
         let (part, digits) = first_word(file.trim());
         if !part.is_empty() {
@@ -94,7 +94,7 @@ pub fn name_of(alloc: Global, part: &str) -> Result<Text, AllocError> {
 fn add_appends(
     to: &mut String,
     store: &mut MemoryStore,
-    rules: Rules,
+    rules: LetterLimits,
     batches: &str,
 ) -> Result<(), AllocError> {
     for batch in batches.split(';') {
@@ -106,7 +106,7 @@ fn add_appends(
 fn add_append(
     to: &mut String,
     store: &mut MemoryStore,
-    rules: Rules,
+    rules: LetterLimits,
     batch: &str,
 ) -> Result<(), AllocError> {
     let bytes = bytes_of(*to.allocator(), batch)?;
@@ -146,7 +146,11 @@ fn add_shed(to: &mut String, shed: &Shedding) -> Result<(), AllocError> {
 // ---- what is held
 
 // The ids of the letters, or the damage, between brackets.
-fn add_held(to: &mut String, store: &mut MemoryStore, rules: Rules) -> Result<(), AllocError> {
+fn add_held(
+    to: &mut String,
+    store: &mut MemoryStore,
+    rules: LetterLimits,
+) -> Result<(), AllocError> {
     to.push('[')?;
     match entries(*to.allocator(), store, rules) {
         Ok(letters) => add_ids(to, letters.as_slice())?,
@@ -188,7 +192,7 @@ fn add_length(to: &mut String, store: &MemoryStore, part: &str) -> Result<(), Al
 fn add_images(
     to: &mut String,
     store: &MemoryStore,
-    rules: Rules,
+    rules: LetterLimits,
     moment: u64,
 ) -> Result<(), AllocError> {
     for choice in 0..CHOICES {
@@ -200,7 +204,7 @@ fn add_images(
 fn add_image(
     to: &mut String,
     store: &MemoryStore,
-    rules: Rules,
+    rules: LetterLimits,
     moment: u64,
     choice: u64,
 ) -> Result<(), AllocError> {
@@ -223,7 +227,11 @@ pub fn parts<S: Store>(alloc: Global, store: &mut S) -> Result<Names, ListFault>
     store.list(alloc, FOLDER)
 }
 
-fn entries<S: Store>(alloc: Global, store: &mut S, rules: Rules) -> Result<Letters, QueueFault> {
+fn entries<S: Store>(
+    alloc: Global,
+    store: &mut S,
+    rules: LetterLimits,
+) -> Result<Letters, QueueFault> {
     let queue = DeadLetters::open_on(alloc, store, FOLDER, rules.limit, rules.policy)?;
     queue.entries(store)
 }
@@ -231,7 +239,7 @@ fn entries<S: Store>(alloc: Global, store: &mut S, rules: Rules) -> Result<Lette
 fn appended<S: Store>(
     alloc: Global,
     store: &mut S,
-    rules: Rules,
+    rules: LetterLimits,
     letters: &[DeadLetter],
 ) -> Result<Result<Shedding, DeadFault>, QueueFault> {
     let mut queue = DeadLetters::open_on(alloc, store, FOLDER, rules.limit, rules.policy)?;

@@ -7,7 +7,7 @@ ghost use Rattle.dead_sender.specs.Work.{work};
 use crate::files::add_fault;
 use crate::letters::add_said;
 use crate::queues::{FOLDER, store_of};
-use dead_sender::{DeadSender, Sent};
+use dead_sender::{DeadSender, SendOutcome};
 use event_json::write_json;
 use event_tree::Value;
 use pipeline_bus::{Answer, Heard, Link, LinkTaker, Parcel};
@@ -74,11 +74,11 @@ fn add_words<S: Store>(
     Ok(Ok(()))
 }
 
-fn told(sent: Sent) -> &'static str {
+fn told(sent: SendOutcome) -> &'static str {
     match sent {
-        Sent::Parcel => "parcel",
-        Sent::NotYet => "not yet",
-        Sent::Ended => "ended",
+        SendOutcome::Parcel => "parcel",
+        SendOutcome::NotYet => "not yet",
+        SendOutcome::Ended => "ended",
     }
 }
 

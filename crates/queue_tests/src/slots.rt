@@ -1,3 +1,4 @@
+// Checkpoint files, written and read.
 ghost use Rattle.std.specs.Prelude.{◌≡◌};
 ghost use Rattle.io_traits.specs.Reads.{file_length};
 ghost use Rattle.store_memory.specs.Keeping.{reads_of};

@@ -6,7 +6,7 @@ use plain_data::{Items, Text};
 use pq_tools::{ToolStatus, pqcheck, pqrepair};
 use std::alloc::{AllocError, Global};
 use std::str;
-use store_disk::{MemorySink, MemoryStore, Script, Store, Table};
+use store_disk::{FileTable, MemorySink, MemoryStore, Script, Store};
 
 /// The folders whose files are shown.
 const FOLDERS: [&str; 2] = ["data/main.repaired/", "data/main/"];
@@ -32,7 +32,7 @@ fn words_of(alloc: Global, row: &str) -> Result<Vec<String>, AllocError> {
 
 // A store with the files of a row, which stand between bars, each with its name in front.
 fn store_of(alloc: Global, files: &str) -> Result<MemoryStore, AllocError> {
-    let mut table = Table::new(alloc);
+    let mut table = FileTable::new(alloc);
     for file in files.split('|') {
         let (name, digits) = first_word(file.trim());
         if !name.is_empty() {

@@ -1,3 +1,4 @@
+// The words, numbers and bytes of a row.
 use hex;
 use std::alloc::{AllocError, Global};
 

@@ -7,7 +7,7 @@ use crate::run::{Line, Run};
 use event_tree::Event;
 use foreign_parts::Place;
 use history_judges::{Judged, Meaning, SourceLook, Written};
-use io_memory::Table;
+use io_memory::FileTable;
 use pipeline_bus::Heard;
 
 /// The looks that an input made since it was opened, by its number.
@@ -124,7 +124,7 @@ impl<'a> Line<'a> {
         looks: &[InputLooks],
         links: &[LinkTraffic],
         folder: &str,
-        image: &Table,
+        image: &FileTable,
     ) -> Judged<bool> {
         let known = self.state.rows.iter().all(|row| {
             !row.is_new
@@ -151,7 +151,7 @@ impl<'a> Line<'a> {
         drains: bool,
         links: &[LinkTraffic],
         folder: &str,
-        image: &Table,
+        image: &FileTable,
     ) -> Judged<bool> {
         let known = self.state.rows.iter().all(|row| {
             let assured = row.parcel.is_some() || self.is_assured(row);
@@ -165,7 +165,7 @@ impl<'a> Line<'a> {
     }
 
     // Whether each row is acknowledged, and none is found.
-    fn is_empty(&self, folder: &str, image: &Table) -> Judged<bool> {
+    fn is_empty(&self, folder: &str, image: &FileTable) -> Judged<bool> {
         let state = &self.state;
         let all = state
             .rows

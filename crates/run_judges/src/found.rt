@@ -4,11 +4,11 @@
 use dead_letters::{Counted, Segments, read_segments, segment_name};
 use event_tree::Text;
 use history_judges::{Fault, Judged};
-use io_memory::{Script, Table, bytes_in, copy};
+use io_memory::{FileTable, Script, bytes_in, copy};
 use persistent_queue::{Limits, Queue, QueueRow};
 use plain_data::Items;
 use position_file::{Recorded, read_position};
-use queue_core::{Opened, open_folder};
+use queue_core::{OpenedQueue, open_folder};
 use std::alloc::Global;
 use store_disk::{MemoryStore, QueueFault};
 
@@ -33,7 +33,7 @@ pub struct FoundRows {
 }
 
 /// What the folder of a queue holds, whose path ends with a slash.
-pub fn found_rows(image: &Table, folder: &str) -> Judged<Option<FoundRows>> {
+pub fn found_rows(image: &FileTable, folder: &str) -> Judged<Option<FoundRows>> {
     if folder.as_bytes().last().copied().unwrap_or(b'/') != b'/' {
         return Ok(None);
     }
@@ -54,7 +54,7 @@ pub fn found_rows(image: &Table, folder: &str) -> Judged<Option<FoundRows>> {
 }
 
 // The number of the next row, and that behind those of which the head page's checkpoint speaks.
-fn numbers_of(opened: &Opened) -> (u64, u64) {
+fn numbers_of(opened: &OpenedQueue) -> (u64, u64) {
     let head = opened.pages.top.state();
     let next = head.least.saturating_add(u64::from(head.count));
     let recorded = opened
@@ -88,7 +88,7 @@ fn unless_damaged<T: Drop>(read: Result<T, QueueFault>) -> Judged<Option<T>> {
 
 /// The content of a file with its position file, which has the name `slot`: its bytes up to the recorded position, or
 /// all, where nothing is recorded. None, too, where it ends before its position.
-pub fn file_content<'a>(image: &'a Table, path: &str, slot: &str) -> Judged<Option<&'a [u8]>> {
+pub fn file_content<'a>(image: &'a FileTable, path: &str, slot: &str) -> Judged<Option<&'a [u8]>> {
     let bytes = bytes_at(image, path);
     match recorded(image, slot, bytes.len() as u64)? {
         Some(count) => Ok(front(bytes, count)),
@@ -97,7 +97,7 @@ pub fn file_content<'a>(image: &'a Table, path: &str, slot: &str) -> Judged<Opti
 }
 
 /// The position that a position file records: `base`, where nothing is recorded.
-pub fn recorded(image: &Table, slot: &str, base: u64) -> Judged<Option<u64>> {
+pub fn recorded(image: &FileTable, slot: &str, base: u64) -> Judged<Option<u64>> {
     let mut store = store_of(image)?;
     match read_position(&mut store, slot) {
         Ok(Recorded::Nothing) => Ok(Some(base)),
@@ -109,7 +109,7 @@ pub fn recorded(image: &Table, slot: &str, base: u64) -> Judged<Option<u64>> {
 
 /// The segments of the dead letters that a folder holds, whose path ends with a slash: the number of the oldest, and
 /// the bytes of each.
-pub fn found_segments(image: &Table, folder: &str) -> Judged<Option<(u64, Vec<Vec<u8>>)>> {
+pub fn found_segments(image: &FileTable, folder: &str) -> Judged<Option<(u64, Vec<Vec<u8>>)>> {
     let Some(counted) = counted_segments(image, folder)? else {
         return Ok(None);
     };
@@ -133,7 +133,7 @@ pub fn found_segments(image: &Table, folder: &str) -> Judged<Option<(u64, Vec<Ve
 }
 
 // Which segments count; of a queue of the first version, or a new one, the one with the number 0.
-fn counted_segments(image: &Table, folder: &str) -> Judged<Option<Segments>> {
+fn counted_segments(image: &FileTable, folder: &str) -> Judged<Option<Segments>> {
     let mut store = store_of(image)?;
     let name = in_folder(image, folder, "dead.seg")?;
     match read_segments(&mut store, name.as_str()) {
@@ -144,7 +144,7 @@ fn counted_segments(image: &Table, folder: &str) -> Judged<Option<Segments>> {
     }
 }
 
-fn first_segment(image: &Table, folder: &str) -> Judged<Option<Segments>> {
+fn first_segment(image: &FileTable, folder: &str) -> Judged<Option<Segments>> {
     let name = segment_name(image.allocator(), folder, 0)?;
     let slot = in_folder(image, folder, "dead.pos")?;
     let whole = bytes_at(image, name.as_str()).len() as u64;
@@ -157,13 +157,13 @@ fn first_segment(image: &Table, folder: &str) -> Judged<Option<Segments>> {
 }
 
 // A store that holds these files, all of them settled.
-fn store_of(image: &Table) -> Judged<MemoryStore> {
+fn store_of(image: &FileTable) -> Judged<MemoryStore> {
     let script = Script::empty(image.allocator());
     Ok(MemoryStore::new(copy(image)?, script, u64::MAX)?)
 }
 
 /// The bytes of a file; a missing one has none.
-pub(crate) fn bytes_at<'a>(image: &'a Table, name: &str) -> &'a [u8] {
+pub(crate) fn bytes_at<'a>(image: &'a FileTable, name: &str) -> &'a [u8] {
     bytes_in(image, name).unwrap_or(&[])
 }
 
@@ -177,6 +177,6 @@ fn front(bytes: &[u8], count: u64) -> Option<&[u8]> {
 }
 
 // A name in a folder.
-fn in_folder(image: &Table, folder: &str, part: &str) -> Judged<Text> {
+fn in_folder(image: &FileTable, folder: &str, part: &str) -> Judged<Text> {
     Ok(Text::from_string(format!(in image.allocator(); "{folder}{part}")?))
 }

@@ -7,7 +7,7 @@ use crate::positions::WatchedFile;
 use event_tree::Text;
 use history_book::{KeptEntry, Told};
 use history_judges::{Fault, Illegal, Judged, Meaning, State, history_of, state_after};
-use io_memory::Table;
+use io_memory::FileTable;
 use std::alloc::Global;
 
 /// A judge of what one pipeline told.
@@ -72,7 +72,7 @@ impl<'a, M: Meaning> Judge<'a, M> {
         &self,
         places: &Places,
         witnesses: &Witnesses,
-        image: &Table,
+        image: &FileTable,
     ) -> Judged<Option<Unsound>> {
         let state = match self.state()? {
             Ok(state) => state,
@@ -98,7 +98,7 @@ impl<'a, M: Meaning> Judge<'a, M> {
     }
 
     /// Whether an output file isn't damaged, and holds what the history allows, or that and one delivery more.
-    pub fn file_is_sound(&self, file: &FilePlace, image: &Table) -> Judged<bool> {
+    pub fn file_is_sound(&self, file: &FilePlace, image: &FileTable) -> Judged<bool> {
         match file_content(image, file.path.as_str(), file.slot.as_str())? {
             Some(content) => self.holds_content(file, content),
             None => Ok(false),
@@ -110,7 +110,7 @@ impl<'a, M: Meaning> Judge<'a, M> {
         &self,
         places: &Places,
         letters: &AppendedLetters,
-        image: &Table,
+        image: &FileTable,
     ) -> Judged<bool> {
         match found_segments(image, places.dead.as_str())? {
             Some((first, segments)) => {
@@ -124,7 +124,7 @@ impl<'a, M: Meaning> Judge<'a, M> {
 
 /// Whether the folder of a queue isn't damaged, and holds rows that an opening may find where its pipeline stands: with a
 /// next number behind all that is settled, within what the next row may have, and with all that is settled recorded.
-pub fn queue_is_sound(state: &State, folder: &str, image: &Table) -> Judged<bool> {
+pub fn queue_is_sound(state: &State, folder: &str, image: &FileTable) -> Judged<bool> {
     let Some(found) = found_rows(image, folder)? else {
         return Ok(false);
     };

@@ -6,7 +6,7 @@ use config_tree::Plugin;
 use event_tree::{Event, Text};
 use history_judges::{Judged, Meaning, SourceLook, State};
 use in_lines::Piece;
-use io_memory::Table;
+use io_memory::FileTable;
 
 /// A reading of a watched file to its end: the statement of an input by which the lines came, and the looks at the file.
 #[derive(Drop)]
@@ -34,7 +34,7 @@ impl<M: Meaning> Judge<'_, M> {
         &self,
         state: &State,
         file: &WatchedFile,
-        image: &Table,
+        image: &FileTable,
     ) -> Judged<bool> {
         let bytes = file.bytes.as_slice();
         let Some(position) = recorded(image, file.slot.as_str(), file.base)? else {

@@ -7,7 +7,7 @@ use Rattle.settings_lines.specs.Answers.{Refuses}
 use Rattle.settings_lines.specs.Values.{with_line, settings_of}
 use Rattle.settings_lines.specs.Entries.{Fault, or_else, EntryLines, Grouped, Numbered, with_first, grouped, values, values_behind, first_fault, faults_behind, front_fault, entries_fault, later_fault}
 use Rattle.settings_lines.specs.Reading.{Opened, ReadSoFar, opened, with_later, unless, and_then, closed_with, closed, begun, added, added_to, taken}
-use Rattle.settings_lines.specs.Pipelines.{Answer, concluded, unless_twice, first_twice, with_written, written, entries_answer}
+use Rattle.settings_lines.specs.Pipelines.{Answer, concluded, check_unique_ids, first_twice, with_written, written, entries_answer}
 use Rattle.settings_lines.specs.Steps.{read_behind, nothing, read}
 use Rattle.settings_lines.specs.declared.fault.SettingsFault.{SettingsFault}
 use Rattle.settings_lines.specs.declared.fault.SettingsFault.TheVariants as fault
@@ -102,7 +102,7 @@ module _ (orders : Orders) where
 
   -- what is concluded of entries that are all whole
   abbrev concluded_of : Result (List PipelineSettings) SettingsFault → Answer
-  concluded_of (Ok ps) = unless_twice (first_twice [] ps) ps
+  concluded_of (Ok ps) = check_unique_ids (first_twice [] ps) ps
   concluded_of (Err f) = Err f
 
   last_entry : (done : List PipelineSettings) (f : Fault) (p : PipelineSettings) → concluded_of (and_then (λ s. Ok (done ++ s ∷ [])) (unless f p)) ≡ concluded (or_else f None) (done ++ p ∷ [])
@@ -136,5 +136,5 @@ module _ (orders : Orders) where
   not_closed text r (fault.Range n k) is no_end = sym (said text r is) ∙ ap concluded_of no_end
   not_closed text r (fault.Twice id) is no_end = sym (said text r is) ∙ ap concluded_of no_end
 
-  pub whole_text : (text : List ℕ) (r : ReadSoFar) (ps : List PipelineSettings) → read orders text ≡ Ok r → closed orders r ≡ Ok ps → unless_twice (first_twice [] ps) ps ≡ says text
+  pub whole_text : (text : List ℕ) (r : ReadSoFar) (ps : List PipelineSettings) → read orders text ≡ Ok r → closed orders r ≡ Ok ps → check_unique_ids (first_twice [] ps) ps ≡ says text
   whole_text text r ps is end = sym (ap concluded_of end) ∙ said text r is

@@ -3,7 +3,7 @@ use Rattle.std.specs.Prelude.{ℕ, ◌+◌, nat_le, not, Bool, true, false, List
 use Rattle.settings_lines.specs.Lines.{begins_entry, pair_of}
 use Rattle.settings_lines.specs.Table.{value_test}
 use Rattle.settings_lines.specs.Values.{Values, Line, stands, with_line}
-use Rattle.settings_lines.specs.declared.fault.LineFault.TheVariants as line
+use Rattle.settings_lines.specs.declared.fault.SettingsLineFault.TheVariants as line
 use Rattle.settings_lines.specs.declared.fault.SettingsFault.{SettingsFault}
 use Rattle.settings_lines.specs.declared.fault.SettingsFault.TheVariants as fault
 

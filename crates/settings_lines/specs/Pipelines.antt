@@ -4,7 +4,7 @@ use Rattle.std.specs.List.{list_any}
 use Rattle.settings_lines.specs.Lines.{is_blank, lines_of}
 use Rattle.settings_lines.specs.Values.{settings_of}
 use Rattle.settings_lines.specs.Entries.{Fault, Numbered, Grouped, grouped, values, first_line_fault}
-use Rattle.settings_lines.specs.declared.fault.LineFault.TheVariants as line
+use Rattle.settings_lines.specs.declared.fault.SettingsLineFault.TheVariants as line
 use Rattle.settings_lines.specs.declared.fault.SettingsFault.{SettingsFault}
 use Rattle.settings_lines.specs.declared.fault.SettingsFault.TheVariants as fault
 use Rattle.settings_lines.specs.declared.orders.Orders.{Orders}
@@ -30,14 +30,14 @@ abbrev pub first_twice : List PipelineSettings → List PipelineSettings → Opt
 first_twice before [] = None
 first_twice before (p ∷ ps) = if has_id p.pipeline_id before then Some p.pipeline_id else first_twice (before ++ p ∷ []) ps
 
-abbrev pub unless_twice : Option (List ℕ) → List PipelineSettings → Answer
-unless_twice None ps = Ok ps
-unless_twice (Some id) ps = Err (fault.Twice id)
+abbrev pub check_unique_ids : Option (List ℕ) → List PipelineSettings → Answer
+check_unique_ids None ps = Ok ps
+check_unique_ids (Some id) ps = Err (fault.Twice id)
 
 -- the first line at fault; without one an id that stands twice; and else the settings
 abbrev pub concluded : Fault → List PipelineSettings → Answer
 concluded (Some f) ps = Err f
-concluded None ps = unless_twice (first_twice [] ps) ps
+concluded None ps = check_unique_ids (first_twice [] ps) ps
 
 abbrev pub entries_answer : Orders → Grouped → Answer
 entries_answer orders g = concluded (first_line_fault g) (map (λ e. settings_of orders (values e)) g.entries)

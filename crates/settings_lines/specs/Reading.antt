@@ -4,13 +4,13 @@ use Rattle.settings_lines.specs.Lines.{is_blank, begins_entry, pair_of}
 use Rattle.settings_lines.specs.Values.{Values, Line, with_line, settings_of}
 use Rattle.settings_lines.specs.Entries.{Fault, or_else, later_fault, first_fault}
 use Rattle.settings_lines.specs.Pairs.{line_view, values_view}
-use Rattle.settings_lines.specs.declared.fault.LineFault.TheVariants as line
+use Rattle.settings_lines.specs.declared.fault.SettingsLineFault.TheVariants as line
 use Rattle.settings_lines.specs.declared.fault.SettingsFault.{SettingsFault}
 use Rattle.settings_lines.specs.declared.fault.SettingsFault.TheVariants as fault
 use Rattle.settings_lines.specs.declared.orders.Orders.{Orders}
 use Rattle.settings_lines.specs.declared.settings.PipelineSettings.{PipelineSettings}
-use Rattle.settings_lines.specs.declared.entry.Entry.{Entry}
-use Rattle.settings_lines.specs.declared.reading.Reading.{Reading}
+use Rattle.settings_lines.specs.declared.entry.PipelineEntry.{PipelineEntry}
+use Rattle.settings_lines.specs.declared.partial_settings.PartialSettings.{PartialSettings}
 
 -- an entry: the number of its first line, that line, its keys, and the fault of the first line behind that one
 pub record Opened : Type 0 where
@@ -19,14 +19,14 @@ pub record Opened : Type 0 where
   pub values : Values
   pub fault : Fault
 
-abbrev pub entry_view : Entry → Opened
+abbrev pub entry_view : PipelineEntry → Opened
 entry_view e = record { number = e.number; first = line_view e.first; values = values_view e.values; fault = e.fault }
 
 pub record ReadSoFar : Type 0 where
   pub done : List PipelineSettings
   pub open_entry : Option Opened
 
-abbrev pub reading_view : Reading → ReadSoFar
+abbrev pub reading_view : PartialSettings → ReadSoFar
 reading_view r = record { done = r.done; open_entry = option_map entry_view r.entry }
 
 abbrev pub opened : ℕ → Line → Opened

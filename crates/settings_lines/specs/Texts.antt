@@ -1,11 +1,11 @@
 -- The texts of faults.
 use Rattle.std.specs.Prelude.{ℕ, List, ◌++◌, codes, decimal}
-use Rattle.settings_lines.specs.declared.fault.LineFault.{LineFault}
-use Rattle.settings_lines.specs.declared.fault.LineFault.TheVariants as line
+use Rattle.settings_lines.specs.declared.fault.SettingsLineFault.{SettingsLineFault}
+use Rattle.settings_lines.specs.declared.fault.SettingsLineFault.TheVariants as line
 use Rattle.settings_lines.specs.declared.fault.SettingsFault.{SettingsFault}
 use Rattle.settings_lines.specs.declared.fault.SettingsFault.TheVariants as fault
 
-abbrev pub line_fault_text : LineFault → List ℕ
+abbrev pub line_fault_text : SettingsLineFault → List ℕ
 line_fault_text line.Form = codes "form"
 line_fault_text line.KeyTwice = codes "key twice"
 line_fault_text line.NoId = codes "no id"

@@ -6,7 +6,7 @@ ghost use Rattle.settings_lines.specs.Pairs.{line_view, pair_view, values_view};
 ghost use Rattle.settings_lines.specs.Reading.{entry_view, finished, opened, with_later};
 ghost use Rattle.settings_lines.specs.Answers.{Gives};
 
-use crate::fault::{LineFault, SettingsFault};
+use crate::fault::{SettingsFault, SettingsLineFault};
 use crate::lines::Pair;
 use crate::orders::Orders;
 use crate::settings::PipelineSettings;
@@ -20,7 +20,7 @@ const MAX_ENTRIES: usize = 16;
 
 /// What is read of an entry.
 #[derive(Drop)]
-pub(crate) struct Entry<'a> {
+pub(crate) struct PipelineEntry<'a> {
     /// The number of its first line.
     pub(crate) number: usize,
     /// Its first line, where that has the form of one.
@@ -35,14 +35,14 @@ pub(crate) fn begin<'a>(
     alloc: Global,
     number: usize,
     first: Option<Pair<'a>>,
-) -> Result<Entry<'a>, AllocError>
+) -> Result<PipelineEntry<'a>, AllocError>
     ensures { IfOk result (λ entry. entry_view entry ≡ opened number (line_view first.entry)) }
 {
     let mut values = Values::new(alloc);
     if let Some(pair) = first {
         values.add(pair)?;
     }
-    Ok(Entry {
+    Ok(PipelineEntry {
         number,
         first,
         values,
@@ -53,14 +53,14 @@ pub(crate) fn begin<'a>(
 /// The entry with one more line.
 pub(crate) fn with_line<'a>(
     alloc: Global,
-    entry: Entry<'a>,
+    entry: PipelineEntry<'a>,
     number: usize,
     line: Option<Pair<'a>>,
-) -> Result<Entry<'a>, AllocError>
+) -> Result<PipelineEntry<'a>, AllocError>
     ensures { IfOk result
         (λ more. entry_view more ≡ with_later (entry_view entry.entry) number (line_view line.entry)) }
 {
-    let Entry {
+    let PipelineEntry {
         number: first_number,
         first,
         mut values,
@@ -73,7 +73,7 @@ pub(crate) fn with_line<'a>(
     if let Some(pair) = line {
         values.add(pair)?;
     }
-    Ok(Entry {
+    Ok(PipelineEntry {
         number: first_number,
         first,
         values,
@@ -86,11 +86,11 @@ pub(crate) fn finish(
     alloc: Global,
     orders: &Orders,
     before: usize,
-    entry: Entry<'_>,
+    entry: PipelineEntry<'_>,
 ) -> Result<PipelineSettings, SettingsFault>
     ensures { Gives result (finished orders.now before (entry_view entry.entry)) }
 {
-    let Entry {
+    let PipelineEntry {
         number,
         first,
         values,
@@ -117,16 +117,16 @@ fn first_fault(
         ≡ spec.first_fault before number (line_view first.entry) (values_view values.now)) }
 {
     let Some(pair) = first else {
-        return Ok(Some(SettingsFault::Line(number, LineFault::Form)));
+        return Ok(Some(SettingsFault::Line(number, SettingsLineFault::Form)));
     };
     if !values.stands("pipeline.id") {
-        return Ok(Some(SettingsFault::Line(number, LineFault::NoId)));
+        return Ok(Some(SettingsFault::Line(number, SettingsLineFault::NoId)));
     }
     if !has_configuration(values) {
-        return Ok(Some(SettingsFault::Line(number, LineFault::NoConfiguration)));
+        return Ok(Some(SettingsFault::Line(number, SettingsLineFault::NoConfiguration)));
     }
     if before >= MAX_ENTRIES {
-        return Ok(Some(SettingsFault::Line(number, LineFault::TooMany)));
+        return Ok(Some(SettingsFault::Line(number, SettingsLineFault::TooMany)));
     }
     key_fault(alloc, number, pair)
 }
@@ -153,10 +153,10 @@ fn later_fault(
         ≡ spec.later_fault (values_view values.now) number (line_view line.entry)) }
 {
     let Some(pair) = line else {
-        return Ok(Some(SettingsFault::Line(number, LineFault::Form)));
+        return Ok(Some(SettingsFault::Line(number, SettingsLineFault::Form)));
     };
     if values.stands(pair.key) {
-        return Ok(Some(SettingsFault::Line(number, LineFault::KeyTwice)));
+        return Ok(Some(SettingsFault::Line(number, SettingsLineFault::KeyTwice)));
     }
     key_fault(alloc, number, pair)
 }

@@ -1,3 +1,4 @@
+// Why a text is refused as `pipelines.yml`, with its texts.
 ghost use Rattle.std.specs.Prelude.{Some};
 ghost use Rattle.settings_lines.specs.Texts.{line_fault_text, settings_fault_text};
 
@@ -8,7 +9,7 @@ use std::fmt;
 
 /// Why a line of `pipelines.yml` is refused, but for its key and its value.
 #[derive(Clone, Copy, Debug)]
-pub enum LineFault {
+pub enum SettingsLineFault {
     /// It is no blank line, no comment, and no key with a scalar; or it stands before the first entry.
     Form,
     /// Its key stands before it in the same entry.
@@ -28,7 +29,7 @@ pub enum LineFault {
 #[derive(Debug, Drop)]
 pub enum SettingsFault {
     /// This line is refused.
-    Line(usize, LineFault),
+    Line(usize, SettingsLineFault),
     /// The key of this line is none of the table.
     Unknown(usize, Text),
     /// The value of this line is not in the range of its key.
@@ -39,19 +40,19 @@ pub enum SettingsFault {
     Memory,
 }
 
-impl Error for LineFault {}
+impl Error for SettingsLineFault {}
 
-impl fmt::Display for LineFault {
+impl fmt::Display for SettingsLineFault {
     ghost output = { λ fault. Some (line_fault_text fault) };
 
     fn fmt<W: fmt::Write>(&self, f: &mut fmt::Formatter<W>) -> fmt::Result {
         f.write_str(match self {
-            LineFault::Form => "form",
-            LineFault::KeyTwice => "key twice",
-            LineFault::NoId => "no id",
-            LineFault::NoConfiguration => "no configuration",
-            LineFault::TooMany => "too many",
-            LineFault::Long => "long",
+            SettingsLineFault::Form => "form",
+            SettingsLineFault::KeyTwice => "key twice",
+            SettingsLineFault::NoId => "no id",
+            SettingsLineFault::NoConfiguration => "no configuration",
+            SettingsLineFault::TooMany => "too many",
+            SettingsLineFault::Long => "long",
         })
     }
 }

@@ -9,13 +9,13 @@ mod fault;
 mod lines;
 mod numbers;
 mod orders;
+mod partial_settings;
 mod pipelines;
-mod reading;
 mod settings;
 mod table;
 mod values;
 
-pub use fault::{LineFault, SettingsFault};
+pub use fault::{SettingsFault, SettingsLineFault};
 pub use numbers::{is_id, number_in, small_number_in};
 pub use orders::{ConfigSource, Orders, QueueTool};
 pub use pipelines::read_pipelines;

@@ -1,3 +1,4 @@
+// What the words of a command line order.
 use plain_data::Text;
 
 /// Where the configuration of a pipeline is.

@@ -1,12 +1,13 @@
+// Reading `pipelines.yml`: the settings of each pipeline.
 ghost use Rattle.std.specs.Prelude.{◌≡◌, [], None, option_map};
 ghost use Rattle.settings_lines.specs.Pipelines as spec;
 ghost use Rattle.settings_lines.specs.Answers.{Gives, Shows};
 ghost use Rattle.settings_lines.specs.Reading.{reading_view};
 ghost use Rattle.settings_lines.specs.Steps.{read};
 
-use crate::fault::{LineFault, SettingsFault};
+use crate::fault::{SettingsFault, SettingsLineFault};
 use crate::orders::Orders;
-use crate::reading::{Reading, close, take_line};
+use crate::partial_settings::{PartialSettings, close, take_line};
 use crate::settings::PipelineSettings;
 use plain_data::{Items, Text};
 use std::alloc::Global;
@@ -28,11 +29,11 @@ pub fn read_pipelines(
     ensures { Gives result (spec.pipelines_of orders.now text.now) }
 {
     if text.len() > MAX_TEXT {
-        return Err(SettingsFault::Line(1, LineFault::Long));
+        return Err(SettingsFault::Line(1, SettingsLineFault::Long));
     }
     let reading = read_lines(alloc, text, orders)?;
     let pipelines = close(alloc, orders, reading)?;
-    unless_twice(pipelines)
+    check_unique_ids(pipelines)
 }
 
 /// What is read of all lines.
@@ -40,10 +41,10 @@ fn read_lines<'a>(
     alloc: Global,
     text: &'a str,
     orders: &Orders,
-) -> Result<Reading<'a>, SettingsFault>
+) -> Result<PartialSettings<'a>, SettingsFault>
     ensures { Shows reading_view result (read orders.now text.entry.now) }
 {
-    let mut reading = Reading {
+    let mut reading = PartialSettings {
         done: Items::new(alloc),
         entry: None,
     };
@@ -58,10 +59,10 @@ fn read_lines<'a>(
 }
 
 /// The pipelines, unless two of them have one id.
-fn unless_twice(
+fn check_unique_ids(
     pipelines: Items<PipelineSettings>,
 ) -> Result<Items<PipelineSettings>, SettingsFault>
-    ensures { Gives result (spec.unless_twice (spec.first_twice [] pipelines) pipelines) }
+    ensures { Gives result (spec.check_unique_ids (spec.first_twice [] pipelines) pipelines) }
 {
     match first_twice(pipelines.as_slice()) {
         Some(id) => Err(SettingsFault::Twice(id.copy()?)),

@@ -1,3 +1,4 @@
+// The settings of a pipeline, and the policies of its dead letter queue.
 use crate::orders::ConfigSource;
 use plain_data::Text;
 

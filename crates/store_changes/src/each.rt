@@ -1,3 +1,4 @@
+// Appending to several files and removing several files.
 ghost use Rattle.std.specs.Prelude.{◌≡◌, ◌≤◌, List, ℕ, IsTrue, IsErr, Contains, length, OnOk};
 ghost use Rattle.std.specs.List.{sum};
 ghost use Rattle.io_traits.specs.Counts.{HasCause};

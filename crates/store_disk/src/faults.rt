@@ -1,3 +1,4 @@
+// The damage of a file, and the errors of what is kept in files of a store.
 ghost use Rattle.std.specs.Prelude.{◌≡◌};
 
 use io_traits::{Failed, ListFault};

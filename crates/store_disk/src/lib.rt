@@ -10,8 +10,8 @@ mod worlds;
 
 pub use faults::{Damage, QueueFault};
 pub use io_memory::{
-    ConnState, Gave, ListClock, ListControl, MemoryFiles, MemoryLinks, MemorySink, MemorySource,
-    Script, Sent, Showing,
+    ConnState, ConnectionEvent, ListClock, ListControl, MemoryFiles, MemoryLinks, MemorySink,
+    MemorySource, Script, Showing, SourceEvent,
 };
 pub use io_real::{FileStore, GoControl, RealFiles, StdinSource, SystemClock, TcpLinks, WriteSink};
 pub use io_traits::{
@@ -19,7 +19,7 @@ pub use io_traits::{
 };
 pub use pages::PageState;
 pub use plain_data::Names;
-pub use store_memory::{Call, Logged, MemoryStore, Table};
+pub use store_memory::{FileTable, Logged, MemoryStore, StoreCall};
 pub use store_trait::{Store, append_and_settle, append_to_tail, cut_and_settle, settle_and_mark};
 pub use time_instant::Instant;
 pub use worlds::World;

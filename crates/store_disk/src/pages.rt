@@ -1,3 +1,4 @@
+// What a checkpoint records of a page of a queue.
 /// What a checkpoint says of a page of a queue.
 #[derive(Clone, Copy)]
 pub struct PageState {

@@ -1,3 +1,4 @@
+// All objects of the outside that a program is given.
 /// All of the outside that a program sees: stores `S`, files `F`, stdin `I`, connections `L`, sinks
 /// `O`, a clock `K` and a control `C`.
 #[derive(Drop)]

@@ -3,12 +3,12 @@ use Rattle.std.specs.Prelude.{◌≡◌, ℕ, List, map, reverse, if◌then◌el
 use Rattle.io_memory.specs.Tables.{Table, content_of}
 use Rattle.store_trait.specs.Steps.{Step, applied, appended, wrote, shortened, removed, synced, nothing}
 use Rattle.store_memory.specs.declared.calls.Logged.{Logged}
-use Rattle.store_memory.specs.declared.calls.Call.{Call}
-use Rattle.store_memory.specs.declared.calls.Call.TheVariants.{Length, Read, Append, WriteAt, Cut, Remove, Sync}
-use Rattle.store_memory.specs.declared.calls.Call.TheVariants.{List as Listing}
+use Rattle.store_memory.specs.declared.calls.StoreCall.{StoreCall}
+use Rattle.store_memory.specs.declared.calls.StoreCall.TheVariants.{Length, Read, Append, WriteAt, Cut, Remove, Sync}
+use Rattle.store_memory.specs.declared.calls.StoreCall.TheVariants.{List as Listing}
 
 -- the step of a call that did its work
-abbrev pub step_of : Call → Step
+abbrev pub step_of : StoreCall → Step
 step_of (Listing folder) = nothing
 step_of (Length name) = nothing
 step_of (Read name at) = nothing

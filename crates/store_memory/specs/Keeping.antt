@@ -10,7 +10,7 @@ use Rattle.store_trait.specs.Steps.{held, LeavesAt}
 use Rattle.store_memory.specs.Calls.{steps_of}
 use Rattle.io_memory.specs.Tables.{Table, content_of}
 use Rattle.store_memory.specs.declared.calls.Logged.{Logged}
-use Rattle.store_memory.specs.declared.calls.Call.{Call}
+use Rattle.store_memory.specs.declared.calls.StoreCall.{StoreCall}
 
 -- the files that it held at first, all settled; its calls since; its script; and the number of the call from which it is stopped
 pub record Keeping : Type 0 where
@@ -48,7 +48,7 @@ abbrev pub begun : Keeping → Keeping
 begun k = record k { script = if is_failing k then failed k.script else worked k.script }
 
 -- a call was made, and did its work or failed
-abbrev pub after_call : Keeping → Call → Bool → Keeping
+abbrev pub after_call : Keeping → StoreCall → Bool → Keeping
 after_call k call did = record k { calls = k.calls ++ (record { call = call; worked = did }) ∷ []; script = if did then worked k.script else failed k.script }
 
 -- a call failed for want of memory
@@ -56,19 +56,19 @@ abbrev pub out_of_memory : Keeping → Keeping
 out_of_memory k = record k { script = failed k.script }
 
 -- a call that did its work is in the log; one that failed is there too, or found no memory
-abbrev pub Answered : Keeping → Keeping → Call → Bool → Type 0
+abbrev pub Answered : Keeping → Keeping → StoreCall → Bool → Type 0
 Answered old new call true = new ≡ after_call old call true
 Answered old new call false = (new ≡ after_call old call false) ⊎ (new ≡ out_of_memory old)
 
 -- so is a list, which may also have found no memory for the names that it was to give
-abbrev pub AnsweredUnless : {T : Type 0} → Keeping → Keeping → Call → Result T ListFault → Type 0
+abbrev pub AnsweredUnless : {T : Type 0} → Keeping → Keeping → StoreCall → Result T ListFault → Type 0
 AnsweredUnless old new call (Ok names) = Answered old new call true
 AnsweredUnless old new call (Err Memory) = Answered old new call true
 AnsweredUnless old new call (Err Failed) = Answered old new call false
 
 -- so is a call, where there was memory to write it down
-abbrev pub AnsweredIf : {E : Type 0} → Keeping → Keeping → Result Call E → Bool → Type 0
-AnsweredIf old new call did = (made : Call) → IfOk call (λ c. c ≡ made) → Answered old new made did
+abbrev pub AnsweredIf : {E : Type 0} → Keeping → Keeping → Result StoreCall E → Bool → Type 0
+AnsweredIf old new call did = (made : StoreCall) → IfOk call (λ c. c ≡ made) → Answered old new made did
 
 -- a store reads as one of the images that a stop of another at a moment may leave
 abbrev pub IsImageOf : Keeping → ℕ → Keeping → Type 0

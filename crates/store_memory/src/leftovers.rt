@@ -8,9 +8,9 @@ ghost use Rattle.io_memory.specs.Tables.{content_of, Changed};
 ghost use Rattle.store_memory.specs.Calls.{Applied};
 ghost use Rattle.store_memory.specs.Leaving.{fate_of, left_at, IsHeld, IsLeftAfter, IsSettled, LeftBy};
 
-use crate::calls::{Call, Logged};
+use crate::calls::{Logged, StoreCall};
 use crate::steps::apply;
-use io_memory::{Table, copy, cut_in, length_in, remove_in, write_in};
+use io_memory::{FileTable, copy, cut_in, length_in, remove_in, write_in};
 use std::alloc::{AllocError, Global};
 
 /// What becomes of a change that no sync settled.
@@ -31,7 +31,7 @@ pub enum Left {
 const STALE: u8 = 165;
 
 // The length of a file, or 0 of a missing one.
-fn end_of(files: &Table, name: &str) -> u64
+fn end_of(files: &FileTable, name: &str) -> u64
     ensures { result ≡ file_length (content_of files.now name.now) }
 {
     match length_in(files, name) {
@@ -42,7 +42,7 @@ fn end_of(files: &Table, name: &str) -> u64
 
 // What is left of a write.
 fn leave_write(
-    files: &mut Table,
+    files: &mut FileTable,
     name: &str,
     at: u64,
     bytes: &[u8],
@@ -64,7 +64,7 @@ fn leave_write(
 
 // Writes other bytes in the place of those from a place on, or from the end on where that comes first,
 // up to the place `end`.
-fn write_foreign(files: &mut Table, name: &str, at: u64, end: u64) -> Result<(), AllocError>
+fn write_foreign(files: &mut FileTable, name: &str, at: u64, end: u64) -> Result<(), AllocError>
     ensures { OnOk result
         (Changed name.now (λ f. Some (with_foreign at end f)) files.old files.new) }
 {
@@ -74,7 +74,7 @@ fn write_foreign(files: &mut Table, name: &str, at: u64, end: u64) -> Result<(),
 }
 
 // What is left of a cut.
-fn leave_cut(files: &mut Table, name: &str, length: u64, left: Left) -> Result<(), AllocError>
+fn leave_cut(files: &mut FileTable, name: &str, length: u64, left: Left) -> Result<(), AllocError>
     ensures { OnOk result
         (Changed name.now (cut_left (fate_of left) length) files.old files.new) }
 {
@@ -88,7 +88,7 @@ fn leave_cut(files: &mut Table, name: &str, length: u64, left: Left) -> Result<(
 }
 
 // Leaves other bytes behind a cut, up to the end.
-fn cut_stale(files: &mut Table, name: &str, length: u64) -> Result<(), AllocError>
+fn cut_stale(files: &mut FileTable, name: &str, length: u64) -> Result<(), AllocError>
     ensures { OnOk result (Changed name.now (cut_left stale length) files.old files.new) }
 {
     match length_in(files, name) {
@@ -98,7 +98,7 @@ fn cut_stale(files: &mut Table, name: &str, length: u64) -> Result<(), AllocErro
 }
 
 // Cuts a file to the middle between its length and this one.
-fn cut_halfway(files: &mut Table, name: &str, length: u64)
+fn cut_halfway(files: &mut FileTable, name: &str, length: u64)
     ensures { Changed name.now (cut_left torn length) files.old files.new }
 {
     let more = end_of(files, name).saturating_sub(length) / 2;
@@ -106,7 +106,7 @@ fn cut_halfway(files: &mut Table, name: &str, length: u64)
 }
 
 // What is left of a removal.
-fn leave_removal(files: &mut Table, name: &str, left: Left)
+fn leave_removal(files: &mut FileTable, name: &str, left: Left)
     ensures { Changed name.now (removal_left (fate_of left)) files.old files.new }
 {
     if left == Left::Kept {
@@ -115,23 +115,28 @@ fn leave_removal(files: &mut Table, name: &str, left: Left)
 }
 
 // What is left of a call, where reads gave `held`.
-fn leave(files: &mut Table, held: &Table, call: &Call, left: Left) -> Result<(), AllocError>
+fn leave(
+    files: &mut FileTable,
+    held: &FileTable,
+    call: &StoreCall,
+    left: Left,
+) -> Result<(), AllocError>
     ensures { OnOk result (LeftBy (fate_of left) held.now (step_of call.now) files.old files.new) }
 {
     match call {
-        Call::Append(name, bytes) => {
+        StoreCall::Append(name, bytes) => {
             let at = end_of(held, name.as_str());
             leave_write(files, name.as_str(), at, bytes.as_slice(), left)
         }
-        Call::WriteAt(name, at, bytes) => {
+        StoreCall::WriteAt(name, at, bytes) => {
             leave_write(files, name.as_str(), *at, bytes.as_slice(), left)
         }
-        Call::Cut(name, length) => { leave_cut(files, name.as_str(), *length, left) }
-        Call::Remove(name) => {
+        StoreCall::Cut(name, length) => { leave_cut(files, name.as_str(), *length, left) }
+        StoreCall::Remove(name) => {
             leave_removal(files, name.as_str(), left);
             Ok(())
         }
-        Call::Sync => {
+        StoreCall::Sync => {
             *files = copy(held)?;
             Ok(())
         }
@@ -156,13 +161,13 @@ fn is_sync(logged: &Logged) -> bool
     ensures { IsTrue result → step_in logged.now ≡ synced }
 {
     match logged.call {
-        Call::Sync => logged.worked,
+        StoreCall::Sync => logged.worked,
         _ => false,
     }
 }
 
 // What reads give after these calls.
-fn replay(base: &Table, calls: &[Logged]) -> Result<Table, AllocError>
+fn replay(base: &FileTable, calls: &[Logged]) -> Result<FileTable, AllocError>
     ensures { IfOk result (λ files. IsHeld base.now calls.now files) }
 {
     let mut files = copy(base)?;
@@ -173,7 +178,7 @@ fn replay(base: &Table, calls: &[Logged]) -> Result<Table, AllocError>
 }
 
 // Makes the step of a call of the log.
-fn redo(files: &mut Table, logged: &Logged) -> Result<(), AllocError>
+fn redo(files: &mut FileTable, logged: &Logged) -> Result<(), AllocError>
     ensures { OnOk result (Applied (step_in logged.now) files.old files.new) }
 {
     if logged.worked {
@@ -183,7 +188,12 @@ fn redo(files: &mut Table, logged: &Logged) -> Result<(), AllocError>
 }
 
 // What is left of a call of the log, where reads gave `held`.
-fn leave_in(files: &mut Table, held: &Table, logged: &Logged, left: Left) -> Result<(), AllocError>
+fn leave_in(
+    files: &mut FileTable,
+    held: &FileTable,
+    logged: &Logged,
+    left: Left,
+) -> Result<(), AllocError>
     ensures { OnOk result
         (LeftBy (fate_of left) held.now (step_in logged.now) files.old files.new) }
 {
@@ -210,7 +220,7 @@ fn fate(choice: u64, count: usize, at: usize) -> Left
 /// What a stop after these calls may leave, by a choice: with 0 all changes are kept, with 1 none is
 /// kept since the last sync, with 2 all but the last call are kept and that one is torn, and with any
 /// other number each change since the last sync leaves stale bytes.
-pub fn leave_all(base: &Table, calls: &[Logged], choice: u64) -> Result<Table, AllocError>
+pub fn leave_all(base: &FileTable, calls: &[Logged], choice: u64) -> Result<FileTable, AllocError>
     ensures { IfOk result (λ files. IsLeftAfter choice base.now calls.now files) }
 {
     let settled = settled_in(calls);

@@ -7,6 +7,6 @@ mod leftovers;
 mod steps;
 mod stores;
 
-pub use calls::{Call, Logged};
-pub use io_memory::Table;
+pub use calls::{Logged, StoreCall};
+pub use io_memory::FileTable;
 pub use stores::MemoryStore;

@@ -1,11 +1,12 @@
+// A store in memory that logs its calls and shows what a stop at any moment may leave.
 ghost use Rattle.std.specs.Prelude.{◌≡◌, ◌<◌, ◌≤◌, ◌+◌, ◌^◌, ◌↔◌, Err, take, IsTrue, IsErr, is_ok, IfOk, IfErr, OnOk, length, option_map};
 ghost use Rattle.io_traits.specs.Folders.{Lists};
 ghost use Rattle.io_traits.specs.Reads.{GivesInto, file_length};
 
-use crate::calls::{Call, Logged};
+use crate::calls::{Logged, StoreCall};
 use crate::leftovers::leave_all;
 use crate::steps::apply;
-use io_memory::{Script, Table, bytes_in, copy, copy_from, length_in, list_in};
+use io_memory::{FileTable, Script, bytes_in, copy, copy_from, length_in, list_in};
 use io_traits::{Failed, ListFault};
 use plain_data::Names;
 use std::alloc::{AllocError, Global};
@@ -17,8 +18,8 @@ use store_trait::Store;
 /// It keeps the files that it held at first and a log of all its calls. Its moment is the number of
 /// calls in the log. A call that fails changes nothing; one that found no memory is not in the log.
 pub struct MemoryStore {
-    base: Table,
-    files: Table,
+    base: FileTable,
+    files: FileTable,
     calls: Vec<Logged>,
     script: Script,
     stop: u64,
@@ -60,8 +61,8 @@ impl MemoryStore {
     ghost use Rattle.io_memory.specs.Scripts.{CountsFault};
     ghost use Rattle.store_memory.specs.Keeping.{Answered, AnsweredIf, AnsweredUnless, beginning, begun, freshly, is_failing, reads_of, moment_of, IsImageOf};
     ghost use Rattle.store_memory.specs.Leaving.{IsLeftAfter};
-    ghost use Rattle.store_memory.specs.declared.calls.Call.TheVariants.{Length, Read, Append, WriteAt, Cut, Remove, Sync};
-    ghost use Rattle.store_memory.specs.declared.calls.Call.TheVariants.{List as Listing};
+    ghost use Rattle.store_memory.specs.declared.calls.StoreCall.TheVariants.{Length, Read, Append, WriteAt, Cut, Remove, Sync};
+    ghost use Rattle.store_memory.specs.declared.calls.StoreCall.TheVariants.{List as Listing};
 
     // Begins a call, which fails where the script names it, or once the store is stopped.
     fn begin(&mut self) -> Result<(), Failed>
@@ -78,7 +79,7 @@ impl MemoryStore {
     }
 
     // Makes a call: its step, and its place in the log.
-    fn make(&mut self, call: Call) -> Result<(), Failed>
+    fn make(&mut self, call: StoreCall) -> Result<(), Failed>
         ensures named { IsTrue (is_failing self.old) → IsErr result }
         ensures state { Answered self.old self.new call (is_ok result) }
         ensures cause { CountsFault self.old.script self.new.script (IsErr result) }
@@ -98,7 +99,7 @@ impl MemoryStore {
     }
 
     // Makes a call, or fails where there was no memory to write it down.
-    fn attempt(&mut self, call: Result<Call, AllocError>) -> Result<(), Failed>
+    fn attempt(&mut self, call: Result<StoreCall, AllocError>) -> Result<(), Failed>
         ensures named { IsTrue (is_failing self.old) → IsErr result }
         ensures state { AnsweredIf self.old self.new call (is_ok result) }
         ensures cause { CountsFault self.old.script self.new.script (IsErr result) }
@@ -114,7 +115,7 @@ impl MemoryStore {
 
     /// A store that holds these files, all of them settled. The calls that the script names fail, and
     /// so does each call from the number `stop` on; u64::MAX is for a store that is never stopped.
-    pub fn new(files: Table, script: Script, stop: u64) -> Result<MemoryStore, AllocError>
+    pub fn new(files: FileTable, script: Script, stop: u64) -> Result<MemoryStore, AllocError>
         ensures { IfOk result (λ s. s ≡ beginning files script stop) }
     {
         let base = copy(&files)?;
@@ -203,7 +204,7 @@ impl MemoryStore {
         ensures cause { CountsFault self.old.script self.new.script
             (result ≡ Err ListFault.Failed) }
     {
-        let call = Call::list(self.base.allocator(), folder);
+        let call = StoreCall::list(self.base.allocator(), folder);
         match self.attempt(call) {
             Ok(()) => self.names_in(alloc, folder),
             Err(Failed) => Err(ListFault::Failed),
@@ -217,7 +218,7 @@ impl MemoryStore {
         ensures length { IfOk result (λ n. n ≡ option_map length (reads_of self.old name.now)) }
         ensures cause { CountsFault self.old.script self.new.script (IsErr result) }
     {
-        let call = Call::length(self.base.allocator(), name);
+        let call = StoreCall::length(self.base.allocator(), name);
         self.attempt(call)?;
         Ok(length_in(&self.files, name))
     }
@@ -230,7 +231,7 @@ impl MemoryStore {
         ensures gives { IfOk result (GivesInto (reads_of self.old name.now) at into.old into.new) }
         ensures cause { CountsFault self.old.script self.new.script (IsErr result) }
     {
-        let call = Call::read(self.base.allocator(), name, at);
+        let call = StoreCall::read(self.base.allocator(), name, at);
         self.attempt(call)?;
         Ok(copy_from(&self.files, name, at, into))
     }
@@ -245,7 +246,7 @@ impl MemoryStore {
     {
         // So it is known that the new length is below 2^64.
         let _length = self.length_of(name);
-        let call = Call::append(self.base.allocator(), name, bytes);
+        let call = StoreCall::append(self.base.allocator(), name, bytes);
         self.attempt(call)
     }
 
@@ -259,7 +260,7 @@ impl MemoryStore {
     {
         // So it is known that the new length is below 2^64.
         let _length = self.length_of(name);
-        let call = Call::write_at(self.base.allocator(), name, at, bytes);
+        let call = StoreCall::write_at(self.base.allocator(), name, at, bytes);
         self.attempt(call)
     }
 
@@ -270,7 +271,7 @@ impl MemoryStore {
         ensures state { Answered self.old self.new (Cut name.now length) (is_ok result) }
         ensures cause { CountsFault self.old.script self.new.script (IsErr result) }
     {
-        let call = Call::cut(self.base.allocator(), name, length);
+        let call = StoreCall::cut(self.base.allocator(), name, length);
         self.attempt(call)
     }
 
@@ -280,7 +281,7 @@ impl MemoryStore {
         ensures state { Answered self.old self.new (Remove name.now) (is_ok result) }
         ensures cause { CountsFault self.old.script self.new.script (IsErr result) }
     {
-        let call = Call::remove(self.base.allocator(), name);
+        let call = StoreCall::remove(self.base.allocator(), name);
         self.attempt(call)
     }
 
@@ -290,7 +291,7 @@ impl MemoryStore {
         ensures state { Answered self.old self.new Sync (is_ok result) }
         ensures cause { CountsFault self.old.script self.new.script (IsErr result) }
     {
-        self.attempt(Ok(Call::Sync))
+        self.attempt(Ok(StoreCall::Sync))
     }
 }
 

@@ -1,3 +1,4 @@
+// The trait of stores: files that belong to the program alone.
 ghost use Rattle.std.specs.Prelude.{◌≡◌, ◌≤◌, ◌<◌, ◌^◌, ◌+◌, ◌++◌, ℕ, Bool, IsTrue, IsErr, List, Some, None, Err, length, take, IfOk, OnOk, option_map};
 ghost use Rattle.io_traits.specs.Counts.{HasCause};
 ghost use Rattle.io_traits.specs.Folders.{Content, Lists};

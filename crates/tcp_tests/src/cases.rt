@@ -1,6 +1,7 @@
+// Polls of a TCP input over connections in memory.
 use crate::calls::add_calls;
 use crate::words::{bytes_of, number, part};
-use io_memory::{Gave, MemoryLinks, Script, Sent};
+use io_memory::{ConnectionEvent, MemoryLinks, Script, SourceEvent};
 use std::alloc::{AllocError, Global};
 
 /// Adds what the calls of a row answer.
@@ -31,12 +32,12 @@ fn script_of(alloc: Global, failing: &str) -> Result<Script, AllocError> {
     Script::new(alloc, &numbers, &[])
 }
 
-fn pieces_of(alloc: Global, words: &str) -> Result<Vec<Sent>, AllocError> {
+fn pieces_of(alloc: Global, words: &str) -> Result<Vec<ConnectionEvent>, AllocError> {
     let mut pieces = Vec::new(alloc);
     for word in words.split_whitespace() {
         let (conn, bytes) = word.split_once(':').unwrap_or(("0", word));
         let gave = gave_of(alloc, bytes)?;
-        let sent = Sent {
+        let sent = ConnectionEvent {
             conn: number(conn),
             gave,
         };
@@ -45,14 +46,14 @@ fn pieces_of(alloc: Global, words: &str) -> Result<Vec<Sent>, AllocError> {
     Ok(pieces)
 }
 
-fn gave_of(alloc: Global, word: &str) -> Result<Gave, AllocError> {
+fn gave_of(alloc: Global, word: &str) -> Result<SourceEvent, AllocError> {
     if word == "end" {
-        return Ok(Gave::End);
+        return Ok(SourceEvent::End);
     }
-    Ok(Gave::Bytes(bytes_of(alloc, word)?))
+    Ok(SourceEvent::Bytes(bytes_of(alloc, word)?))
 }
 
-fn add_piece(pieces: &mut Vec<Sent>, sent: Sent) -> Result<(), AllocError> {
+fn add_piece(pieces: &mut Vec<ConnectionEvent>, sent: ConnectionEvent) -> Result<(), AllocError> {
     match pieces.push(sent) {
         Ok(()) => Ok(()),
         Err(_) => Err(AllocError),

@@ -8,4 +8,4 @@ returns-clause-closed g c =
     let l = c.loop-at in
     let past : length (contents_of l.kit).filters ≤ l.at =
     omega (arith, c.loop-at-test.false, c.filters-at-end.ensures, ap (λ k. length k.filters) l.invariant.2) in
-    sym (all_closed g.F.Closed.closes l.kit l.at past) ∙ l.invariant.1
+    sym (all_closed g.F.Close.closes l.kit l.at past) ∙ l.invariant.1

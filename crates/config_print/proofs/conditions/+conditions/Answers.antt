@@ -3,7 +3,7 @@ use Rattle.std.specs.Prelude.{codes}
 use Rattle.event_json.proofs.Written.{adds_two}
 use Rattle.config_lex.specs.declared.token.Word.TheVariants as w
 use Rattle.config_lex.specs.Spelling.{conjunction_text, disjunction_text}
-use Rattle.config_print.specs.declared.conditions.Place.TheVariants as at
+use Rattle.config_print.specs.declared.conditions.ConditionContext.TheVariants as at
 use Rattle.config_print.specs.Layout.{text_of}
 use Rattle.config_print.specs.Conditions.{condition, conjunct, row, opened, closed, grouped}
 use Rattle.config_print.proofs.Equations.{condition-Not, condition-Conjoined, condition-Disjoined}

@@ -1,6 +1,6 @@
 use Rattle.std.proofs.Common.{◌≡◌, ◌++◌, drop, string_bytes}
 use Rattle.config_lex.specs.declared.token.Word.TheVariants as w
-use Rattle.config_print.specs.declared.conditions.Place.TheVariants as at
+use Rattle.config_print.specs.declared.conditions.ConditionContext.TheVariants as at
 use Rattle.config_print.specs.Layout.{text_of}
 use Rattle.config_print.specs.Conditions.{row}
 use Rattle.config_print.proofs.conditions.+conditions.Given as goal

@@ -8,7 +8,7 @@ use Rattle.store_changes.specs.Changes.{Alters}
 use Rattle.store_changes.specs.Slots.{OldOrNewSaid}
 use Rattle.store_changes.proofs.Saying.{written_said, said_moments}
 use Rattle.dead_letters.specs.Segments.{AreSegments, slot_spelling, slot_says, damaged_at_first, counted_in}
-use Rattle.dead_letters.specs.declared.counting.Counted.TheVariants.{Nothing}
+use Rattle.dead_letters.specs.declared.segments.Counted.TheVariants.{Nothing}
 use Rattle.dead_letters.proofs.SegmentSlots.{length-spelling, spelling_is_slot, spelling_says}
 use Rattle.dead_letters.proofs.naming.count_segments.Goals as goal
 

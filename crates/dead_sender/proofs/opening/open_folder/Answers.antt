@@ -7,7 +7,7 @@ use Rattle.dead_sender.specs.Names.{place_file}
 use Rattle.dead_sender.specs.Opening.{IsDamaged}
 use Rattle.dead_sender.specs.Places.{Passes, Rise}
 use Rattle.dead_sender.specs.Ready.{Says}
-use Rattle.dead_sender.specs.declared.opening.Opened.{Opened}
+use Rattle.dead_sender.specs.declared.opening.OpenedReader.{OpenedReader}
 use Rattle.dead_sender.proofs.Passing.{behind_rise, letters_rise, passes_none}
 use Rattle.dead_sender.proofs.Opened.{not_begun, opening_leaves, place_damaged, still_says}
 use Rattle.dead_sender.proofs.opening.open_folder.Goals as goal
@@ -64,4 +64,4 @@ returns-in-Err-clause-damaged g c = λ damage is told.
     let named = c.as_str.ensures ∙ c.in_ok-file.ensures in
     let says : recorded ≡ counted_in (bytes_of (g.S.Store.seen c.args.store.now (place_file c.args.folder.now)))
     = c.in_ok-recorded.ensures.counted told ∙ ap (λ n. counted_in (bytes_of (g.S.Store.seen c.args.store.now n))) named in
-    place_damaged Opened c.args.folder.now c.in_ok-file.file (g.S.Store.seen c.args.store.now) recorded (c.in-Err.found, c.in-Err.expected) c.damaged.result damage c.in_ok-file.ensures says (sym c.in-Err.ensures) c.damaged.ensures is
+    place_damaged OpenedReader c.args.folder.now c.in_ok-file.file (g.S.Store.seen c.args.store.now) recorded (c.in-Err.found, c.in-Err.expected) c.damaged.result damage c.in_ok-file.ensures says (sym c.in-Err.ensures) c.damaged.ensures is

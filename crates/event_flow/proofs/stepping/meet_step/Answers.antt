@@ -1,5 +1,5 @@
 use Rattle.std.proofs.Common.{◌++◌, sym, subst}
-use Rattle.event_flow.specs.Marks.{AllBecome, marks, marks_of}
+use Rattle.event_flow.specs.Marks.{StepsAll, marks, marks_of}
 use Rattle.event_flow.proofs.Cells.{skipped, tested_on}
 use Rattle.event_flow.proofs.stepping.meet_step.Goals as goal
 
@@ -7,7 +7,7 @@ pub returns-in-Skip-clause-ok : goal.returns-in-Skip-clause-ok
 returns-in-Skip-clause-ok g c e targets is =
     let table = g.K.Plugins.table c.args.kit.now in
     let may = g.K.Plugins.may c.args.kit.now in
-    subst (λ x. AllBecome may table x (marks_of table c.args.cell.now) (marks_of table c.pass_over.new.cell ++ marks table c.args.others.now)) (sym c.in-Skip.is)
+    subst (λ x. StepsAll may table x (marks_of table c.args.cell.now) (marks_of table c.pass_over.new.cell ++ marks table c.args.others.now)) (sym c.in-Skip.is)
     (skipped may table c.in-Skip.over c.args.cell.now c.pass_over.new.cell e targets c.args.others.now is c.pass_over.ensures c.requires.none)
 
 pub returns-in-Test-clause-ok : goal.returns-in-Test-clause-ok

@@ -4,7 +4,7 @@ use Rattle.graph_checks.specs.Inputs.{inputs_checked}
 use Rattle.graph_checks.specs.Plugins.{section_checked}
 use Rattle.graph_checks.specs.Whole.{given_by, whole_of}
 use Rattle.foreign_parts.specs.Links.{addresses_of}
-use Rattle.foreign_parts.specs.declared.boxes.Kind.TheVariants as kind
+use Rattle.foreign_parts.specs.declared.boxes.BoxKind.TheVariants as kind
 use Rattle.graph_checks.proofs.Configured.{is_wanted}
 use Rattle.graph_checks.proofs.Handing.{passes_handed}
 use Rattle.graph_checks.proofs.Outside.{outside_is}

@@ -1,6 +1,6 @@
 use Rattle.std.proofs.lemmas.List.{length-map}
 use Rattle.std.proofs.Common.{[], length, map, refl, sym, ap, ap₂, subst, ◌∙◌}
-use Rattle.foreign_parts.specs.declared.boxes.Kind.TheVariants as kind
+use Rattle.foreign_parts.specs.declared.boxes.BoxKind.TheVariants as kind
 use Rattle.foreign_parts.specs.Stocks.{IsOut}
 use Rattle.plugin_graph.specs.Graphs.{contents_of}
 use Rattle.graph_checks.specs.Drawings.{AllDrawn}
@@ -60,16 +60,16 @@ returns-clause-plan g c =
       boxes = h.filled;
       filters = ap (map (λ x. x.want)) h.boxes ∙ d.filters ∙ r.filters_wanted ∙ ap (so_often c.args.workers) e.wants.filters;
       outputs = d.outputs ∙ r.outputs_wanted ∙ e.wants.outputs;
-      draws = r.draws ∙ ap (λ ws. draws_behind [] ws ss) (sym (d.outputs ∙ r.outputs_wanted)) ∙ drawn_as g.B.Stockroom.output_number (λ xs n. IsOut (g.B.Stockroom.given rack) (g.B.Boxes.stand rack kind.Filter).stocks xs n) [] outputs ss ss (g.B.Boxes.stand rack kind.Output).stocks (nothing_drawn ss) d.drawn.of_outputs;
+      draws = r.draws ∙ ap (λ ws. draws_behind [] ws ss) (sym (d.outputs ∙ r.outputs_wanted)) ∙ drawn_as g.B.BoxPool.output_number (λ xs n. IsOut (g.B.BoxPool.given rack) (g.B.Boxes.stand rack kind.Filter).stocks xs n) [] outputs ss ss (g.B.Boxes.stand rack kind.Output).stocks (nothing_drawn ss) d.drawn.of_outputs;
     }
 
 pub returns-clause-drawn : goal.returns-clause-drawn
 returns-clause-drawn g c =
     let e = c.in_ok-wants.ensures in
     let d = c.draw_into-filters in
-    let number = g.B.Stockroom.filter_number in
-    let outputs = boxes_of g.B.Stockroom.output_number d.result.outputs.items in
-    subst (λ bs. AllDrawn (g.B.Stockroom.given d.new.rack) (boxes_of number bs) outputs (g.B.Boxes.stand c.args.rack.now kind.Filter).stocks (g.B.Boxes.stand c.args.rack.now kind.Output).stocks (g.B.Boxes.stand d.new.rack kind.Filter).stocks (g.B.Boxes.stand d.new.rack kind.Output).stocks)
+    let number = g.B.BoxPool.filter_number in
+    let outputs = boxes_of g.B.BoxPool.output_number d.result.outputs.items in
+    subst (λ bs. AllDrawn (g.B.BoxPool.given d.new.rack) (boxes_of number bs) outputs (g.B.Boxes.stand c.args.rack.now kind.Filter).stocks (g.B.Boxes.stand c.args.rack.now kind.Output).stocks (g.B.Boxes.stand d.new.rack kind.Filter).stocks (g.B.Boxes.stand d.new.rack kind.Output).stocks)
     (sym c.hand_out.ensures.boxes)
     (drawn_before (boxes_of number d.result.filters.items) outputs (ap (λ st. st.stocks) (e.keeps.stands kind.Filter)) (ap (λ st. st.stocks) (e.keeps.stands kind.Output)) d.ensures.drawn)
 

@@ -1,5 +1,5 @@
 use Rattle.std.proofs.Common.{[], All, ap, subst, ◌∙◌}
-use Rattle.foreign_parts.specs.declared.boxes.Kind.TheVariants as kind
+use Rattle.foreign_parts.specs.declared.boxes.BoxKind.TheVariants as kind
 use Rattle.graph_checks.specs.Numbering.{draws_behind}
 use Rattle.graph_checks.specs.Plans.{IsKitOf}
 use Rattle.graph_checks.proofs.compiling.prepare.Goals as goal

@@ -1,5 +1,5 @@
 use Rattle.std.proofs.Common.{[], ◌∷◌, length, length-append, ap, ◌∙◌, arith}
-use Rattle.foreign_parts.specs.declared.boxes.Kind.TheVariants as kind
+use Rattle.foreign_parts.specs.declared.boxes.BoxKind.TheVariants as kind
 use Rattle.foreign_parts.specs.Stocks.{IsOut}
 use Rattle.graph_checks.proofs.Turning.{draws, left_more, wants_more, filter_out}
 use Rattle.graph_checks.proofs.drawing.draw_filters.Goals as goal
@@ -14,7 +14,7 @@ loop-want-preserved g c =
     let ds = c.loop-want.drawn.items in
     let more = c.push_reserved.ensures.items in
     record {
-      drawn = draws ds c.push_reserved.new.self.items _ more g.B.Stockroom.filter_number (λ ss n. IsOut (g.B.Stockroom.given c.args.rack.now) ss (g.B.Boxes.stand c.args.rack.now kind.Output).stocks n) c.as_str.result.now c.as_str.ensures (g.B.Boxes.stand c.args.rack.now kind.Filter).stocks (g.B.Boxes.stand c.loop-want.rack kind.Filter).stocks (g.B.Boxes.stand c.take_filter.new.self kind.Filter).stocks i.drawn e.last (filter_out (e.given ∙ i.given) (e.outputs ∙ i.others) e.own) e.some;
+      drawn = draws ds c.push_reserved.new.self.items _ more g.B.BoxPool.filter_number (λ ss n. IsOut (g.B.BoxPool.given c.args.rack.now) ss (g.B.Boxes.stand c.args.rack.now kind.Output).stocks n) c.as_str.result.now c.as_str.ensures (g.B.Boxes.stand c.args.rack.now kind.Filter).stocks (g.B.Boxes.stand c.loop-want.rack kind.Filter).stocks (g.B.Boxes.stand c.take_filter.new.self kind.Filter).stocks i.drawn e.last (filter_out (e.given ∙ i.given) (e.outputs ∙ i.others) e.own) e.some;
       left = left_more left rest c.in-Some.want c.as_str.result.now (g.B.Boxes.stand c.loop-want.rack kind.Filter).stocks (g.B.Boxes.stand c.take_filter.new.self kind.Filter).stocks next.0 c.as_str.ensures e.some i.left;
       wants = wants_more ds c.push_reserved.new.self.items _ more left rest c.args.wants next.0 i.wants;
       room = omega (arith, i.room, ap length next.0, ap length more ∙ length-append ds (_ ∷ []), c.push_reserved.ensures.capacity);

@@ -1,6 +1,6 @@
 use Rattle.std.proofs.Common.{◌≡◌, ◌≤◌, ◌+◌, ◌++◌, length, vec_capacity}
 use Rattle.std.specs.Vec.Iter.{into_iter_len}
-use Rattle.foreign_parts.specs.declared.boxes.Kind.TheVariants as kind
+use Rattle.foreign_parts.specs.declared.boxes.BoxKind.TheVariants as kind
 use Rattle.graph_checks.specs.Linked.{all_taken, links_there}
 use Rattle.graph_checks.proofs.drawing.draw_links.Given as goal
 
@@ -11,6 +11,6 @@ invariant-loop-address g l = record {
   room : length l.taken.items + length l.address-iterator.rest.items ≤ vec_capacity l.taken;
   filters : (g.B.Boxes.stand l.rack kind.Filter).stocks ≡ (g.B.Boxes.stand l.fn.rack kind.Filter).stocks;
   outputs : (g.B.Boxes.stand l.rack kind.Output).stocks ≡ (g.B.Boxes.stand l.fn.rack kind.Output).stocks;
-  given : g.B.Stockroom.given l.rack ≡ g.B.Stockroom.given l.fn.rack;
+  given : g.B.BoxPool.given l.rack ≡ g.B.BoxPool.given l.fn.rack;
   counted : into_iter_len l.address-iterator ≡ length l.address-iterator.rest.items;
 }

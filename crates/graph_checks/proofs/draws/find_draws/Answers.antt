@@ -1,7 +1,7 @@
 use Rattle.std.proofs.lemmas.List.{drop_more}
 use Rattle.std.proofs.Common.{◌≡◌, ◌<◌, ◌+◌, ◌∷◌, ◌++◌, length, drop, sym, ap, ap₂, subst, ◌∙◌}
 use Rattle.foreign_parts.specs.Stocks.{left_of}
-use Rattle.foreign_parts.specs.declared.boxes.Kind.TheVariants as kind
+use Rattle.foreign_parts.specs.declared.boxes.BoxKind.TheVariants as kind
 use Rattle.graph_checks.specs.Numbering.{draws_behind, number_behind}
 use Rattle.graph_checks.proofs.Numbers.{Suffice, draws_next, suffice_next, suffices}
 use Rattle.graph_checks.proofs.draws.find_draws.Goals as goal

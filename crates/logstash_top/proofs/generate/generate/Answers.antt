@@ -18,7 +18,7 @@ loop-init g c = record {
   behind = inl c.start-progress.ensures;
   held = c.requires;
   stays = λ config draws boxes runner. runner;
-  wrote = λ config draws boxes runner. took_none g.I.Source g.O.Sink g.K.Clock (Generated c.args.generator.now) config draws (MayAt g.X.Asked.may boxes) c.args.world.now.stdout;
+  wrote = λ config draws boxes runner. took_none g.I.Source g.O.Sink g.K.Clock (Generated c.args.generator.now) config draws (MayAt g.X.FilterCall.may boxes) c.args.world.now.stdout;
   stdin = refl;
   stderr = refl;
   write_same = refl;
@@ -37,7 +37,7 @@ pub returns-then-gave_all-clause-ran : goal.returns-then-gave_all-clause-ran
 returns-then-gave_all-clause-ran g c config draws boxes runner =
     let i = c.loop.invariant in
     let gen = c.args.generator.now in
-    all_polled g.I.Source g.O.Sink g.K.Clock (Generated gen) config draws (MayAt g.X.Asked.may boxes) c.args.world.now c.loop.world _ _ i.polls i.stops i.polled
+    all_polled g.I.Source g.O.Sink g.K.Clock (Generated gen) config draws (MayAt g.X.FilterCall.may boxes) c.args.world.now c.loop.world _ _ i.polls i.stops i.polled
     (gave_there gen (poll_limit * length i.polls) c.loop.progress i.behind (sym c.gave_all.ensures ∙ c.if-gave_all.true)) (i.wrote config draws boxes runner) (λ is. cc)
 
 -- one more poll
@@ -59,7 +59,7 @@ loop-preserved g c =
       held = c.in-Ok.ensures.none;
       stays = λ config draws boxes runner. c.in-Ok.ensures.stays config draws boxes (i.stays config draws boxes runner);
       wrote = λ config draws boxes runner.
-          took_more g.I.Source g.O.Sink g.K.Clock (Generated gen) config draws (MayAt g.X.Asked.may boxes) c.args.world.now.stdout c.loop.world.stdout c.poll.new.stdout i.polls (poll_of m Nothing) _ (of_poll gen i.polls m c.loop.progress there)
+          took_more g.I.Source g.O.Sink g.K.Clock (Generated gen) config draws (MayAt g.X.FilterCall.may boxes) c.args.world.now.stdout c.loop.world.stdout c.poll.new.stdout i.polls (poll_of m Nothing) _ (of_poll gen i.polls m c.loop.progress there)
           (i.wrote config draws boxes runner) (c.in-Ok.ensures.ok config draws boxes (i.stays config draws boxes runner));
       stdin = i.stdin;
       stderr = i.stderr;
@@ -75,7 +75,7 @@ returns-in-Err-clause-ran g c config draws boxes runner =
     let k = poll_limit * length i.polls in
     let there = is_there gen k c.loop.progress i.behind (sym c.gave_all.ensures ∙ c.if-gave_all.false) in
     let more = ap (λ p. gave_all gen p.events) (sym there) ∙ (sym c.gave_all.ensures ∙ c.if-gave_all.false) in
-    stopped_in_part g.I.Source g.O.Sink g.K.Clock (Generated gen) config draws (MayAt g.X.Asked.may boxes) _ c.loop.world _ _ _ i.polls (poll_of m Nothing) _ (of_poll gen i.polls m c.loop.progress there)
+    stopped_in_part g.I.Source g.O.Sink g.K.Clock (Generated gen) config draws (MayAt g.X.FilterCall.may boxes) _ c.loop.world _ _ _ i.polls (poll_of m Nothing) _ (of_poll gen i.polls m c.loop.progress there)
     (stops_more gen i.polls (poll_of m Nothing) i.stops more)
     (polled_again g.I.Source g.O.Sink g.K.Clock gen _ c.loop.world _ i.polls m i.polled c.now-moment.ensures refl)
     (i.wrote config draws boxes runner) (c.in-Err.ensures.part config draws boxes (i.stays config draws boxes runner)) (λ is. absurd (c.in-Err.ensures.not_input is)) (λ is. cc)

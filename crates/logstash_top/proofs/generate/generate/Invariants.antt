@@ -21,9 +21,9 @@ invariant-loop g l = record {
   stops : StopsWith (Generated l.fn.generator) polls;
   behind : IsBehind l.fn.generator (poll_limit * length polls) l.progress;
   held : l.runner.held ≡ [];
-  stays : (config : Config) (draws : Draws) (boxes : List (Option g.row.X.Denot)) → IsRunnerOf g.X.Asked.may config draws boxes l.fn.runner → IsRunnerOf g.X.Asked.may config draws boxes l.runner;
-  wrote : (config : Config) (draws : Draws) (boxes : List (Option g.row.X.Denot)) → IsRunnerOf g.X.Asked.may config draws boxes l.fn.runner
-      → TookBatches config draws (MayAt g.X.Asked.may boxes) (batches_in line_limit (Generated l.fn.generator) polls) (g.O.Sink.taken l.fn.world.stdout) (g.O.Sink.taken l.world.stdout);
+  stays : (config : Config) (draws : Draws) (boxes : List (Option g.row.X.Denot)) → IsRunnerOf g.X.FilterCall.may config draws boxes l.fn.runner → IsRunnerOf g.X.FilterCall.may config draws boxes l.runner;
+  wrote : (config : Config) (draws : Draws) (boxes : List (Option g.row.X.Denot)) → IsRunnerOf g.X.FilterCall.may config draws boxes l.fn.runner
+      → TookBatches config draws (MayAt g.X.FilterCall.may boxes) (batches_in line_limit (Generated l.fn.generator) polls) (g.O.Sink.taken l.fn.world.stdout) (g.O.Sink.taken l.world.stdout);
   stdin : l.world.stdin ≡ l.fn.world.stdin;
   stderr : l.world.stderr ≡ l.fn.world.stderr;
   write_same : g.O.Sink.faults l.world.stdout ≡ g.O.Sink.faults l.fn.world.stdout;

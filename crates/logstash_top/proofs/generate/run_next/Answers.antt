@@ -3,7 +3,7 @@ use Rattle.in_lines.specs.Generators.{events_from, progress_at}
 use Rattle.in_lines.specs.Inputs.{poll_limit}
 use Rattle.in_lines.proofs.Rounds.{none_more, one_behind}
 use Rattle.plugin_graph.specs.Kits.{MayAt}
-use Rattle.batch_rows.specs.Batches.{TookFirst}
+use Rattle.batch_rows.specs.Batches.{WrotePrefix}
 use Rattle.batch_rows.specs.Running.{RanUpTo, batches_behind, batches_of}
 use Rattle.batch_rows.proofs.Batching.{none_took, on_ok_as, up_begins, up_end, up_first, up_then}
 use Rattle.logstash_top.proofs.GenerateLemmas.{counted_on, end_of_poll, next_of_poll}
@@ -16,7 +16,7 @@ loop-init g c =
       room = omega (arith, ap length c.requires.none);
       progress = c.requires.progress ∙ ap (progress_at c.args.generator.now.lines) none;
       stays = λ config draws boxes runner. runner;
-      ran = λ config draws boxes runner. up_begins g.X.Asked.may config draws boxes c.args.runner.now.held (events_from c.args.generator.now c.args.moment c.args.progress.now.events poll_limit) (g.O.Sink.taken c.args.stdout.now) c.requires.none;
+      ran = λ config draws boxes runner. up_begins g.X.FilterCall.may config draws boxes c.args.runner.now.held (events_from c.args.generator.now c.args.moment c.args.progress.now.events poll_limit) (g.O.Sink.taken c.args.stdout.now) c.requires.none;
       same = refl;
     }
 
@@ -39,9 +39,9 @@ loop-preserved g c =
       progress = counted_on gen c.loop.progress c.next.new.progress c.args.progress.now.events c.loop.counter i.progress behind;
       stays = λ config draws boxes runner. c.in-Ok.ensures.stays config draws boxes (i.stays config draws boxes runner);
       ran = λ config draws boxes runner.
-          up_then g.X.Asked.may config draws boxes (batches_of (events_from gen m c.args.progress.now.events poll_limit)) (batches_behind c.loop.runner.held (events_from gen m k (poll_limit - c.loop.counter))) (batches_behind c.add_event.new.runner.held later) a b d
+          up_then g.X.FilterCall.may config draws boxes (batches_of (events_from gen m c.args.progress.now.events poll_limit)) (batches_behind c.loop.runner.held (events_from gen m k (poll_limit - c.loop.counter))) (batches_behind c.add_event.new.runner.held later) a b d
           (i.ran config draws boxes runner)
-          (subst (λ es. RanUpTo g.X.Asked.may config draws boxes (batches_behind c.loop.runner.held es) (batches_behind c.add_event.new.runner.held later) b d) next
+          (subst (λ es. RanUpTo g.X.FilterCall.may config draws boxes (batches_behind c.loop.runner.held es) (batches_behind c.add_event.new.runner.held later) b d) next
           (c.in-Ok.ensures.ok config draws boxes (i.stays config draws boxes runner) later));
       same = c.in-Ok.ensures.cause.same (λ is. cc) ∙ i.same;
     }
@@ -60,9 +60,9 @@ returns-in-Err-add_event-clause-part g c config draws boxes runner =
     let d = g.O.Sink.taken c.add_event.new.stdout in
     let later = events_from gen m (suc k) (poll_limit - (c.loop.counter + 1)) in
     let next = next_of_poll gen m k c.loop.counter event (omega (arith, c.loop-test.true)) e.event in
-    up_first g.X.Asked.may config draws boxes (batches_of (events_from gen m c.args.progress.now.events poll_limit)) (batches_behind c.loop.runner.held (events_from gen m k (poll_limit - c.loop.counter))) a b d
+    up_first g.X.FilterCall.may config draws boxes (batches_of (events_from gen m c.args.progress.now.events poll_limit)) (batches_behind c.loop.runner.held (events_from gen m k (poll_limit - c.loop.counter))) a b d
     (i.ran config draws boxes runner)
-    (subst (λ es. TookFirst config draws (MayAt g.X.Asked.may boxes) (batches_behind c.loop.runner.held es) b d) next
+    (subst (λ es. WrotePrefix config draws (MayAt g.X.FilterCall.may boxes) (batches_behind c.loop.runner.held es) b d) next
     (c.in-Err-add_event.ensures.part config draws boxes (i.stays config draws boxes runner) later))
 
 -- or before an event
@@ -74,7 +74,7 @@ returns-in-Err-clause-part g c config draws boxes runner =
     let a = g.O.Sink.taken c.args.stdout.now in
     let b = g.O.Sink.taken c.loop.stdout in
     let mid = batches_behind c.loop.runner.held (events_from gen m c.loop.progress.events (poll_limit - c.loop.counter)) in
-    up_first g.X.Asked.may config draws boxes (batches_of (events_from gen m c.args.progress.now.events poll_limit)) mid a b b (i.ran config draws boxes runner) (none_took config draws (MayAt g.X.Asked.may boxes) mid b)
+    up_first g.X.FilterCall.may config draws boxes (batches_of (events_from gen m c.args.progress.now.events poll_limit)) mid a b b (i.ran config draws boxes runner) (none_took config draws (MayAt g.X.FilterCall.may boxes) mid b)
 
 -- it gave all
 pub returns-in-Ok-None-clause-ok : goal.returns-in-Ok-None-clause-ok
@@ -90,8 +90,8 @@ returns-in-Ok-None-clause-ok g c =
     let all = batches_of (events_from gen m c.args.progress.now.events poll_limit) in
     let held = c.loop.runner.held in
     on_ok_as c.finish.result (λ took config draws boxes runner.
-    up_end g.X.Asked.may config draws boxes all (batches_behind held []) a b d
-    (subst (λ es. RanUpTo g.X.Asked.may config draws boxes all (batches_behind held es) a b) none (i.ran config draws boxes runner))
+    up_end g.X.FilterCall.may config draws boxes all (batches_behind held []) a b d
+    (subst (λ es. RanUpTo g.X.FilterCall.may config draws boxes all (batches_behind held es) a b) none (i.ran config draws boxes runner))
     (took config draws boxes (i.stays config draws boxes runner)))
     c.finish.ensures.ok
 
@@ -107,8 +107,8 @@ returns-in-Ok-None-clause-part g c config draws boxes runner =
     let d = g.O.Sink.taken c.finish.new.stdout in
     let all = batches_of (events_from gen m c.args.progress.now.events poll_limit) in
     let held = c.loop.runner.held in
-    up_first g.X.Asked.may config draws boxes all (batches_behind held []) a b d
-    (subst (λ es. RanUpTo g.X.Asked.may config draws boxes all (batches_behind held es) a b) none (i.ran config draws boxes runner))
+    up_first g.X.FilterCall.may config draws boxes all (batches_behind held []) a b d
+    (subst (λ es. RanUpTo g.X.FilterCall.may config draws boxes all (batches_behind held es) a b) none (i.ran config draws boxes runner))
     (c.finish.ensures.part config draws boxes (i.stays config draws boxes runner))
 
 -- all events of the poll are there
@@ -124,8 +124,8 @@ returns-clause-ok g c =
     let all = batches_of (events_from gen m c.args.progress.now.events poll_limit) in
     let held = c.loop.runner.held in
     on_ok_as c.finish-2.result (λ took config draws boxes runner.
-    up_end g.X.Asked.may config draws boxes all (batches_behind held []) a b d
-    (subst (λ es. RanUpTo g.X.Asked.may config draws boxes all (batches_behind held es) a b) none (i.ran config draws boxes runner))
+    up_end g.X.FilterCall.may config draws boxes all (batches_behind held []) a b d
+    (subst (λ es. RanUpTo g.X.FilterCall.may config draws boxes all (batches_behind held es) a b) none (i.ran config draws boxes runner))
     (took config draws boxes (i.stays config draws boxes runner)))
     c.finish-2.ensures.ok
 
@@ -140,8 +140,8 @@ returns-clause-part g c config draws boxes runner =
     let d = g.O.Sink.taken c.finish-2.new.stdout in
     let all = batches_of (events_from gen m c.args.progress.now.events poll_limit) in
     let held = c.loop.runner.held in
-    up_first g.X.Asked.may config draws boxes all (batches_behind held []) a b d
-    (subst (λ es. RanUpTo g.X.Asked.may config draws boxes all (batches_behind held es) a b) none (i.ran config draws boxes runner))
+    up_first g.X.FilterCall.may config draws boxes all (batches_behind held []) a b d
+    (subst (λ es. RanUpTo g.X.FilterCall.may config draws boxes all (batches_behind held es) a b) none (i.ran config draws boxes runner))
     (c.finish-2.ensures.part config draws boxes (i.stays config draws boxes runner))
 
 -- the runner stays one of the configuration

@@ -10,9 +10,9 @@ abbrev pub invariant-loop : goal.invariant-loop
 invariant-loop g l = record {
   room : length l.runner.held < batch_limit;
   progress : l.progress ≡ progress_at l.fn.generator.lines (l.fn.progress.events + l.counter);
-  stays : (config : Config) (draws : Draws) (boxes : List (Option g.row.X.Denot)) → IsRunnerOf g.X.Asked.may config draws boxes l.fn.runner → IsRunnerOf g.X.Asked.may config draws boxes l.runner;
-  ran : (config : Config) (draws : Draws) (boxes : List (Option g.row.X.Denot)) → IsRunnerOf g.X.Asked.may config draws boxes l.fn.runner
-      → RanUpTo g.X.Asked.may config draws boxes (batches_of (events_from l.fn.generator l.fn.moment l.fn.progress.events poll_limit))
+  stays : (config : Config) (draws : Draws) (boxes : List (Option g.row.X.Denot)) → IsRunnerOf g.X.FilterCall.may config draws boxes l.fn.runner → IsRunnerOf g.X.FilterCall.may config draws boxes l.runner;
+  ran : (config : Config) (draws : Draws) (boxes : List (Option g.row.X.Denot)) → IsRunnerOf g.X.FilterCall.may config draws boxes l.fn.runner
+      → RanUpTo g.X.FilterCall.may config draws boxes (batches_of (events_from l.fn.generator l.fn.moment l.fn.progress.events poll_limit))
       (batches_behind l.runner.held (events_from l.fn.generator l.fn.moment l.progress.events (poll_limit - l.counter))) (g.O.Sink.taken l.fn.stdout) (g.O.Sink.taken l.stdout);
   same : g.O.Sink.faults l.stdout ≡ g.O.Sink.faults l.fn.stdout;
 }

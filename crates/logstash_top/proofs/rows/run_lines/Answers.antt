@@ -1,7 +1,7 @@
 use Rattle.std.proofs.Common.{[], arith, length, refl, ap, ◌∙◌, subst}
 use Rattle.std.specs.String.{string_bytes}
 use Rattle.plugin_graph.specs.Kits.{MayAt}
-use Rattle.batch_rows.specs.Batches.{TookFirst}
+use Rattle.batch_rows.specs.Batches.{WrotePrefix}
 use Rattle.batch_rows.specs.Running.{RanUpTo, batches_behind, batches_of}
 use Rattle.batch_rows.proofs.Batching.{none_took, on_ok_as, up_begins, up_end, up_first, up_then}
 use Rattle.logstash_top.specs.Rows.{events_at, events_left}
@@ -12,7 +12,7 @@ pub loop-line-init : goal.loop-line-init
 loop-line-init g c = record {
   room = omega (arith, ap length c.requires.held);
   stays = λ config draws boxes runner. runner;
-  ran = λ config draws boxes runner. up_begins g.X.Asked.may config draws boxes c.args.runner.now.held (events_left c.args.settings.now c.args.moment c.args.reader.now) (g.O.Sink.taken c.args.stdout.now) c.requires.held;
+  ran = λ config draws boxes runner. up_begins g.X.FilterCall.may config draws boxes c.args.runner.now.held (events_left c.args.settings.now c.args.moment c.args.reader.now) (g.O.Sink.taken c.args.stdout.now) c.requires.held;
   same = refl;
   rest = λ is. refl;
   ended = refl;
@@ -38,9 +38,9 @@ loop-line-preserved g c =
       room = c.in-Ok.ensures.room;
       stays = λ config draws boxes runner. c.in-Ok.ensures.stays config draws boxes (i.stays config draws boxes runner);
       ran = λ config draws boxes runner.
-          up_then g.X.Asked.may config draws boxes (batches_of (events_left c.args.settings.now moment c.args.reader.now)) (batches_behind c.loop-line.runner.held (events_left c.args.settings.now moment c.loop-line.reader)) later a b d
+          up_then g.X.FilterCall.may config draws boxes (batches_of (events_left c.args.settings.now moment c.args.reader.now)) (batches_behind c.loop-line.runner.held (events_left c.args.settings.now moment c.loop-line.reader)) later a b d
           (i.ran config draws boxes runner)
-          (subst (λ es. RanUpTo g.X.Asked.may config draws boxes (batches_behind c.loop-line.runner.held es) later b d) next
+          (subst (λ es. RanUpTo g.X.FilterCall.may config draws boxes (batches_behind c.loop-line.runner.held es) later b d) next
           (c.in-Ok.ensures.ok config draws boxes (i.stays config draws boxes runner) (events_left c.args.settings.now moment c.next_line.new.self)));
       same = c.in-Ok.ensures.cause.same (λ is. cc) ∙ i.same;
       rest = λ is. e.rest (i.ended ∙ is) ∙ i.rest is;
@@ -57,9 +57,9 @@ returns-in-Err-add_line-clause-part g c config draws boxes runner =
     let d = g.O.Sink.taken c.add_line.new.stdout in
     let moment = c.args.moment in
     let next = next_events c.args.settings.now moment c.loop-line.reader c.next_line.new.self (string_bytes c.in-Ok-Some.line) c.as_str.result.now e.lines c.as_str.ensures.value in
-    up_first g.X.Asked.may config draws boxes (batches_of (events_left c.args.settings.now moment c.args.reader.now)) (batches_behind c.loop-line.runner.held (events_left c.args.settings.now moment c.loop-line.reader)) a b d
+    up_first g.X.FilterCall.may config draws boxes (batches_of (events_left c.args.settings.now moment c.args.reader.now)) (batches_behind c.loop-line.runner.held (events_left c.args.settings.now moment c.loop-line.reader)) a b d
     (i.ran config draws boxes runner)
-    (subst (λ es. TookFirst config draws (MayAt g.X.Asked.may boxes) (batches_behind c.loop-line.runner.held es) b d) next
+    (subst (λ es. WrotePrefix config draws (MayAt g.X.FilterCall.may boxes) (batches_behind c.loop-line.runner.held es) b d) next
     (c.in-Err-add_line.ensures.part config draws boxes (i.stays config draws boxes runner) (events_left c.args.settings.now moment c.next_line.new.self)))
 
 pub returns-in-Err-clause-part : goal.returns-in-Err-clause-part
@@ -68,7 +68,7 @@ returns-in-Err-clause-part g c config draws boxes runner =
     let a = g.O.Sink.taken c.args.stdout.now in
     let b = g.O.Sink.taken c.loop-line.stdout in
     let mid = batches_behind c.loop-line.runner.held (events_left c.args.settings.now c.args.moment c.loop-line.reader) in
-    up_first g.X.Asked.may config draws boxes (batches_of (events_left c.args.settings.now c.args.moment c.args.reader.now)) mid a b b (i.ran config draws boxes runner) (none_took config draws (MayAt g.X.Asked.may boxes) mid b)
+    up_first g.X.FilterCall.may config draws boxes (batches_of (events_left c.args.settings.now c.args.moment c.args.reader.now)) mid a b b (i.ran config draws boxes runner) (none_took config draws (MayAt g.X.FilterCall.may boxes) mid b)
 
 pub returns-in-Ok-None-clause-ok : goal.returns-in-Ok-None-clause-ok
 returns-in-Ok-None-clause-ok g c =
@@ -80,8 +80,8 @@ returns-in-Ok-None-clause-ok g c =
     let all = batches_of (events_left c.args.settings.now c.args.moment c.args.reader.now) in
     let held = c.loop-line.runner.held in
     on_ok_as c.finish.result (λ took config draws boxes runner.
-    up_end g.X.Asked.may config draws boxes all (batches_behind held []) a b d
-    (subst (λ es. RanUpTo g.X.Asked.may config draws boxes all (batches_behind held es) a b) (ap (events_at c.args.settings.now c.args.moment) (e.none refl).0) (i.ran config draws boxes runner))
+    up_end g.X.FilterCall.may config draws boxes all (batches_behind held []) a b d
+    (subst (λ es. RanUpTo g.X.FilterCall.may config draws boxes all (batches_behind held es) a b) (ap (events_at c.args.settings.now c.args.moment) (e.none refl).0) (i.ran config draws boxes runner))
     (took config draws boxes (i.stays config draws boxes runner)))
     c.finish.ensures.ok
 
@@ -94,8 +94,8 @@ returns-in-Ok-None-clause-part g c config draws boxes runner =
     let d = g.O.Sink.taken c.finish.new.stdout in
     let all = batches_of (events_left c.args.settings.now c.args.moment c.args.reader.now) in
     let held = c.loop-line.runner.held in
-    up_first g.X.Asked.may config draws boxes all (batches_behind held []) a b d
-    (subst (λ es. RanUpTo g.X.Asked.may config draws boxes all (batches_behind held es) a b) (ap (events_at c.args.settings.now c.args.moment) (e.none refl).0) (i.ran config draws boxes runner))
+    up_first g.X.FilterCall.may config draws boxes all (batches_behind held []) a b d
+    (subst (λ es. RanUpTo g.X.FilterCall.may config draws boxes all (batches_behind held es) a b) (ap (events_at c.args.settings.now c.args.moment) (e.none refl).0) (i.ran config draws boxes runner))
     (c.finish.ensures.part config draws boxes (i.stays config draws boxes runner))
 
 pub returns-in-Err-add_line-clause-stays : goal.returns-in-Err-add_line-clause-stays

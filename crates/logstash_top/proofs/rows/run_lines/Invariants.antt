@@ -9,9 +9,9 @@ use Rattle.logstash_top.proofs.rows.run_lines.Given as goal
 abbrev pub invariant-loop-line : goal.invariant-loop-line
 invariant-loop-line g l = record {
   room : length l.runner.held < batch_limit;
-  stays : (config : Config) (draws : Draws) (boxes : List (Option g.row.X.Denot)) → IsRunnerOf g.X.Asked.may config draws boxes l.fn.runner → IsRunnerOf g.X.Asked.may config draws boxes l.runner;
-  ran : (config : Config) (draws : Draws) (boxes : List (Option g.row.X.Denot)) → IsRunnerOf g.X.Asked.may config draws boxes l.fn.runner
-      → RanUpTo g.X.Asked.may config draws boxes (batches_of (events_left l.fn.settings l.fn.moment l.fn.reader)) (batches_behind l.runner.held (events_left l.fn.settings l.fn.moment l.reader)) (g.O.Sink.taken l.fn.stdout) (g.O.Sink.taken l.stdout);
+  stays : (config : Config) (draws : Draws) (boxes : List (Option g.row.X.Denot)) → IsRunnerOf g.X.FilterCall.may config draws boxes l.fn.runner → IsRunnerOf g.X.FilterCall.may config draws boxes l.runner;
+  ran : (config : Config) (draws : Draws) (boxes : List (Option g.row.X.Denot)) → IsRunnerOf g.X.FilterCall.may config draws boxes l.fn.runner
+      → RanUpTo g.X.FilterCall.may config draws boxes (batches_of (events_left l.fn.settings l.fn.moment l.fn.reader)) (batches_behind l.runner.held (events_left l.fn.settings l.fn.moment l.reader)) (g.O.Sink.taken l.fn.stdout) (g.O.Sink.taken l.stdout);
   same : g.O.Sink.faults l.stdout ≡ g.O.Sink.faults l.fn.stdout;
   rest : l.fn.reader.ended ≡ false → rest_of l.reader ≡ rest_of l.fn.reader;
   ended : l.reader.ended ≡ l.fn.reader.ended;

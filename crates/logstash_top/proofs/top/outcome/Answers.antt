@@ -1,5 +1,5 @@
 use Rattle.std.proofs.Common.{inl, inr, refl, sym, ap, ◌∙◌, subst}
-use Rattle.foreign_parts.specs.declared.boxes.Kind.TheVariants as kind
+use Rattle.foreign_parts.specs.declared.boxes.BoxKind.TheVariants as kind
 use Rattle.graph_checks.specs.Answers.{Refuses}
 use Rattle.graph_checks.specs.Drawings.{AllDrawn}
 use Rattle.graph_checks.specs.Drawns.{boxes_of}
@@ -56,7 +56,7 @@ returns-in-Ok-compile-clause-ran g c =
     let same = same_given g.B.Boxes.stand g.B.Boxes.links c.args.rack.now c.start.new.boxes c.start.ensures.keeps in
     let passes = ap (λ h. checked h job.config) (sym same) ∙ c.in-Ok-compile.ensures.fault in
     let own = subst HaveOwnIds (sym is.config_is) (checked_own _ job.config passes) in
-    let drawn = subst (λ h. AllDrawn (g.B.Stockroom.given c.compile.new.rack) (boxes_of g.B.Stockroom.filter_number (boxes_of_kits plan.kits.items)) (boxes_of g.B.Stockroom.output_number plan.outputs.items)
+    let drawn = subst (λ h. AllDrawn (g.B.BoxPool.given c.compile.new.rack) (boxes_of g.B.BoxPool.filter_number (boxes_of_kits plan.kits.items)) (boxes_of g.B.BoxPool.output_number plan.outputs.items)
     (h.stand kind.Filter).stocks (h.stand kind.Output).stocks (g.B.Boxes.stand c.compile.new.rack kind.Filter).stocks (g.B.Boxes.stand c.compile.new.rack kind.Output).stocks) same c.in-Ok-compile.ensures.drawn in
-    inr (ran_config g.I.Source g.O.Sink g.K.Clock g.F.Asked.may _ g.B.Stockroom.filter_number g.B.Stockroom.output_number _ _ _ _ _ _ _ _ c.run_plan.result job plan c.in-Ok.ensures.starts passes is drawn
-    (c.run_plan.ensures.ran g.B.Stockroom.output_number (of_itself g.B.Stockroom.output_number job.config plan is) own))
+    inr (ran_config g.I.Source g.O.Sink g.K.Clock g.F.FilterCall.may _ g.B.BoxPool.filter_number g.B.BoxPool.output_number _ _ _ _ _ _ _ _ c.run_plan.result job plan c.in-Ok.ensures.starts passes is drawn
+    (c.run_plan.ensures.ran g.B.BoxPool.output_number (of_itself g.B.BoxPool.output_number job.config plan is) own))

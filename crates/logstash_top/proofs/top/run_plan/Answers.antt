@@ -17,8 +17,8 @@ returns-in-Ok-clause-ran g c number is own =
     record {
       boxes = boxes;
       kit = made_of boxes_in plan.kits.items c.in-Some.kit there;
-      ran = ran_as g.I.Source g.O.Sink g.K.Clock (input_of plan.config) plan.config plan.draws (MayAt (λ d. g.F.Asked.may d.plugged) boxes) _ _ _ _ _ _
-          (λ ended. subst IsOk (sym c.in-Ok.is) refl) (λ fails. absurd fails) (subst (λ input. RanTo g.I.Source g.O.Sink g.K.Clock input plan.config plan.draws (MayAt (λ d. g.F.Asked.may d.plugged) boxes) c.args.world.now c.run-ran.new.world c.run-ran.result) c.requires.input (c.run-ran.ensures.ran plan.config plan.draws boxes made));
+      ran = ran_as g.I.Source g.O.Sink g.K.Clock (input_of plan.config) plan.config plan.draws (MayAt (λ d. g.F.FilterCall.may d.plugged) boxes) _ _ _ _ _ _
+          (λ ended. subst IsOk (sym c.in-Ok.is) refl) (λ fails. absurd fails) (subst (λ input. RanTo g.I.Source g.O.Sink g.K.Clock input plan.config plan.draws (MayAt (λ d. g.F.FilterCall.may d.plugged) boxes) c.args.world.now c.run-ran.new.world c.run-ran.result) c.requires.input (c.run-ran.ensures.ran plan.config plan.draws boxes made));
     }
 
 pub returns-in-Ok-clause-input_fault : goal.returns-in-Ok-clause-input_fault
@@ -41,10 +41,10 @@ returns-in-Err-clause-ran g c number is own =
     record {
       boxes = boxes;
       kit = made_of boxes_in plan.kits.items c.in-Some.kit there;
-      ran = ran_as g.I.Source g.O.Sink g.K.Clock (input_of plan.config) plan.config plan.draws (MayAt (λ d. g.F.Asked.may d.plugged) boxes) _ _ _ _ _ _
+      ran = ran_as g.I.Source g.O.Sink g.K.Clock (input_of plan.config) plan.config plan.draws (MayAt (λ d. g.F.FilterCall.may d.plugged) boxes) _ _ _ _ _ _
           (λ ended. absurd (stop_not_done c.args.pipeline plan.config c.in-Err.stop c.stopped.result c.stopped.ensures ended))
           (λ fails. c.in-Err.is ∙ stop_input c.args.pipeline plan.config c.in-Err.stop c.stopped.result c.stopped.ensures fails)
-          (subst (λ input. RanTo g.I.Source g.O.Sink g.K.Clock input plan.config plan.draws (MayAt (λ d. g.F.Asked.may d.plugged) boxes) c.args.world.now c.run-ran.new.world c.run-ran.result) c.requires.input (c.run-ran.ensures.ran plan.config plan.draws boxes made));
+          (subst (λ input. RanTo g.I.Source g.O.Sink g.K.Clock input plan.config plan.draws (MayAt (λ d. g.F.FilterCall.may d.plugged) boxes) c.args.world.now c.run-ran.new.world c.run-ran.result) c.requires.input (c.run-ran.ensures.ran plan.config plan.draws boxes made));
     }
 
 pub returns-in-Err-clause-flushed : goal.returns-in-Err-clause-flushed

@@ -1,11 +1,11 @@
 use Rattle.std.proofs.Common.{◌≡◌, ◌++◌, map, drop}
 use Rattle.queue_laws.specs.Folders.{checkpoint, names_in}
 use Rattle.queue_core.specs.declared.marking.Mark.{Mark}
-use Rattle.queue_core.specs.declared.tails.Tail.{Tail}
+use Rattle.queue_core.specs.declared.sealed_pages.SealedPage.{SealedPage}
 use Rattle.persistent_queue.proofs.opening.tail_marks.Given as goal
 
 abbrev pub invariant-loop-tail : goal.invariant-loop-tail
 invariant-loop-tail l = record {
-  so_far : map (λ (t : Tail). names_in l.folder (checkpoint t.number)) l.tails
-      ≡ map (λ (m : Mark). m.file) l.marks.items ++ map (λ (t : Tail). names_in l.folder (checkpoint t.number)) (drop l.tail-index l.tails);
+  so_far : map (λ (t : SealedPage). names_in l.folder (checkpoint t.number)) l.tails
+      ≡ map (λ (m : Mark). m.file) l.marks.items ++ map (λ (t : SealedPage). names_in l.folder (checkpoint t.number)) (drop l.tail-index l.tails);
 }

@@ -8,7 +8,7 @@ use Rattle.store_disk.proofs.Looking.{nothing_then}
 use Rattle.queue_page.specs.Blocks.{IsPart}
 use Rattle.persistent_queue.specs.Batching.{Finds}
 use Rattle.persistent_queue.specs.Taking.{Stand, stand, page_read, pages_read}
-use Rattle.persistent_queue.specs.Views.{OpenPage}
+use Rattle.persistent_queue.specs.Views.{OpenPageView}
 use Rattle.persistent_queue.proofs.PagesRead.{as_before, from_place, last_read, page_lost, page_then, part_now, there_at, top_there, was_read}
 use Rattle.persistent_queue.proofs.RowReads.{handed_on}
 use Rattle.persistent_queue.proofs.taking.read_all.Goals as goal
@@ -41,7 +41,7 @@ loop-place-preserved g c =
           let part = part_now names old c.args.page.now c.args.block.now o page block it was in
           let read = as_before now old o page block (λ (content : Content). o.page.state.length ≤ file_length (content o.file) → page_read content o s ≡ Ok next) (inv.same.reads told) (c.in_ok-read_one.ensures.rows told) part it.long in
           inv.so_far names told there
-          ∙ ap (λ (l : List OpenPage). pages_read old (l ++ c.args.top.now ∷ []) s) (from_place c.args.tails.now at o less c.index-tails-place.is)
+          ∙ ap (λ (l : List OpenPageView). pages_read old (l ++ c.args.top.now ∷ []) s) (from_place c.args.tails.now at o less c.index-tails-place.is)
           ∙ page_then old o (drop (at + 1) c.args.tails.now ++ c.args.top.now ∷ []) s next read;
     }
 
@@ -63,7 +63,7 @@ returns-in_err-read_one-clause-rows g c = λ names told there.
     let lost = as_before now old o page block (λ (content : Content). o.page.state.length ≤ file_length (content o.file) → Finds view (Err fault) (page_read content o s)) (inv.same.reads told) (c.in_err-read_one.ensures.rows told) part it.long in
     let rest = drop (at + 1) c.args.tails.now ++ c.args.top.now ∷ [] in
     handed_on _ c.from_residual.result fault (pages_read old (c.args.tails.now ++ c.args.top.now ∷ []) (stand c.args.page.now c.args.reading.now)) (pages_read old (o ∷ rest) s) c.from_residual.ensures.1
-    (inv.so_far names told there ∙ ap (λ (l : List OpenPage). pages_read old (l ++ c.args.top.now ∷ []) s) (from_place c.args.tails.now at o less c.index-tails-place.is))
+    (inv.so_far names told there ∙ ap (λ (l : List OpenPageView). pages_read old (l ++ c.args.top.now ∷ []) s) (from_place c.args.tails.now at o less c.index-tails-place.is))
     (λ whole. page_lost old view whole o rest s fault lost)
 
 pub returns-clause-rows : goal.returns-clause-rows
@@ -80,7 +80,7 @@ returns-clause-rows g c = λ names told there.
     let part = part_now names old c.args.page.now c.args.block.now o page block it (inv.part names told there) in
     let view : Unit {0} → Stand = λ x. stand c.read_one-2.new.page c.read_one-2.new.reading in
     let read = as_before now old o page block (λ (content : Content). o.page.state.length ≤ file_length (content o.file) → Finds view c.read_one-2.result (page_read content o s)) (inv.same.reads told) (c.read_one-2.ensures.rows told) part it.long in
-    let whole = inv.so_far names told there ∙ ap (λ (l : List OpenPage). pages_read old (l ++ o ∷ []) s) (drop_all c.loop-place.place c.args.tails.now past) in
+    let whole = inv.so_far names told there ∙ ap (λ (l : List OpenPageView). pages_read old (l ++ o ∷ []) s) (drop_all c.loop-place.place c.args.tails.now past) in
     subst (λ (q : Result Stand Damage). Finds view c.read_one-2.result q) (sym whole) (last_read old view c.read_one-2.result o s read)
 
 pub returns-clause-part : goal.returns-clause-part

@@ -8,5 +8,5 @@ use Rattle.plugin_graph.proofs.graph.run.Goals as goal
 pub returns-clause-passage : goal.returns-clause-passage
 returns-clause-passage g c =
     let kit = c.args.kit.now in
-    run_passed c.of_cells.result (MayAt g.X.Asked.may (boxes_in kit)) makes (table_of (contents_of kit)) (table_of (contents_in c.run.new.kit)) c.in_ok-cells.cells c.args.events (steps_in c.args.graph.now) c.as_slice.result.now
+    run_passed c.of_cells.result (MayAt g.X.FilterCall.may (boxes_in kit)) makes (table_of (contents_of kit)) (table_of (contents_in c.run.new.kit)) c.in_ok-cells.cells c.args.events (steps_in c.args.graph.now) c.as_slice.result.now
     c.as_slice.ensures c.in_ok-cells.ensures.table c.of_cells.ensures c.in_ok-cells.ensures.derived

@@ -18,12 +18,12 @@ pass-passage-requires g c =
 
 pub returns-clause-passage : goal.returns-clause-passage
 returns-clause-passage g c =
-    subst (λ x. IfOk c.pass-passage.result (λ p. (draws : Draws) → IsTableOf makes c.args.config.now draws (table_of (contents_in x)) → IsPassageOf (MayAt g.X.Asked.may (boxes_of x.filters)) makes c.args.config.now draws (c.args.event.now ∷ []) p))
+    subst (λ x. IfOk c.pass-passage.result (λ p. (draws : Draws) → IsTableOf makes c.args.config.now draws (table_of (contents_in x)) → IsPassageOf (MayAt g.X.FilterCall.may (boxes_of x.filters)) makes c.args.config.now draws (c.args.event.now ∷ []) p))
     c.replace-parts.ensures.value c.pass-passage.ensures.passage
 
 pub returns-clause-may : goal.returns-clause-may
 returns-clause-may g c = λ k e v may_be.
-    subst (λ x. MayAt g.X.Asked.may (boxes_of x.filters) k e v) c.replace-parts.ensures.value (c.pass-passage.ensures.may k e v may_be)
+    subst (λ x. MayAt g.X.FilterCall.may (boxes_of x.filters) k e v) c.replace-parts.ensures.value (c.pass-passage.ensures.may k e v may_be)
 
 pub returns-clause-boxes : goal.returns-clause-boxes
 returns-clause-boxes g c = c.pass-passage.ensures.boxes ∙ ap (λ x. boxes_of x.filters) c.replace-parts.ensures.value

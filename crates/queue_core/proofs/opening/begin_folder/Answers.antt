@@ -6,8 +6,8 @@ use Rattle.queue_laws.proofs.ApartNames.{names_apart}
 use Rattle.queue_page.specs.Pages.{IsGrown}
 use Rattle.queue_page.specs.Views.{PageView}
 use Rattle.queue_core.specs.Opening.{AllBounded, held_tail}
-use Rattle.queue_core.specs.declared.tails.Tail.{Tail}
-use Rattle.queue_core.specs.declared.opening.Opened.{Opened}
+use Rattle.queue_core.specs.declared.sealed_pages.SealedPage.{SealedPage}
+use Rattle.queue_core.specs.declared.opening.OpenedQueue.{OpenedQueue}
 use Rattle.queue_core.proofs.Openings.{only_looked, first_made, first_found}
 use Rattle.queue_core.proofs.QueueReady.{ready_first}
 use Rattle.queue_core.proofs.KnownPages.{opens_first}
@@ -34,14 +34,14 @@ returns-clause-found g c begun told =
 
 pub returns-clause-ready : goal.returns-clause-ready
 returns-clause-ready g c begun =
-    let opened : Opened =
+    let opened : OpenedQueue =
     record { turn = 0; state = record { page = 0; first_open = 1; least = 1; count = 0; length = 1 }; pages = record { tails = c.new-tails.result; pages = c.new-pages.result; top = c.start-top.result } } in
     ready_first g.S.Store g.met.S.Store.images_tell (names_in c.args.folder.now) c.as_str.result.now c.args.checkpoint.now opened c.args.store.now c.make_first.new.store (names_apart c.args.folder.now)
     (c.as_str.ensures ∙ c.in_ok-page.ensures) c.requires begun c.in_ok-make_first.ensures.ready c.new-tails.ensures.items refl refl c.start-top.ensures
 
 pub returns-clause-opened : goal.returns-clause-opened
 returns-clause-opened g c begun =
-    let opened : Opened =
+    let opened : OpenedQueue =
     record { turn = 0; state = record { page = 0; first_open = 1; least = 1; count = 0; length = 1 }; pages = record { tails = c.new-tails.result; pages = c.new-pages.result; top = c.start-top.result } } in
     opens_first g.S.Store g.met.S.Store.images_tell (names_in c.args.folder.now) c.as_str.result.now c.args.checkpoint.now opened c.args.store.now c.make_first.new.store (names_apart c.args.folder.now)
     (c.as_str.ensures ∙ c.in_ok-page.ensures) c.requires begun c.in_ok-make_first.ensures.ready
@@ -49,9 +49,9 @@ returns-clause-opened g c begun =
 
 pub returns-clause-stated : goal.returns-clause-stated
 returns-clause-stated g c = record {
-  states = ap (map (λ (t : Tail). t.state)) c.new-tails.ensures.items ∙ sym (ap (map (λ (p : PageView). p.state)) c.new-pages.ensures.items);
+  states = ap (map (λ (t : SealedPage). t.state)) c.new-tails.ensures.items ∙ sym (ap (map (λ (p : PageView). p.state)) c.new-pages.ensures.items);
   bounded = subst AllBounded (sym c.new-tails.ensures.items) tt;
-  rises = subst (λ (tails : List Tail). (folder : Folder) → falling 0 (map (held_tail folder) tails ++ head_held folder (record { page = 0; first_open = 1; least = 1; count = 0; length = 1 }) ∷ []) ≡ None) (sym c.new-tails.ensures.items) (λ folder. refl);
+  rises = subst (λ (tails : List SealedPage). (folder : Folder) → falling 0 (map (held_tail folder) tails ++ head_held folder (record { page = 0; first_open = 1; least = 1; count = 0; length = 1 }) ∷ []) ≡ None) (sym c.new-tails.ensures.items) (λ folder. refl);
   top = subst (λ (p : PageView). IsGrown true (record { page = 0; first_open = 1; least = 1; count = 0; length = 1 }) p.state) (sym c.start-top.ensures) (record { same = refl; numbers = omega arith; exact = λ is. refl });
 }
 

@@ -4,7 +4,7 @@ use Rattle.store_disk.proofs.Looking.{nothing_then}
 use Rattle.queue_page.specs.Answers.{Tells}
 use Rattle.queue_page.specs.Blocks.{AreBytesIn, IsPart, left_of}
 use Rattle.queue_page.specs.Elements.{element_at, next_of}
-use Rattle.queue_page.specs.declared.element.Spot.{Spot}
+use Rattle.queue_page.specs.declared.element.ElementPosition.{ElementPosition}
 use Rattle.queue_page.proofs.ElementReads.{next_row, next_misfit}
 use Rattle.queue_page.proofs.Told.{over}
 use Rattle.queue_page.proofs.FileBytes.{and_behind}
@@ -36,24 +36,24 @@ loop-count-preserved g c =
           (λ file. now.end ≤ length file → next_of (element_at now.version now.number now.place (left_of file now.place now.end)) ≡ Ok c.in-Ok.next) (inv.same.reads told) (c.in-Ok.ensures.next told) (inv.part told part) (omega (arith, inv.end, within)) in
           let file = bytes_of (g.S.Store.seen c.args.store.now name) in
           let took = next_row (element_at now.version now.number now.place (left_of file now.place now.end)) c.in-Ok.next read in
-          let next : Spot = record { version = now.version; number = now.number + 1; place = c.in-Ok.next; end = now.end } in
+          let next : ElementPosition = record { version = now.version; number = now.number + 1; place = c.in-Ok.next; end = now.end } in
           turn c.args.limit c.args.first c.loop-count.count now file took.0 next (inv.so_far told part within) c.loop-count-test.true (omega (arith, inv.end, c.if-spot.true)) within
           (read_at c.args.first now c.loop-count.count file (Ok took.0) inv.version inv.number inv.end took.1) took.2;
     }
 
-pub returns-in-Err-Misfit-clause-run : goal.returns-in-Err-Misfit-clause-run
-returns-in-Err-Misfit-clause-run g c = λ told part within.
+pub returns-in-Err-Mismatch-clause-run : goal.returns-in-Err-Mismatch-clause-run
+returns-in-Err-Mismatch-clause-run g c = λ told part within.
     let inv = c.loop-count.invariant in
     let now = c.loop-count.spot in
     let name = c.args.name.now in
     let file = bytes_of (g.S.Store.seen c.args.store.now name) in
     let h = over (g.S.Store.seen c.loop-count.store) (g.S.Store.seen c.args.store.now) name c.loop-count.block
-    (λ f. now.end ≤ length f → Tells (λ next. next) (Err c.in-Err-Misfit.field-0) (next_of (element_at now.version now.number now.place (left_of f now.place now.end)))) (inv.same.reads told)
-    (c.in-Err-Misfit.ensures.next told) (inv.part told part) (omega (arith, inv.end, within)) in
-    let read = next_misfit (element_at now.version now.number now.place (left_of file now.place now.end)) c.in-Err-Misfit.misfit (rw c.in-Err-Misfit.field-0-is at h) in
-    ended_at_fault c.args.limit c.args.first c.loop-count.count now file c.in-Err-Misfit.misfit (inv.so_far told part within) c.loop-count-test.true (omega (arith, inv.end, c.if-spot.true)) within
-    (read_at c.args.first now c.loop-count.count file (Err c.in-Err-Misfit.misfit) inv.version inv.number inv.end read)
-    ∙ ap (λ m. ran (record { count = c.loop-count.count; end = now.place; stop = Some m })) (sym c.in-Err-Misfit.misfit-is)
+    (λ f. now.end ≤ length f → Tells (λ next. next) (Err c.in-Err-Mismatch.field-0) (next_of (element_at now.version now.number now.place (left_of f now.place now.end)))) (inv.same.reads told)
+    (c.in-Err-Mismatch.ensures.next told) (inv.part told part) (omega (arith, inv.end, within)) in
+    let read = next_misfit (element_at now.version now.number now.place (left_of file now.place now.end)) c.in-Err-Mismatch.misfit (rw c.in-Err-Mismatch.field-0-is at h) in
+    ended_at_fault c.args.limit c.args.first c.loop-count.count now file c.in-Err-Mismatch.misfit (inv.so_far told part within) c.loop-count-test.true (omega (arith, inv.end, c.if-spot.true)) within
+    (read_at c.args.first now c.loop-count.count file (Err c.in-Err-Mismatch.misfit) inv.version inv.number inv.end read)
+    ∙ ap (λ m. ran (record { count = c.loop-count.count; end = now.place; stop = Some m })) (sym c.in-Err-Mismatch.misfit-is)
 
 pub returns-else-spot-clause-run : goal.returns-else-spot-clause-run
 returns-else-spot-clause-run g c = λ told part within.

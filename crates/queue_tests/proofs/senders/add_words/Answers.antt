@@ -5,11 +5,11 @@ use Rattle.std.specs.Prelude.{Result}
 use Rattle.pipeline_bus.specs.Ends.{taking}
 use Rattle.dead_sender.specs.Ready.{IsReady}
 use Rattle.dead_sender.specs.Work.{work}
-use Rattle.dead_sender.specs.declared.sender.Sent.{Sent}
+use Rattle.dead_sender.specs.declared.sender.SendOutcome.{SendOutcome}
 use Rattle.queue_tests.proofs.senders.add_words.Goals as goal
 use Rattle.queue_tests.proofs.senders.add_words.Goals.{then-eq+in-Ok+in_ok-push_str-in-Ok, else-eq+in_ok-given}
 
-no_fault : (sent : Sent) (r : Result Sent QueueFault) → r ≡ Ok sent → r ≡ Err f.Fault → ⊥
+no_fault : (sent : SendOutcome) (r : Result SendOutcome QueueFault) → r ≡ Ok sent → r ≡ Err f.Fault → ⊥
 no_fault sent r is other = let e : Ok sent ≡ Err f.Fault = sym is ∙ other in cc
 
 pub loop-word-preserved : goal.loop-word-preserved

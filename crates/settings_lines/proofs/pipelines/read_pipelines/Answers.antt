@@ -5,7 +5,7 @@ use Rattle.std.specs.Prelude.{nat_lt}
 use Rattle.settings_lines.specs.Answers.{Refuses, Gives}
 use Rattle.settings_lines.specs.Pipelines.{Answer, pipelines_of, max_text}
 use Rattle.settings_lines.specs.Reading.{reading_view}
-use Rattle.settings_lines.specs.declared.fault.LineFault.TheVariants as line
+use Rattle.settings_lines.specs.declared.fault.SettingsLineFault.TheVariants as line
 use Rattle.settings_lines.specs.declared.fault.SettingsFault.TheVariants as fault
 use Rattle.settings_lines.specs.declared.orders.Orders.{Orders}
 use Rattle.settings_lines.proofs.Stepping.{says, refused, not_closed, whole_text}
@@ -36,4 +36,4 @@ pub returns : goal.returns
 returns c =
     let text = c.args.text.now in
     let said = whole_text c.args.orders.now text (reading_view c.in_ok-reading.reading) c.in_ok-pipelines.pipelines c.in_ok-reading.ensures c.in_ok-pipelines.ensures in
-    subst (λ (answer : Answer). Gives c.unless_twice.result answer) (said ∙ short c.args.orders.now text c.if-text-gt-MAX_TEXT.false) c.unless_twice.ensures
+    subst (λ (answer : Answer). Gives c.check_unique_ids.result answer) (said ∙ short c.args.orders.now text c.if-text-gt-MAX_TEXT.false) c.check_unique_ids.ensures

@@ -9,7 +9,7 @@ returns-clause-ok g c =
     let long : batch_limit ≤ length after = omega (arith, c.len.ensures, c.if-len-lt-BATCH_LIMIT.false) in
     let full = is_full c.args.self.now.held after c.args.event c.in_ok-push.ensures.ok c.requires long in
     on_ok_as c.run_held.result (λ took config draws boxes runner es.
-    full_ran g.X.Asked.may config draws boxes c.args.self.now.held after es c.args.event (g.O.Sink.taken c.args.stdout.now) (g.O.Sink.taken c.run_held.new.stdout)
+    full_ran g.X.FilterCall.may config draws boxes c.args.self.now.held after es c.args.event (g.O.Sink.taken c.args.stdout.now) (g.O.Sink.taken c.run_held.new.stdout)
     c.in_ok-push.ensures.ok full c.run_held.new.self.held c.run_held.ensures.none
     (took config draws boxes (record { made = runner.made; answers = runner.answers })))
     c.run_held.ensures.ok
@@ -19,7 +19,7 @@ returns-clause-part g c config draws boxes runner es =
     let after = c.push.new.self in
     let long : batch_limit ≤ length after = omega (arith, c.len.ensures, c.if-len-lt-BATCH_LIMIT.false) in
     let full = is_full c.args.self.now.held after c.args.event c.in_ok-push.ensures.ok c.requires long in
-    full_part g.X.Asked.may config draws boxes c.args.self.now.held after es c.args.event (g.O.Sink.taken c.args.stdout.now) (g.O.Sink.taken c.run_held.new.stdout)
+    full_part g.X.FilterCall.may config draws boxes c.args.self.now.held after es c.args.event (g.O.Sink.taken c.args.stdout.now) (g.O.Sink.taken c.run_held.new.stdout)
     c.in_ok-push.ensures.ok full
     (c.run_held.ensures.part config draws boxes (record { made = runner.made; answers = runner.answers }) (batches_behind [] es))
 

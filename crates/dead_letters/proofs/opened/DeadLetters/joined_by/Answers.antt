@@ -7,7 +7,7 @@ use Rattle.dead_letters.specs.Shedding.{shed}
 use Rattle.dead_letters.specs.Appends.{kept_from, size_of}
 use Rattle.dead_letters.specs.Plans.{IsJoining}
 use Rattle.dead_letters.specs.Views.{DeadQueue, joining}
-use Rattle.dead_letters.specs.declared.planning.Joining.{Joining}
+use Rattle.dead_letters.specs.declared.append_plan.Joining.{Joining}
 use Rattle.dead_letters.specs.declared.shedding.Shedding.{Shedding}
 use Rattle.dead_letters.proofs.Joining.{bytes_summed}
 use Rattle.dead_letters.proofs.opened.DeadLetters.joined_by.Goals as goal

@@ -4,7 +4,7 @@ use Rattle.crc_frame.specs.Slots.{next_turn}
 use Rattle.dead_letters.specs.Segments.{segments}
 use Rattle.dead_letters.specs.Plans.{IsJoining, IsPlan}
 use Rattle.dead_letters.specs.Views.{DeadQueue, names_from, held_last, sizes_with}
-use Rattle.dead_letters.specs.declared.planning.Plan.{Plan}
+use Rattle.dead_letters.specs.declared.append_plan.AppendPlan.{AppendPlan}
 use Rattle.dead_letters.specs.declared.shedding.Shedding.{Shedding}
 use Rattle.dead_letters.proofs.Joining.{stays, pieces_fit, pieces_are, new_numbers, new_some, last_room}
 use Rattle.dead_letters.proofs.opened.DeadLetters.planned.Goals as goal
@@ -133,7 +133,7 @@ returns c =
     let older_is = ap (λ (s : Shedding). s.older) joins.shedding in
     let taken_is = c.as_slice-taken.ensures ∙ joins.pieces in
     let grown_is = c.in_ok-sizes.ensures ∙ ap₂ sizes_with (ap₂ drop older_is held) taken_is in
-    let plan : Plan = record {
+    let plan : AppendPlan = record {
       joining = c.in_ok-joining.joining;
       names = c.in_ok-names.names;
       gone = c.in_ok-gone.gone;

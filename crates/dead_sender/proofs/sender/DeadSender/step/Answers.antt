@@ -2,7 +2,7 @@ use Rattle.std.proofs.Common.{◌≡◌, inl, inr, Ok, Err, refl, sym, subst, ar
 use Rattle.store_disk.specs.declared.faults.QueueFault.TheVariants as f
 use Rattle.dead_sender.specs.Steps as step
 use Rattle.dead_sender.specs.Steps.{HearsBy, Steps}
-use Rattle.dead_sender.specs.declared.sender.Sent.TheVariants as s
+use Rattle.dead_sender.specs.declared.sender.SendOutcome.TheVariants as s
 use Rattle.dead_sender.specs.Work.{work}
 use Rattle.dead_sender.proofs.Working.{ended_only, heard_on, in_order, steps_ended, steps_parcel, steps_sending}
 use Rattle.dead_sender.proofs.Leaving.{ready_leaves}

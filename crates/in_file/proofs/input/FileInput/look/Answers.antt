@@ -12,6 +12,6 @@ returns-clause-polled g c =
     let holds : Holds w.unread c.fill.new.self r.bytes = (c.fill.ensures.rest, r.whole) in
     let found = found_so g.F.Files c.args.moment w c.args.files.now c.fill.new.files _ _ _ _ _ r c.as_str.ensures (ap (λ n. c.self.inside.behind + n) c.len.ensures)
     (c.min-room.ensures ∙ ap (λ n. min (18446744073709551615 - (c.self.inside.behind + n)) read_limit) c.len.ensures) in
-    let took = c.take_in.ensures ∙ ap (λ n. taken_in n c.args.moment (record w { unread = c.fill.new.self })) (sym r.counted) ∙ took_in w c.fill.new.self r.bytes c.args.moment holds in
-    subst (λ v. WasPolled g.F.Files c.args.moment c.args.files.now c.fill.new.files v c.take_in.new.self) c.self.view_is
-    (looked_so g.F.Files c.args.moment c.args.files.now c.fill.new.files w c.take_in.new.self r.bytes (omega (arith, c.self.invariant.1)) (subst (λ v. looks v ≡ true) (sym c.self.view_is) c.requires) found took)
+    let took = c.append_read.ensures ∙ ap (λ n. taken_in n c.args.moment (record w { unread = c.fill.new.self })) (sym r.counted) ∙ took_in w c.fill.new.self r.bytes c.args.moment holds in
+    subst (λ v. WasPolled g.F.Files c.args.moment c.args.files.now c.fill.new.files v c.append_read.new.self) c.self.view_is
+    (looked_so g.F.Files c.args.moment c.args.files.now c.fill.new.files w c.append_read.new.self r.bytes (omega (arith, c.self.invariant.1)) (subst (λ v. looks v ≡ true) (sym c.self.view_is) c.requires) found took)

@@ -6,7 +6,7 @@ use Rattle.queue_core.proofs.OtherFiles.{files_are_own, others_stay}
 use Rattle.queue_core.specs.declared.marking.Mark.{Mark}
 use Rattle.persistent_queue.specs.Calls.{IsHeldQueue, behind_purge, first_spent, spent_from}
 use Rattle.persistent_queue.specs.Opens.{Becomes, IsReady, KeepsQueue, purged}
-use Rattle.persistent_queue.specs.Views.{OpenPage, QueueView}
+use Rattle.persistent_queue.specs.Views.{OpenPageView, QueueView}
 use Rattle.persistent_queue.proofs.HeldQueues.{long_named, purged_held}
 use Rattle.persistent_queue.proofs.PurgeRuns.{file_at, goes_at, keeps_open, none_goes, opens_left, ready_left, slots_at, stays_open, untouched}
 use Rattle.persistent_queue.proofs.queue.Queue.purge.Goals as goal
@@ -38,7 +38,7 @@ returns-in_default-clause-removes g c =
     let v : QueueView = record { folder = q.folder; limits = q.limits; tails = q.tails.items; top = q.top; unread = q.unread; cursor = q.cursor } in
     let none = none_goes 0 q.tails.items (sym (ap (spent_from 0) c.as_slice.ensures.value) ∙ sym c.first_spent.ensures ∙ c.in_default.is) in
     subst (λ (x : QueueView). Becomes g.S.Store purged x x c.args.store.now c.args.store.now) c.self.view_is
-    (subst (λ (l : List OpenPage). Becomes g.S.Store purged v (record v { tails = l }) c.args.store.now c.args.store.now) none.1 (stays_open g.S.Store v c.args.store.now none.0 none.1))
+    (subst (λ (l : List OpenPageView). Becomes g.S.Store purged v (record v { tails = l }) c.args.store.now c.args.store.now) none.1 (stays_open g.S.Store v c.args.store.now none.0 none.1))
 
 -- where one goes
 pub index-requires : goal.index-requires
@@ -72,9 +72,9 @@ returns-in_err-remove_page-clause-keeps g c =
     let some = sym (ap (spent_from 0) c.as_slice.ensures.value) ∙ sym c.first_spent.ensures ∙ c.in-Some.is in
     let goes = goes_at q.tails.items c.in-Some.place some in
     let there = goes.1.there c.index.result.now c.index.ensures in
-    let file = c.as_str-page.ensures ∙ ap (λ (x : OpenPage). x.file) c.behind-self.view_is ∙ file_at q.folder q.tails.items c.in-Some.place c.index.result.now goes.1.within c.index.ensures c.self.invariant.tails ∙ ap (λ (x : OpenPage). names_in q.folder (page x.number)) there in
+    let file = c.as_str-page.ensures ∙ ap (λ (x : OpenPageView). x.file) c.behind-self.view_is ∙ file_at q.folder q.tails.items c.in-Some.place c.index.result.now goes.1.within c.index.ensures c.self.invariant.tails ∙ ap (λ (x : OpenPageView). names_in q.folder (page x.number)) there in
     let slots = c.as_str.ensures ∙ slots_at q.folder q.tails.items q.marks.items c.in-Some.place c.index.result.now c.index-2.result.now goes.1.within c.index.ensures c.index-2.ensures c.self.invariant.marks_are
-    ∙ ap (λ (x : OpenPage). names_in q.folder (checkpoint x.number)) there in
+    ∙ ap (λ (x : OpenPageView). names_in q.folder (checkpoint x.number)) there in
     subst (λ (x : QueueView). KeepsQueue g.S.Store x c.args.store.now c.remove_page.new.store) c.self.view_is (keeps_open g.S.Store v c.args.store.now c.remove_page.new.store c.as_str-page.result.now c.as_str.result.now goes.0.number goes.1.number file slots c.remove_page.ensures.keeps)
 
 pub returns-clause-keeps : goal.returns-clause-keeps
@@ -84,9 +84,9 @@ returns-clause-keeps g c =
     let some = sym (ap (spent_from 0) c.as_slice.ensures.value) ∙ sym c.first_spent.ensures ∙ c.in-Some.is in
     let goes = goes_at q.tails.items c.in-Some.place some in
     let there = goes.1.there c.index.result.now c.index.ensures in
-    let file = c.as_str-page.ensures ∙ ap (λ (x : OpenPage). x.file) c.behind-self.view_is ∙ file_at q.folder q.tails.items c.in-Some.place c.index.result.now goes.1.within c.index.ensures c.self.invariant.tails ∙ ap (λ (x : OpenPage). names_in q.folder (page x.number)) there in
+    let file = c.as_str-page.ensures ∙ ap (λ (x : OpenPageView). x.file) c.behind-self.view_is ∙ file_at q.folder q.tails.items c.in-Some.place c.index.result.now goes.1.within c.index.ensures c.self.invariant.tails ∙ ap (λ (x : OpenPageView). names_in q.folder (page x.number)) there in
     let slots = c.as_str.ensures ∙ slots_at q.folder q.tails.items q.marks.items c.in-Some.place c.index.result.now c.index-2.result.now goes.1.within c.index.ensures c.index-2.ensures c.self.invariant.marks_are
-    ∙ ap (λ (x : OpenPage). names_in q.folder (checkpoint x.number)) there in
+    ∙ ap (λ (x : OpenPageView). names_in q.folder (checkpoint x.number)) there in
     subst (λ (x : QueueView). KeepsQueue g.S.Store x c.args.store.now c.remove_page.new.store) c.self.view_is (keeps_open g.S.Store v c.args.store.now c.remove_page.new.store c.as_str-page.result.now c.as_str.result.now goes.0.number goes.1.number file slots c.remove_page.ensures.keeps)
 
 pub overflow_sub-self : goal.overflow_sub-self
@@ -96,7 +96,7 @@ overflow_sub-self g c =
     let some = sym (ap (spent_from 0) c.as_slice.ensures.value) ∙ sym c.first_spent.ensures ∙ c.in-Some.is in
     let goes = goes_at q.tails.items c.in-Some.place some in
     let gone = goes.1.there c.remove-page.result c.remove-page.ensures.value in
-    omega (arith, c.self.invariant.bytes_are, goes.1.bytes, ap (λ (x : OpenPage). x.page.state.length) gone, ap (λ (x : PageState). x.length) c.state.ensures, c.from.ensures)
+    omega (arith, c.self.invariant.bytes_are, goes.1.bytes, ap (λ (x : OpenPageView). x.page.state.length) gone, ap (λ (x : PageState). x.length) c.state.ensures, c.from.ensures)
 
 pub invariant_of-self : goal.invariant_of-self
 invariant_of-self g c =
@@ -107,8 +107,8 @@ invariant_of-self g c =
     let left = c.remove-page.ensures.items ∙ goes.1.left in
     let gone = goes.1.there c.remove-page.result c.remove-page.ensures.value in
     let held = purged_held v q.marks.items q.bytes c.in-Some.place goes.0 goes.1 c.self.invariant in
-    let bytes : q.bytes - goes.0.page.state.length ≡ q.bytes - c.from.result = omega (arith, ap (λ (x : OpenPage). x.page.state.length) gone, ap (λ (x : PageState). x.length) c.state.ensures, c.from.ensures) in
-    subst (λ (l : List OpenPage). IsHeldQueue (record v { tails = l }) c.remove.new.self.items (q.bytes - c.from.result)) (sym left)
+    let bytes : q.bytes - goes.0.page.state.length ≡ q.bytes - c.from.result = omega (arith, ap (λ (x : OpenPageView). x.page.state.length) gone, ap (λ (x : PageState). x.length) c.state.ensures, c.from.ensures) in
+    subst (λ (l : List OpenPageView). IsHeldQueue (record v { tails = l }) c.remove.new.self.items (q.bytes - c.from.result)) (sym left)
     (subst (λ (ms : List Mark). IsHeldQueue (behind_purge v) ms (q.bytes - c.from.result)) (sym c.remove.ensures.items) (subst (IsHeldQueue (behind_purge v) (remove q.marks.items c.in-Some.place)) bytes held))
 
 pub returns-clause-number : goal.returns-clause-number
@@ -118,7 +118,7 @@ returns-clause-number g c =
     let some = sym (ap (spent_from 0) c.as_slice.ensures.value) ∙ sym c.first_spent.ensures ∙ c.in-Some.is in
     let goes = goes_at q.tails.items c.in-Some.place some in
     let gone = goes.1.there c.remove-page.result c.remove-page.ensures.value in
-    ap (λ (x : OpenPage). Some x.number) c.page.view_is ∙ ap (λ (x : OpenPage). Some x.number) gone ∙ sym goes.1.number ∙ ap (λ (x : QueueView). first_spent x.tails) c.self.view_is
+    ap (λ (x : OpenPageView). Some x.number) c.page.view_is ∙ ap (λ (x : OpenPageView). Some x.number) gone ∙ sym goes.1.number ∙ ap (λ (x : QueueView). first_spent x.tails) c.self.view_is
 
 pub returns-clause-purged : goal.returns-clause-purged
 returns-clause-purged g c =
@@ -136,11 +136,11 @@ returns-clause-ready g c =
     let some = sym (ap (spent_from 0) c.as_slice.ensures.value) ∙ sym c.first_spent.ensures ∙ c.in-Some.is in
     let goes = goes_at q.tails.items c.in-Some.place some in
     let there = goes.1.there c.index.result.now c.index.ensures in
-    let file = c.as_str-page.ensures ∙ ap (λ (x : OpenPage). x.file) c.behind-self.view_is ∙ file_at q.folder q.tails.items c.in-Some.place c.index.result.now goes.1.within c.index.ensures c.self.invariant.tails ∙ ap (λ (x : OpenPage). names_in q.folder (page x.number)) there in
+    let file = c.as_str-page.ensures ∙ ap (λ (x : OpenPageView). x.file) c.behind-self.view_is ∙ file_at q.folder q.tails.items c.in-Some.place c.index.result.now goes.1.within c.index.ensures c.self.invariant.tails ∙ ap (λ (x : OpenPageView). names_in q.folder (page x.number)) there in
     let slots = c.as_str.ensures ∙ slots_at q.folder q.tails.items q.marks.items c.in-Some.place c.index.result.now c.index-2.result.now goes.1.within c.index.ensures c.index-2.ensures c.self.invariant.marks_are
-    ∙ ap (λ (x : OpenPage). names_in q.folder (checkpoint x.number)) there in
+    ∙ ap (λ (x : OpenPageView). names_in q.folder (checkpoint x.number)) there in
     let left = c.remove-page.ensures.items ∙ goes.1.left in
-    subst (λ (l : List OpenPage). IsReady g.S.Store (record v { tails = l }) c.remove_page.new.store) (sym left)
+    subst (λ (l : List OpenPageView). IsReady g.S.Store (record v { tails = l }) c.remove_page.new.store) (sym left)
     (ready_left g.S.Store v c.args.store.now c.remove_page.new.store c.as_str-page.result.now c.as_str.result.now goes.0.number goes.1.number file slots c.remove_page.ensures.beside.reads (subst (λ (x : QueueView). IsReady g.S.Store x c.args.store.now) (sym c.self.view_is) c.requires))
 
 pub returns-clause-removes : goal.returns-clause-removes
@@ -150,12 +150,12 @@ returns-clause-removes g c =
     let some = sym (ap (spent_from 0) c.as_slice.ensures.value) ∙ sym c.first_spent.ensures ∙ c.in-Some.is in
     let goes = goes_at q.tails.items c.in-Some.place some in
     let there = goes.1.there c.index.result.now c.index.ensures in
-    let file = c.as_str-page.ensures ∙ ap (λ (x : OpenPage). x.file) c.behind-self.view_is ∙ file_at q.folder q.tails.items c.in-Some.place c.index.result.now goes.1.within c.index.ensures c.self.invariant.tails ∙ ap (λ (x : OpenPage). names_in q.folder (page x.number)) there in
+    let file = c.as_str-page.ensures ∙ ap (λ (x : OpenPageView). x.file) c.behind-self.view_is ∙ file_at q.folder q.tails.items c.in-Some.place c.index.result.now goes.1.within c.index.ensures c.self.invariant.tails ∙ ap (λ (x : OpenPageView). names_in q.folder (page x.number)) there in
     let slots = c.as_str.ensures ∙ slots_at q.folder q.tails.items q.marks.items c.in-Some.place c.index.result.now c.index-2.result.now goes.1.within c.index.ensures c.index-2.ensures c.self.invariant.marks_are
-    ∙ ap (λ (x : OpenPage). names_in q.folder (checkpoint x.number)) there in
+    ∙ ap (λ (x : OpenPageView). names_in q.folder (checkpoint x.number)) there in
     let left = c.remove-page.ensures.items ∙ goes.1.left in
     subst (λ (x : QueueView). Becomes g.S.Store purged x (record v { tails = c.remove-page.new.self.items }) c.args.store.now c.remove_page.new.store) c.self.view_is
-    (subst (λ (l : List OpenPage). Becomes g.S.Store purged v (record v { tails = l }) c.args.store.now c.remove_page.new.store) (sym left)
+    (subst (λ (l : List OpenPageView). Becomes g.S.Store purged v (record v { tails = l }) c.args.store.now c.remove_page.new.store) (sym left)
     (opens_left g.S.Store v c.args.store.now c.remove_page.new.store c.as_str-page.result.now c.as_str.result.now goes.0.number goes.1.number file slots c.remove_page.ensures.beside.reads (subst (λ (x : QueueView). IsReady g.S.Store x c.args.store.now) (sym c.self.view_is) c.requires) c.in_ok-remove_page.ensures.ready))
 
 pub returns-in_default-clause-beside : goal.returns-in_default-clause-beside
@@ -171,9 +171,9 @@ returns-in_err-remove_page-clause-beside g c =
     let some = sym (ap (spent_from 0) c.as_slice.ensures.value) ∙ sym c.first_spent.ensures ∙ c.in-Some.is in
     let goes = goes_at q.tails.items c.in-Some.place some in
     let there = goes.1.there c.index.result.now c.index.ensures in
-    let file = c.as_str-page.ensures ∙ ap (λ (x : OpenPage). x.file) c.behind-self.view_is ∙ file_at q.folder q.tails.items c.in-Some.place c.index.result.now goes.1.within c.index.ensures c.self.invariant.tails ∙ ap (λ (x : OpenPage). names_in q.folder (page x.number)) there in
+    let file = c.as_str-page.ensures ∙ ap (λ (x : OpenPageView). x.file) c.behind-self.view_is ∙ file_at q.folder q.tails.items c.in-Some.place c.index.result.now goes.1.within c.index.ensures c.self.invariant.tails ∙ ap (λ (x : OpenPageView). names_in q.folder (page x.number)) there in
     let slots = c.as_str.ensures ∙ slots_at q.folder q.tails.items q.marks.items c.in-Some.place c.index.result.now c.index-2.result.now goes.1.within c.index.ensures c.index-2.ensures c.self.invariant.marks_are
-    ∙ ap (λ (x : OpenPage). names_in q.folder (checkpoint x.number)) there in
+    ∙ ap (λ (x : OpenPageView). names_in q.folder (checkpoint x.number)) there in
     (subst (λ (x : QueueView). KeepsOthers g.S.Store (IsOwn (names_in x.folder)) c.args.store.now c.remove_page.new.store) c.self.view_is
     (files_are_own g.S.Store g.met.S.Store.images_tell q.folder (page goes.0.number) (checkpoint goes.0.number) c.as_str-page.result.now c.as_str.result.now c.args.store.now c.remove_page.new.store file slots c.remove_page.ensures.beside)).reads
 
@@ -184,9 +184,9 @@ returns-in_err-remove_page-clause-beside_moments g c =
     let some = sym (ap (spent_from 0) c.as_slice.ensures.value) ∙ sym c.first_spent.ensures ∙ c.in-Some.is in
     let goes = goes_at q.tails.items c.in-Some.place some in
     let there = goes.1.there c.index.result.now c.index.ensures in
-    let file = c.as_str-page.ensures ∙ ap (λ (x : OpenPage). x.file) c.behind-self.view_is ∙ file_at q.folder q.tails.items c.in-Some.place c.index.result.now goes.1.within c.index.ensures c.self.invariant.tails ∙ ap (λ (x : OpenPage). names_in q.folder (page x.number)) there in
+    let file = c.as_str-page.ensures ∙ ap (λ (x : OpenPageView). x.file) c.behind-self.view_is ∙ file_at q.folder q.tails.items c.in-Some.place c.index.result.now goes.1.within c.index.ensures c.self.invariant.tails ∙ ap (λ (x : OpenPageView). names_in q.folder (page x.number)) there in
     let slots = c.as_str.ensures ∙ slots_at q.folder q.tails.items q.marks.items c.in-Some.place c.index.result.now c.index-2.result.now goes.1.within c.index.ensures c.index-2.ensures c.self.invariant.marks_are
-    ∙ ap (λ (x : OpenPage). names_in q.folder (checkpoint x.number)) there in
+    ∙ ap (λ (x : OpenPageView). names_in q.folder (checkpoint x.number)) there in
     (subst (λ (x : QueueView). KeepsOthers g.S.Store (IsOwn (names_in x.folder)) c.args.store.now c.remove_page.new.store) c.self.view_is
     (files_are_own g.S.Store g.met.S.Store.images_tell q.folder (page goes.0.number) (checkpoint goes.0.number) c.as_str-page.result.now c.as_str.result.now c.args.store.now c.remove_page.new.store file slots c.remove_page.ensures.beside)).moments
 
@@ -197,9 +197,9 @@ returns-clause-beside g c =
     let some = sym (ap (spent_from 0) c.as_slice.ensures.value) ∙ sym c.first_spent.ensures ∙ c.in-Some.is in
     let goes = goes_at q.tails.items c.in-Some.place some in
     let there = goes.1.there c.index.result.now c.index.ensures in
-    let file = c.as_str-page.ensures ∙ ap (λ (x : OpenPage). x.file) c.behind-self.view_is ∙ file_at q.folder q.tails.items c.in-Some.place c.index.result.now goes.1.within c.index.ensures c.self.invariant.tails ∙ ap (λ (x : OpenPage). names_in q.folder (page x.number)) there in
+    let file = c.as_str-page.ensures ∙ ap (λ (x : OpenPageView). x.file) c.behind-self.view_is ∙ file_at q.folder q.tails.items c.in-Some.place c.index.result.now goes.1.within c.index.ensures c.self.invariant.tails ∙ ap (λ (x : OpenPageView). names_in q.folder (page x.number)) there in
     let slots = c.as_str.ensures ∙ slots_at q.folder q.tails.items q.marks.items c.in-Some.place c.index.result.now c.index-2.result.now goes.1.within c.index.ensures c.index-2.ensures c.self.invariant.marks_are
-    ∙ ap (λ (x : OpenPage). names_in q.folder (checkpoint x.number)) there in
+    ∙ ap (λ (x : OpenPageView). names_in q.folder (checkpoint x.number)) there in
     (subst (λ (x : QueueView). KeepsOthers g.S.Store (IsOwn (names_in x.folder)) c.args.store.now c.remove_page.new.store) c.self.view_is
     (files_are_own g.S.Store g.met.S.Store.images_tell q.folder (page goes.0.number) (checkpoint goes.0.number) c.as_str-page.result.now c.as_str.result.now c.args.store.now c.remove_page.new.store file slots c.remove_page.ensures.beside)).reads
 
@@ -210,8 +210,8 @@ returns-clause-beside_moments g c =
     let some = sym (ap (spent_from 0) c.as_slice.ensures.value) ∙ sym c.first_spent.ensures ∙ c.in-Some.is in
     let goes = goes_at q.tails.items c.in-Some.place some in
     let there = goes.1.there c.index.result.now c.index.ensures in
-    let file = c.as_str-page.ensures ∙ ap (λ (x : OpenPage). x.file) c.behind-self.view_is ∙ file_at q.folder q.tails.items c.in-Some.place c.index.result.now goes.1.within c.index.ensures c.self.invariant.tails ∙ ap (λ (x : OpenPage). names_in q.folder (page x.number)) there in
+    let file = c.as_str-page.ensures ∙ ap (λ (x : OpenPageView). x.file) c.behind-self.view_is ∙ file_at q.folder q.tails.items c.in-Some.place c.index.result.now goes.1.within c.index.ensures c.self.invariant.tails ∙ ap (λ (x : OpenPageView). names_in q.folder (page x.number)) there in
     let slots = c.as_str.ensures ∙ slots_at q.folder q.tails.items q.marks.items c.in-Some.place c.index.result.now c.index-2.result.now goes.1.within c.index.ensures c.index-2.ensures c.self.invariant.marks_are
-    ∙ ap (λ (x : OpenPage). names_in q.folder (checkpoint x.number)) there in
+    ∙ ap (λ (x : OpenPageView). names_in q.folder (checkpoint x.number)) there in
     (subst (λ (x : QueueView). KeepsOthers g.S.Store (IsOwn (names_in x.folder)) c.args.store.now c.remove_page.new.store) c.self.view_is
     (files_are_own g.S.Store g.met.S.Store.images_tell q.folder (page goes.0.number) (checkpoint goes.0.number) c.as_str-page.result.now c.as_str.result.now c.args.store.now c.remove_page.new.store file slots c.remove_page.ensures.beside)).moments

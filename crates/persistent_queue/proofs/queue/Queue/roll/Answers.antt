@@ -8,7 +8,7 @@ use Rattle.queue_core.specs.declared.marking.Mark.{Mark}
 use Rattle.queue_core.specs.declared.rolling.NextPage.{NextPage}
 use Rattle.persistent_queue.specs.Calls.{behind_mark, bytes_in, checkpoints, end_of, marks_of, with_marked, with_recorded, IsHeldQueue}
 use Rattle.persistent_queue.specs.Opens.{IsReady}
-use Rattle.persistent_queue.specs.Views.{OpenPage, QueueView}
+use Rattle.persistent_queue.specs.Views.{OpenPageView, QueueView}
 use Rattle.persistent_queue.specs.Writing.{behind_append, behind_roll, next_page, row_behind, sealed, Begun, HasFrame, IsPlan, KeepsRow}
 use Rattle.persistent_queue.proofs.GrownQueues.{begun_top, reserved_held, rolled_held, some_marks, still_held}
 use Rattle.persistent_queue.proofs.OwnFiles.{plan_is_own}
@@ -44,7 +44,7 @@ invariant_of-self-in_err-reserve-2 g c =
     let q = c.self.inside in
     let v : QueueView = record { folder = q.folder; limits = q.limits; tails = q.tails.items; top = q.top; unread = q.unread; cursor = q.cursor } in
     let are : c.reserve-2.new.self.items ≡ marks_of q.tails.items q.top q.marks.items =
-    c.reserve-2.ensures.items ∙ c.set_marks.ensures ∙ ap (λ (l : List OpenPage). marks_of l q.top q.marks.items) (c.as_slice.ensures.value ∙ c.reserve.ensures.items) in
+    c.reserve-2.ensures.items ∙ c.set_marks.ensures ∙ ap (λ (l : List OpenPageView). marks_of l q.top q.marks.items) (c.as_slice.ensures.value ∙ c.reserve.ensures.items) in
     reserved_held v q.marks.items c.reserve-2.new.self.items q.bytes c.reserve.new.self.items c.reserve.ensures.items are c.self.invariant
 
 pub invariant_of-self-in_err-next : goal.invariant_of-self-in_err-next
@@ -52,7 +52,7 @@ invariant_of-self-in_err-next g c =
     let q = c.self.inside in
     let v : QueueView = record { folder = q.folder; limits = q.limits; tails = q.tails.items; top = q.top; unread = q.unread; cursor = q.cursor } in
     let are : c.reserve-2.new.self.items ≡ marks_of q.tails.items q.top q.marks.items =
-    c.reserve-2.ensures.items ∙ c.set_marks.ensures ∙ ap (λ (l : List OpenPage). marks_of l q.top q.marks.items) (c.as_slice.ensures.value ∙ c.reserve.ensures.items) in
+    c.reserve-2.ensures.items ∙ c.set_marks.ensures ∙ ap (λ (l : List OpenPageView). marks_of l q.top q.marks.items) (c.as_slice.ensures.value ∙ c.reserve.ensures.items) in
     reserved_held v q.marks.items c.reserve-2.new.self.items q.bytes c.reserve.new.self.items c.reserve.ensures.items are c.self.invariant
 
 pub invariant_of-self-in_err-page : goal.invariant_of-self-in_err-page
@@ -60,7 +60,7 @@ invariant_of-self-in_err-page g c =
     let q = c.self.inside in
     let v : QueueView = record { folder = q.folder; limits = q.limits; tails = q.tails.items; top = q.top; unread = q.unread; cursor = q.cursor } in
     let are : c.reserve-2.new.self.items ≡ marks_of q.tails.items q.top q.marks.items =
-    c.reserve-2.ensures.items ∙ c.set_marks.ensures ∙ ap (λ (l : List OpenPage). marks_of l q.top q.marks.items) (c.as_slice.ensures.value ∙ c.reserve.ensures.items) in
+    c.reserve-2.ensures.items ∙ c.set_marks.ensures ∙ ap (λ (l : List OpenPageView). marks_of l q.top q.marks.items) (c.as_slice.ensures.value ∙ c.reserve.ensures.items) in
     reserved_held v q.marks.items c.reserve-2.new.self.items q.bytes c.reserve.new.self.items c.reserve.ensures.items are c.self.invariant
 
 pub add_mark-requires-clause-some : goal.add_mark-requires-clause-some
@@ -68,7 +68,7 @@ add_mark-requires-clause-some g c =
     let q = c.self.inside in
     let v : QueueView = record { folder = q.folder; limits = q.limits; tails = q.tails.items; top = q.top; unread = q.unread; cursor = q.cursor } in
     let are : c.reserve-2.new.self.items ≡ marks_of q.tails.items q.top q.marks.items =
-    c.reserve-2.ensures.items ∙ c.set_marks.ensures ∙ ap (λ (l : List OpenPage). marks_of l q.top q.marks.items) (c.as_slice.ensures.value ∙ c.reserve.ensures.items) in
+    c.reserve-2.ensures.items ∙ c.set_marks.ensures ∙ ap (λ (l : List OpenPageView). marks_of l q.top q.marks.items) (c.as_slice.ensures.value ∙ c.reserve.ensures.items) in
     some_marks v q.marks.items c.reserve-2.new.self.items q.bytes are c.self.invariant
 
 pub begin-begun-requires-clause-plan : goal.begin-begun-requires-clause-plan
@@ -76,7 +76,7 @@ begin-begun-requires-clause-plan g c =
     let q = c.self.inside in
     let v : QueueView = record { folder = q.folder; limits = q.limits; tails = q.tails.items; top = q.top; unread = q.unread; cursor = q.cursor } in
     let are : c.reserve-2.new.self.items ≡ marks_of q.tails.items q.top q.marks.items =
-    c.reserve-2.ensures.items ∙ c.set_marks.ensures ∙ ap (λ (l : List OpenPage). marks_of l q.top q.marks.items) (c.as_slice.ensures.value ∙ c.reserve.ensures.items) in
+    c.reserve-2.ensures.items ∙ c.set_marks.ensures ∙ ap (λ (l : List OpenPageView). marks_of l q.top q.marks.items) (c.as_slice.ensures.value ∙ c.reserve.ensures.items) in
     let next_is : c.in_ok-next.next ≡ next_page q.folder (with_recorded q.top) = c.in_ok-next.ensures ∙ ap (λ (f : List ℕ). next_page f (with_recorded q.top)) c.as_str.ensures in
     let plan = planned v c.args.self.now q.marks.items c.as_slice-2.result.now c.in_ok-next.next c.self.view_is c.self.invariant.marks_are (c.as_slice-2.ensures.value ∙ are) next_is c.requires.page c.requires.fits in
     let ready = subst (λ (x : QueueView). IsReady g.S.Store x c.args.store.now) (sym c.self.view_is) c.requires.ready in
@@ -87,7 +87,7 @@ returns-in_err-page-clause-keeps g c =
     let q = c.self.inside in
     let v : QueueView = record { folder = q.folder; limits = q.limits; tails = q.tails.items; top = q.top; unread = q.unread; cursor = q.cursor } in
     let are : c.reserve-2.new.self.items ≡ marks_of q.tails.items q.top q.marks.items =
-    c.reserve-2.ensures.items ∙ c.set_marks.ensures ∙ ap (λ (l : List OpenPage). marks_of l q.top q.marks.items) (c.as_slice.ensures.value ∙ c.reserve.ensures.items) in
+    c.reserve-2.ensures.items ∙ c.set_marks.ensures ∙ ap (λ (l : List OpenPageView). marks_of l q.top q.marks.items) (c.as_slice.ensures.value ∙ c.reserve.ensures.items) in
     let next_is : c.in_ok-next.next ≡ next_page q.folder (with_recorded q.top) = c.in_ok-next.ensures ∙ ap (λ (f : List ℕ). next_page f (with_recorded q.top)) c.as_str.ensures in
     let plan = planned v c.args.self.now q.marks.items c.as_slice-2.result.now c.in_ok-next.next c.self.view_is c.self.invariant.marks_are (c.as_slice-2.ensures.value ∙ are) next_is c.requires.page c.requires.fits in
     let ready = subst (λ (x : QueueView). IsReady g.S.Store x c.args.store.now) (sym c.self.view_is) c.requires.ready in
@@ -98,7 +98,7 @@ returns-clause-keeps g c =
     let q = c.self.inside in
     let v : QueueView = record { folder = q.folder; limits = q.limits; tails = q.tails.items; top = q.top; unread = q.unread; cursor = q.cursor } in
     let are : c.reserve-2.new.self.items ≡ marks_of q.tails.items q.top q.marks.items =
-    c.reserve-2.ensures.items ∙ c.set_marks.ensures ∙ ap (λ (l : List OpenPage). marks_of l q.top q.marks.items) (c.as_slice.ensures.value ∙ c.reserve.ensures.items) in
+    c.reserve-2.ensures.items ∙ c.set_marks.ensures ∙ ap (λ (l : List OpenPageView). marks_of l q.top q.marks.items) (c.as_slice.ensures.value ∙ c.reserve.ensures.items) in
     let next_is : c.in_ok-next.next ≡ next_page q.folder (with_recorded q.top) = c.in_ok-next.ensures ∙ ap (λ (f : List ℕ). next_page f (with_recorded q.top)) c.as_str.ensures in
     let plan = planned v c.args.self.now q.marks.items c.as_slice-2.result.now c.in_ok-next.next c.self.view_is c.self.invariant.marks_are (c.as_slice-2.ensures.value ∙ are) next_is c.requires.page c.requires.fits in
     let ready = subst (λ (x : QueueView). IsReady g.S.Store x c.args.store.now) (sym c.self.view_is) c.requires.ready in
@@ -109,7 +109,7 @@ returns-clause-adds g c =
     let q = c.self.inside in
     let v : QueueView = record { folder = q.folder; limits = q.limits; tails = q.tails.items; top = q.top; unread = q.unread; cursor = q.cursor } in
     let are : c.reserve-2.new.self.items ≡ marks_of q.tails.items q.top q.marks.items =
-    c.reserve-2.ensures.items ∙ c.set_marks.ensures ∙ ap (λ (l : List OpenPage). marks_of l q.top q.marks.items) (c.as_slice.ensures.value ∙ c.reserve.ensures.items) in
+    c.reserve-2.ensures.items ∙ c.set_marks.ensures ∙ ap (λ (l : List OpenPageView). marks_of l q.top q.marks.items) (c.as_slice.ensures.value ∙ c.reserve.ensures.items) in
     let next_is : c.in_ok-next.next ≡ next_page q.folder (with_recorded q.top) = c.in_ok-next.ensures ∙ ap (λ (f : List ℕ). next_page f (with_recorded q.top)) c.as_str.ensures in
     let plan = planned v c.args.self.now q.marks.items c.as_slice-2.result.now c.in_ok-next.next c.self.view_is c.self.invariant.marks_are (c.as_slice-2.ensures.value ∙ are) next_is c.requires.page c.requires.fits in
     let ready = subst (λ (x : QueueView). IsReady g.S.Store x c.args.store.now) (sym c.self.view_is) c.requires.ready in
@@ -120,13 +120,13 @@ invariant_of-self-2 g c =
     let q = c.self.inside in
     let v : QueueView = record { folder = q.folder; limits = q.limits; tails = q.tails.items; top = q.top; unread = q.unread; cursor = q.cursor } in
     let are : c.reserve-2.new.self.items ≡ marks_of q.tails.items q.top q.marks.items =
-    c.reserve-2.ensures.items ∙ c.set_marks.ensures ∙ ap (λ (l : List OpenPage). marks_of l q.top q.marks.items) (c.as_slice.ensures.value ∙ c.reserve.ensures.items) in
+    c.reserve-2.ensures.items ∙ c.set_marks.ensures ∙ ap (λ (l : List OpenPageView). marks_of l q.top q.marks.items) (c.as_slice.ensures.value ∙ c.reserve.ensures.items) in
     let n = length c.args.frame.now in
     let next = c.in_ok-next.next in
     let next_is : next ≡ next_page q.folder (with_recorded q.top) = c.in_ok-next.ensures ∙ ap (λ (f : List ℕ). next_page f (with_recorded q.top)) c.as_str.ensures in
     let m : Mark = record { file = next.checkpoint; turn = 0; state = next.sealed; due = false } in
     let tails : c.add_tail.new.tails.items ≡ map with_marked q.tails.items ++ sealed (with_recorded q.top) ∷ [] =
-    c.add_tail.ensures ∙ ap₂ (λ (l : List OpenPage) (o : OpenPage). map with_marked l ++ o ∷ []) c.reserve.ensures.items c.replace_top-old.ensures.old in
+    c.add_tail.ensures ∙ ap₂ (λ (l : List OpenPageView) (o : OpenPageView). map with_marked l ++ o ∷ []) c.reserve.ensures.items c.replace_top-old.ensures.old in
     let top : c.replace_top-old.new.top ≡ begun_top n (next_page q.folder (with_recorded q.top)) =
     c.replace_top-old.ensures.next ∙ (λ i. record { number = next.state.page; file = next.file; page = c.in_ok-page.ensures.page i; acknowledged = c.in_ok-acknowledged.ensures i; from = next.state.least; turn = next.turn })
     ∙ ap (begun_top n) next_is in
@@ -155,7 +155,7 @@ returns-in_err-page-clause-beside g c =
     let q = c.self.inside in
     let v : QueueView = record { folder = q.folder; limits = q.limits; tails = q.tails.items; top = q.top; unread = q.unread; cursor = q.cursor } in
     let are : c.reserve-2.new.self.items ≡ marks_of q.tails.items q.top q.marks.items =
-    c.reserve-2.ensures.items ∙ c.set_marks.ensures ∙ ap (λ (l : List OpenPage). marks_of l q.top q.marks.items) (c.as_slice.ensures.value ∙ c.reserve.ensures.items) in
+    c.reserve-2.ensures.items ∙ c.set_marks.ensures ∙ ap (λ (l : List OpenPageView). marks_of l q.top q.marks.items) (c.as_slice.ensures.value ∙ c.reserve.ensures.items) in
     let next_is : c.in_ok-next.next ≡ next_page q.folder (with_recorded q.top) = c.in_ok-next.ensures ∙ ap (λ (f : List ℕ). next_page f (with_recorded q.top)) c.as_str.ensures in
     let plan = planned v c.args.self.now q.marks.items c.as_slice-2.result.now c.in_ok-next.next c.self.view_is c.self.invariant.marks_are (c.as_slice-2.ensures.value ∙ are) next_is c.requires.page c.requires.fits in
     subst (λ (x : QueueView). KeepsOthers g.S.Store (IsOwn (names_in x.folder)) c.args.store.now c.begin-begun.new.store) c.self.view_is
@@ -166,7 +166,7 @@ returns-clause-beside g c =
     let q = c.self.inside in
     let v : QueueView = record { folder = q.folder; limits = q.limits; tails = q.tails.items; top = q.top; unread = q.unread; cursor = q.cursor } in
     let are : c.reserve-2.new.self.items ≡ marks_of q.tails.items q.top q.marks.items =
-    c.reserve-2.ensures.items ∙ c.set_marks.ensures ∙ ap (λ (l : List OpenPage). marks_of l q.top q.marks.items) (c.as_slice.ensures.value ∙ c.reserve.ensures.items) in
+    c.reserve-2.ensures.items ∙ c.set_marks.ensures ∙ ap (λ (l : List OpenPageView). marks_of l q.top q.marks.items) (c.as_slice.ensures.value ∙ c.reserve.ensures.items) in
     let next_is : c.in_ok-next.next ≡ next_page q.folder (with_recorded q.top) = c.in_ok-next.ensures ∙ ap (λ (f : List ℕ). next_page f (with_recorded q.top)) c.as_str.ensures in
     let plan = planned v c.args.self.now q.marks.items c.as_slice-2.result.now c.in_ok-next.next c.self.view_is c.self.invariant.marks_are (c.as_slice-2.ensures.value ∙ are) next_is c.requires.page c.requires.fits in
     subst (λ (x : QueueView). KeepsOthers g.S.Store (IsOwn (names_in x.folder)) c.args.store.now c.begin-begun.new.store) c.self.view_is

@@ -5,8 +5,8 @@ use Rattle.queue_core.proofs.OtherFiles.{others_looked, others_stay}
 use Rattle.persistent_queue.specs.Batching.{Finds}
 use Rattle.persistent_queue.specs.Opens.{Becomes, IsOfFiles}
 use Rattle.persistent_queue.specs.Taking.{Stand, stand, begun, pages_read, rows_in, rows_taken, behind_take, taken_of, AreThere, WasRead}
-use Rattle.persistent_queue.specs.Views.{CursorView, OpenPage, QueueView}
-use Rattle.persistent_queue.specs.declared.page_rows.Reading.{Reading}
+use Rattle.persistent_queue.specs.Views.{CursorView, OpenPageView, QueueView}
+use Rattle.persistent_queue.specs.declared.page_rows.BatchReader.{BatchReader}
 use Rattle.persistent_queue.proofs.BatchTaken.{all_there, batch_lost, batch_taken, files_lost, files_taken, keeps_taken, opens_taken, rows_in_batch}
 use Rattle.persistent_queue.proofs.PageNumbers.{all_within, read_within}
 use Rattle.persistent_queue.proofs.PurgeRuns.{untouched}
@@ -27,8 +27,8 @@ returns-in_err-reading-clause-batch g c = λ told files.
     let names : ℕ → List ℕ = λ n. names_in q.folder (page n) in
     let some : (q.unread == 0) ≡ false = search rules in
     let fault = c.in_err-reading.field-0.0 in
-    let view : Reading → Stand = λ reading. stand next.page reading in
-    let lost = subst (λ (l : List OpenPage). AreThere names old q.cursor.page q.cursor.block (l ++ q.top ∷ []) → Finds view (Err fault) (pages_read old (l ++ q.top ∷ []) (begun c.args.most q.cursor))) c.as_slice-tails.ensures.value (c.in_err-reading.ensures.rows names told) in
+    let view : BatchReader → Stand = λ reading. stand next.page reading in
+    let lost = subst (λ (l : List OpenPageView). AreThere names old q.cursor.page q.cursor.block (l ++ q.top ∷ []) → Finds view (Err fault) (pages_read old (l ++ q.top ∷ []) (begun c.args.most q.cursor))) c.as_slice-tails.ensures.value (c.in_err-reading.ensures.rows names told) in
     let whole = and_then (rows_taken c.args.most old c.args.self.now) (taken_of next.block c.args.self.now) in
     handed_on _ c.from_residual.result fault whole whole c.from_residual.ensures.1 refl
     (λ other. subst (λ (x : QueueView). IsOfFiles x old → Finds other (Err fault) (and_then (rows_taken c.args.most old x) (taken_of next.block x))) c.self.view_is
@@ -57,7 +57,7 @@ returns-clause-batch g c = λ told files.
     let names : ℕ → List ℕ = λ n. names_in q.folder (page n) in
     let some : (q.unread == 0) ≡ false = search rules in
     let r = c.in_ok-reading.reading in
-    let read = subst (λ (l : List OpenPage). AreThere names old q.cursor.page q.cursor.block (l ++ q.top ∷ []) → pages_read old (l ++ q.top ∷ []) (begun c.args.most q.cursor) ≡ Ok (stand next.page r)) c.as_slice-tails.ensures.value (c.in_ok-reading.ensures.rows names told) in
+    let read = subst (λ (l : List OpenPageView). AreThere names old q.cursor.page q.cursor.block (l ++ q.top ∷ []) → pages_read old (l ++ q.top ∷ []) (begun c.args.most q.cursor) ≡ Ok (stand next.page r)) c.as_slice-tails.ensures.value (c.in_ok-reading.ensures.rows names told) in
     let unread = ap (λ n. q.unread - n) (sym c.len.ensures) ∙ sym c.saturating_sub-self-inside.ensures in
     let left : behind_take next.block (stand next.page r) v ≡ record v { unread = c.saturating_sub-self-inside.result; cursor = next } =
     λ i. record v { unread = unread i; cursor = record { page = next.page; number = sym c.in_ok-reading.ensures.cursor.0 i; place = sym c.in_ok-reading.ensures.cursor.1 i; block = next.block } } in
@@ -87,8 +87,8 @@ returns-clause-stays g c =
     (λ told queue opens.
     let files = opens.files told in
     let there = all_there v q.marks.items q.bytes old c.self.invariant files in
-    let read = subst (λ (l : List OpenPage). AreThere names old q.cursor.page q.cursor.block (l ++ q.top ∷ []) → pages_read old (l ++ q.top ∷ []) (begun c.args.most q.cursor) ≡ Ok (stand next.page c.in_ok-reading.reading)) c.as_slice-tails.ensures.value (c.in_ok-reading.ensures.rows names told) there in
-    files_taken v old unread next (subst (λ (l : List OpenPage). AreThere names old q.cursor.page q.cursor.block (l ++ q.top ∷ []) → WasRead names old q.cursor.page q.cursor.block next.page next.block) c.as_slice-tails.ensures.value (c.in_ok-reading.ensures.part names told) there)
+    let read = subst (λ (l : List OpenPageView). AreThere names old q.cursor.page q.cursor.block (l ++ q.top ∷ []) → pages_read old (l ++ q.top ∷ []) (begun c.args.most q.cursor) ≡ Ok (stand next.page c.in_ok-reading.reading)) c.as_slice-tails.ensures.value (c.in_ok-reading.ensures.rows names told) there in
+    files_taken v old unread next (subst (λ (l : List OpenPageView). AreThere names old q.cursor.page q.cursor.block (l ++ q.top ∷ []) → WasRead names old q.cursor.page q.cursor.block next.page next.block) c.as_slice-tails.ensures.value (c.in_ok-reading.ensures.part names told) there)
     (read_within old v.top.number (v.tails ++ v.top ∷ []) (begun c.args.most q.cursor) (stand next.page c.in_ok-reading.reading) (all_within v.tails v.top queue.tails queue.top opens.tails opens.top opens.ready.is) files.within read) files))
 
 pub returns-then-self-eq0-clause-beside : goal.returns-then-self-eq0-clause-beside

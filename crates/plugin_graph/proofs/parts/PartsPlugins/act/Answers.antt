@@ -10,7 +10,7 @@ returns-in-None-clause-ok g c =
     let found = contents_in parts in
     let e = c.args.event.now in
     let below : c.args.number < length parts.filters = search rules in
-    by_table c.meet.result (MayAt g.X.Asked.may (boxes_of parts.filters)) found c.args.number e c.args.targets.now c.meet.new.event c.meet.new.targets c.args.to.now c.meet.new.to
+    by_table c.meet.result (MayAt g.X.FilterCall.may (boxes_of parts.filters)) found c.args.number e c.args.targets.now c.meet.new.event c.meet.new.targets c.args.to.now c.meet.new.to
     (filter_acts parts.filters c.args.number e) (inside parts.filters found refl c.args.number e below) c.meet.ensures.ok
 
 pub returns-in_ok-send-in-Some-get-clause-ok : goal.returns-in_ok-send-in-Some-get-clause-ok
@@ -20,7 +20,7 @@ returns-in_ok-send-in-Some-get-clause-ok g c =
     let e = c.args.event.now in
     let past : length parts.filters ≤ c.args.number = search rules in
     let at : c.in-Some.place ≡ c.args.number - length parts.filters = search rules in
-    output_meets (MayAt g.X.Asked.may (boxes_of parts.filters)) found c.args.number c.in-Some.place e c.args.targets.now (outside parts.filters found refl c.args.number e c.in-Some.place past at)
+    output_meets (MayAt g.X.FilterCall.may (boxes_of parts.filters)) found c.args.number c.in-Some.place e c.args.targets.now (outside parts.filters found refl c.args.number e c.in-Some.place past at)
     c.send.new.targets c.args.to.now c.in-Some-get.output.now parts.own (search rules) c.in_ok-send-in-Some-get.ensures
 
 pub returns-in_ok-push-in-None-get-clause-ok : goal.returns-in_ok-push-in-None-get-clause-ok
@@ -30,5 +30,5 @@ returns-in_ok-push-in-None-get-clause-ok g c =
     let e = c.args.event.now in
     let past : length parts.filters ≤ c.args.number = search rules in
     let at : c.in-Some.place ≡ c.args.number - length parts.filters = search rules in
-    nothing_meets (MayAt g.X.Asked.may (boxes_of parts.filters)) found c.args.number c.in-Some.place e c.args.targets.now (outside parts.filters found refl c.args.number e c.in-Some.place past at)
+    nothing_meets (MayAt g.X.FilterCall.may (boxes_of parts.filters)) found c.args.number c.in-Some.place e c.args.targets.now (outside parts.filters found refl c.args.number e c.in-Some.place past at)
     c.gone.new.event c.gone.new.targets c.args.to.now c.push.new.self c.gone.result (search rules) c.gone.ensures c.in_ok-push-in-None-get.ensures.ok

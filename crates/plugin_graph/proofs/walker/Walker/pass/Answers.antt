@@ -10,7 +10,7 @@ pub returns-clause-passage : goal.returns-clause-passage
 returns-clause-passage g c =
     let parts = c.args.self.now.parts in
     let table = table_of (contents_in parts) in
-    let may = MayAt g.X.Asked.may (boxes_of parts.filters) in
+    let may = MayAt g.X.FilterCall.may (boxes_of parts.filters) in
     let steps = c.in_ok-steps.steps in
     let es = c.in_ok-events.events in
     of_one c.of_cells.result may table es (c.args.event.now ∷ []) steps c.args.config.now c.in_ok-events.ensures c.in_ok-steps.ensures

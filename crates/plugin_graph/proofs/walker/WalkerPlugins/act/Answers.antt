@@ -10,8 +10,8 @@ returns-then-is_marked-clause-ok g c =
     let w = c.args.self.now in
     let marked : over (λ b. b) false (slice_get w.plain c.args.number) ≡ true = search rules in
     let lent : c.as_slice-then-is_marked.result.now ≡ w.plugins = search rules in
-    anew_by_table c.meet_anew.result (MayAt g.X.Asked.may (boxes_of w.parts.filters)) (table_of (contents_in w.parts)) w.plugins c.as_slice-then-is_marked.result.now w.plain c.args.number c.args.event.now c.args.targets.now c.meet_anew.new.event c.meet_anew.new.targets c.args.to.now c.meet_anew.new.to
-    lent c.requires (is_yes (slice_get w.plain c.args.number) marked) c.meet_anew.ensures
+    anew_by_table c.apply_from_text.result (MayAt g.X.FilterCall.may (boxes_of w.parts.filters)) (table_of (contents_in w.parts)) w.plugins c.as_slice-then-is_marked.result.now w.plain c.args.number c.args.event.now c.args.targets.now c.apply_from_text.new.event c.apply_from_text.new.targets c.args.to.now c.apply_from_text.new.to
+    lent c.requires (is_yes (slice_get w.plain c.args.number) marked) c.apply_from_text.ensures
 
 pub returns-else-is_marked-clause-stands : goal.returns-else-is_marked-clause-stands
 returns-else-is_marked-clause-stands g c =

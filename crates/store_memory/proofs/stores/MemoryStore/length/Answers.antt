@@ -1,6 +1,6 @@
 use Rattle.std.proofs.Common.{refl, ap, ◌∙◌, length, option_map, is_ok}
 use Rattle.store_memory.specs.Keeping.{reads_of}
-use Rattle.store_memory.specs.declared.calls.Call.TheVariants.{Length}
+use Rattle.store_memory.specs.declared.calls.StoreCall.TheVariants.{Length}
 use Rattle.store_memory.proofs.Stepping.{same_reads}
 use Rattle.store_memory.proofs.stores.MemoryStore.length.Goals as goal
 

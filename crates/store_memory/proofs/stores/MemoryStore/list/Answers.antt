@@ -1,6 +1,6 @@
 use Rattle.std.proofs.Common.{refl, is_ok}
 use Rattle.store_memory.specs.Keeping.{reads_of}
-use Rattle.store_memory.specs.declared.calls.Call.TheVariants.{List as Listing}
+use Rattle.store_memory.specs.declared.calls.StoreCall.TheVariants.{List as Listing}
 use Rattle.store_memory.proofs.Stepping.{same_reads}
 use Rattle.io_memory.proofs.PartLemmas.{names_same}
 use Rattle.store_memory.proofs.stores.MemoryStore.list.Goals as goal

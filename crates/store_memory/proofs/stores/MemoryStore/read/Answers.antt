@@ -1,7 +1,7 @@
 use Rattle.std.proofs.Common.{refl, ap, ◌∙◌, subst, length, is_ok}
 use Rattle.io_traits.specs.Reads.{Gives}
 use Rattle.store_memory.specs.Keeping.{reads_of}
-use Rattle.store_memory.specs.declared.calls.Call.TheVariants.{Read}
+use Rattle.store_memory.specs.declared.calls.StoreCall.TheVariants.{Read}
 use Rattle.store_memory.proofs.Stepping.{same_reads}
 use Rattle.store_memory.proofs.stores.MemoryStore.read.Goals as goal
 

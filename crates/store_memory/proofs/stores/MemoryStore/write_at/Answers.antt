@@ -1,5 +1,5 @@
 use Rattle.std.proofs.Common.{arith}
-use Rattle.store_memory.specs.declared.calls.Call.TheVariants.{WriteAt}
+use Rattle.store_memory.specs.declared.calls.StoreCall.TheVariants.{WriteAt}
 use Rattle.store_memory.proofs.Stepping.{on_did}
 use Rattle.store_memory.proofs.stores.MemoryStore.write_at.Goals as goal
 

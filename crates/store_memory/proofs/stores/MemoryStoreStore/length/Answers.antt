@@ -1,5 +1,5 @@
 use Rattle.std.proofs.Common.{refl, is_ok}
-use Rattle.store_memory.specs.declared.calls.Call.TheVariants.{Length}
+use Rattle.store_memory.specs.declared.calls.StoreCall.TheVariants.{Length}
 use Rattle.store_memory.proofs.Stepping.{changes_nothing}
 use Rattle.store_memory.proofs.stores.MemoryStoreStore.length.Goals as goal
 

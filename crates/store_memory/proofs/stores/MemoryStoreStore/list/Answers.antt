@@ -1,5 +1,5 @@
 use Rattle.std.proofs.Common.{refl}
-use Rattle.store_memory.specs.declared.calls.Call.TheVariants.{List as Listing}
+use Rattle.store_memory.specs.declared.calls.StoreCall.TheVariants.{List as Listing}
 use Rattle.store_memory.proofs.Stepping.{answered_unless, changes_nothing}
 use Rattle.store_memory.proofs.stores.MemoryStoreStore.list.Goals as goal
 

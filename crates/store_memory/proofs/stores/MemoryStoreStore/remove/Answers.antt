@@ -1,7 +1,7 @@
 use Rattle.std.proofs.Common.{None, ◌∙◌, is_ok}
 use Rattle.store_trait.specs.Images.{RemovedFile}
 use Rattle.store_memory.specs.Keeping.{reads_of}
-use Rattle.store_memory.specs.declared.calls.Call.TheVariants.{Remove}
+use Rattle.store_memory.specs.declared.calls.StoreCall.TheVariants.{Remove}
 use Rattle.store_memory.proofs.Stepping.{at_name, at_other, on_did, did_read, changes_one, removed_none}
 use Rattle.store_memory.proofs.stores.MemoryStoreStore.remove.Goals as goal
 

@@ -1,5 +1,5 @@
 use Rattle.std.proofs.Common.{refl, is_ok}
-use Rattle.store_memory.specs.declared.calls.Call.TheVariants.{Sync}
+use Rattle.store_memory.specs.declared.calls.StoreCall.TheVariants.{Sync}
 use Rattle.store_memory.proofs.Stepping.{on_did, synced_images, may_settle}
 use Rattle.store_memory.proofs.stores.MemoryStoreStore.sync.Goals as goal
 

@@ -2,7 +2,7 @@ use Rattle.std.proofs.Common.{Some, ◌∙◌, is_ok}
 use Rattle.io_traits.specs.Reads.{bytes_of}
 use Rattle.store_trait.specs.Images.{overlaid, TornFile}
 use Rattle.store_memory.specs.Keeping.{reads_of}
-use Rattle.store_memory.specs.declared.calls.Call.TheVariants.{WriteAt}
+use Rattle.store_memory.specs.declared.calls.StoreCall.TheVariants.{WriteAt}
 use Rattle.store_memory.proofs.Stepping.{at_name, at_other, on_did, did_read, changes_one, torn_none}
 use Rattle.store_memory.proofs.stores.MemoryStoreStore.write_at.Goals as goal
 

@@ -1,5 +1,0 @@
-use Rattle.batch_shop.proofs.Stances.{idle_by}
-use Rattle.batch_shop.proofs.desk.Desk.close.Goals as goal
-
-pub close-requires : goal.close-requires
-close-requires g c = idle_by _ _ c.args.self.stands c.requires

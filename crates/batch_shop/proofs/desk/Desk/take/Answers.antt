@@ -1,6 +1,0 @@
-use Rattle.std.proofs.Common.{rules}
-use Rattle.batch_shop.proofs.Stances.{out_by}
-use Rattle.batch_shop.proofs.desk.Desk.take.Goals as goal
-
-pub fetch-requires : goal.fetch-requires
-fetch-requires g c = out_by _ _ c.args.self.now.stands (search rules)

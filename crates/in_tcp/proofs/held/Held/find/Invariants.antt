@@ -1,8 +1,0 @@
-use Rattle.in_tcp.specs.Held.{SameLines, size_of}
-use Rattle.in_tcp.proofs.held.Held.find.Given as goal
-
-abbrev pub invariant-loop-mark : goal.invariant-loop-mark
-invariant-loop-mark l = SameLines l.fn.self l.self
-
-abbrev pub decreases-loop-mark : goal.decreases-loop-mark
-decreases-loop-mark l = size_of l.self.pieces

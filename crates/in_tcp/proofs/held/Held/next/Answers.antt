@@ -1,5 +1,0 @@
-use Rattle.in_tcp.proofs.Giving.{gave_one}
-use Rattle.in_tcp.proofs.held.Held.next.Goals as goal
-
-pub returns : goal.returns
-returns c = gave_one c.args.codec c.args.self.now c.find.new.self c.pass.new.self c.in-Some.next c.in_ok-event.event c.find.ensures.same c.pass.ensures c.in_ok-event.ensures
