@@ -4,7 +4,7 @@
 PROGRAM = crates/logstash_cli
 RUNS = 'input { stdin {} } output { stdout {} }'
 
-.PHONY: all test try bench clean
+.PHONY: all test try bench planted clean
 
 # Proves the program and builds it.
 all:
@@ -19,6 +19,10 @@ test:
 # The quickest build and run, which proves nothing: for development.
 try:
 	cd $(PROGRAM) && printf 'hello\n' | rt try -- -e $(RUNS)
+
+# Sees that the prover refuses the planted bugs of some crates: make planted CRATES="queue_core queue_files"
+planted:
+	bash planted/run $(CRATES)
 
 # How fast the program and its parts are, beside others on the same machine.
 bench: all

@@ -1,8 +1,9 @@
 // Tests of the real sources and sinks, over readers and writers that fail.
+use io_real::{StdinSource, SystemClock, WriteSink};
+use io_traits::{Clock, Failed, Sink, Source, Step};
 use std::cell::Cell;
 use std::io::{self, BufWriter, ErrorKind, Read, Write};
 use std::test::Fail;
-use store_disk::{Clock, Failed, Sink, Source, StdinSource, Step, SystemClock, WriteSink};
 
 // A reader and a writer of which each call ends with an error.
 #[derive(Drop)]

@@ -1,7 +1,8 @@
 // Tests of the control that looks every three seconds.
+use io_real::GoControl;
+use io_traits::{Control, Said};
 use std::thread;
 use std::time::Duration;
-use store_disk::{Control, GoControl, Said};
 
 fn says(control: &mut GoControl<&HostRuntime>, want: Said) -> bool {
     control.next() == want

@@ -1,5 +1,5 @@
 // Tests of instants at the bounds of their years.
-use time_instant::Instant;
+use plain_data::Instant;
 
 // Whether there is an instant of so many nanoseconds, which gives them back.
 fn is_held(nanos: i128) -> bool {

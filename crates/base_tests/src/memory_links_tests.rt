@@ -1,8 +1,7 @@
 // Tests of connections in memory.
+use io_memory::{ConnState, ConnectionEvent, MemoryLinks, Script, SourceEvent};
+use io_traits::{Come, Failed, Step};
 use std::alloc::{AllocError, Global};
-use store_disk::{
-    Come, ConnState, ConnectionEvent, Failed, MemoryLinks, Script, SourceEvent, Step,
-};
 
 // What a piece of the list is: some bytes, or with None an end.
 type LinkPiece = (u32, Option<&'static str>);

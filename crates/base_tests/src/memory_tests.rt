@@ -1,10 +1,9 @@
 // Tests of sources, sinks, clocks, controls and files in memory.
 use crate::tables::files_of;
+use io_memory::{ListClock, ListControl, MemoryFiles, MemorySink, MemorySource, Script, Showing};
+use io_traits::{Failed, Said, Step, write_all};
+use plain_data::Instant;
 use std::alloc::{AllocError, Global};
-use store_disk::{
-    Failed, Instant, ListClock, ListControl, MemoryFiles, MemorySink, MemorySource, Said, Script,
-    Showing, Step, write_all,
-};
 
 fn source_reads(
     source: &mut MemorySource,

@@ -1,7 +1,7 @@
 // Tables of files for the tests of memory files.
 use plain_data::{Items, Text};
 use std::alloc::{AllocError, Global};
-use store_disk::FileTable;
+use store_memory::FileTable;
 
 // A table of files with the same bytes.
 pub(crate) fn files_of(

@@ -15,8 +15,8 @@ use Rattle.event_flow.specs.Flows.{Derived, To, Dead}
 use Rattle.event_flow.specs.Meaning.{deliveries, dead_in, derive_each, due, same_place, sent_in, some_events, some_letters, targets, targets_from}
 use Rattle.event_flow.specs.Parts.{parts_of}
 use Rattle.event_flow.specs.Places.{Draws, once, places_of}
-use Rattle.line_codecs.specs.Written.{out_bytes}
-use Rattle.line_codecs.specs.declared.codec.OutCodec.{OutCodec}
+use Rattle.in_lines.specs.Written.{out_bytes}
+use Rattle.in_lines.specs.declared.codec.OutCodec.{OutCodec}
 use Rattle.built_plugins.specs.Makes.{makes}
 use Rattle.built_plugins.specs.Numbering.{output_id}
 use Rattle.plugin_graph.specs.Passages.{sent_of}

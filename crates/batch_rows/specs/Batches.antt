@@ -12,7 +12,7 @@ use Rattle.event_flow.specs.Marks.{AllMay}
 use Rattle.event_flow.specs.Meaning.{Due, Letters, Events, UsesExactly, due, flow_of}
 use Rattle.event_flow.specs.Places.{Draws}
 use Rattle.io_traits.specs.Telling.{Grows, GrowsInPart}
-use Rattle.line_codecs.specs.Written.{out_bytes}
+use Rattle.in_lines.specs.Written.{out_bytes}
 use Rattle.plugin_graph.specs.Graphs.{contents_of, steps_in}
 use Rattle.plugin_graph.specs.Kits.{table_of}
 use Rattle.built_plugins.specs.Makes.{makes}

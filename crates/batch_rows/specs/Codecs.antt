@@ -4,7 +4,7 @@ use Rattle.config_tree.specs.declared.tree.Config.{Config}
 use Rattle.config_tree.specs.declared.tree.Plugin.{Plugin}
 use Rattle.event_flow.specs.Parts.{parts_of}
 use Rattle.filter_settings.specs.Settings.{Made}
-use Rattle.line_codecs.specs.declared.codec.OutCodec.{OutCodec}
+use Rattle.in_lines.specs.declared.codec.OutCodec.{OutCodec}
 use Rattle.built_plugins.specs.Numbering.{output_id}
 use Rattle.plugin_settings.specs.Outputs.{stdout_of}
 use Rattle.plugin_settings.specs.declared.outputs.StdoutSettings.{StdoutSettings}

@@ -3,7 +3,7 @@ use Rattle.std.specs.Prelude.{ℕ, List, [], ◌∷◌, ◌&&◌, if◌then◌el
 use Rattle.event_tree.specs.Events.{Ev}
 use Rattle.event_flow.specs.Meaning.{same_place}
 use Rattle.foreign_parts.specs.declared.place.Place.TheVariants as place
-use Rattle.line_codecs.specs.Written.{out_bytes}
+use Rattle.in_lines.specs.Written.{out_bytes}
 use Rattle.plugin_graph.specs.declared.passage.Sent.{Sent}
 use Rattle.batch_rows.specs.declared.codecs.OutputCodec.{OutputCodec}
 

@@ -7,7 +7,7 @@ ghost use Rattle.batch_rows.specs.Codecs as spec;
 
 use built_plugins::{Flat, plugin_id};
 use config_tree::{Config, FromFault, Plugin, copy_statements};
-use line_codecs::OutCodec;
+use in_lines::OutCodec;
 use plain_data::{Items, Text};
 use plugin_settings::StdoutSettings;
 use std::alloc::{AllocError, Global};

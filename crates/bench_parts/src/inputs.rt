@@ -4,15 +4,14 @@ ghost use Rattle.std.specs.Prelude.{◌≡◌};
 ghost use Rattle.in_tcp.specs.Reads.{AllCame};
 
 use in_file::{FileInput, FilePlan};
-use in_lines::{Got, LINE_LIMIT, PollFault, event_of_bytes};
+use in_lines::{Codec, Got, LINE_LIMIT, PollFault, event_of_bytes};
 use in_tcp::TcpInput;
 use io_real::{FileStore, RealFiles, TcpLinks};
 use io_traits::Files;
-use line_codecs::Codec;
+use plain_data::Instant;
 use std::alloc::Global;
 use std::fs;
 use std::net::Net;
-use time_instant::Instant;
 
 /// How many events were made of the lines of a file, or of those that connections to a port of the loopback brought.
 pub fn run(rt: &HostRuntime, words: &[String]) -> Option<u64> {

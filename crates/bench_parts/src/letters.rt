@@ -8,9 +8,9 @@ use crate::elements;
 use dead_letters::{DeadLetter, DeadLetters, Letters};
 use event_tree::{Instant, Items, Text};
 use io_real::FileStore;
+use io_traits::Store;
 use settings_lines::Policy;
 use std::alloc::Global;
-use store_trait::Store;
 
 /// The folder of the queue, in the one in which the program is run.
 const FOLDER: &str = "letters/";

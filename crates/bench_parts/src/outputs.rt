@@ -1,7 +1,7 @@
 //! Appends batches to an output file in a `FileStore`, each with its position (bench/outputs.sh).
 
 use io_real::FileStore;
-use out_files::OutFile;
+use slot_files::OutFile;
 use std::alloc::Global;
 
 /// How many batches were appended to a file, and how much of it counts recorded in another.

@@ -6,10 +6,9 @@ ghost use Rattle.std.specs.Prelude.{◌+◌, ◌-◌, ◌^◌, ◌≤◌};
 use crate::elements;
 use event_tree::Event;
 use io_real::FileStore;
+use io_traits::{PageState, Store};
 use queue_page::{Page, frame_row};
 use std::alloc::Global;
-use store_disk::PageState;
-use store_trait::Store;
 
 /// The version of pages whose rows name their inputs.
 const LAST_VERSION: u8 = 2;

@@ -4,7 +4,7 @@
 use crate::elements;
 use event_tree::Event;
 use io_real::FileStore;
-use persistent_queue::{Limits, Queue};
+use queue_core::{Limits, Queue};
 use std::alloc::Global;
 
 /// The folder of the queue, in the one in which the program is run.

@@ -1,8 +1,7 @@
 //! Appends to a file of a `FileStore`, with a sync every so many appends (bench/store.sh).
 
 use io_real::FileStore;
-use io_traits::Failed;
-use store_trait::Store;
+use io_traits::{Failed, Store};
 
 /// How many bytes an append has.
 const BYTES: usize = 300;

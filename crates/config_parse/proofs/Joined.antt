@@ -6,8 +6,8 @@ use Rattle.std.proofs.lemmas.Slice.Eq.{bytes_eq-Decides}
 use Rattle.indexmap.specs.IndexMap.{insert_entry}
 use Rattle.config_tree.specs.declared.tree.SettingValue.{SettingValue}
 use Rattle.config_tree.specs.Joining.{Entries, with_entry, with_setting, joined_value}
-use Rattle.config_grammar.specs.Machine.{fresh}
-use Rattle.config_grammar.proofs.Taken.{fresh_ok}
+use Rattle.config_parse.specs.Machine.{fresh}
+use Rattle.config_parse.proofs.Taken.{fresh_ok}
 use Rattle.config_parse.specs.declared.joining.ReadValue.{ReadValue}
 use Rattle.config_parse.specs.Tables.{value_of, values_of, held_at, JoinsTo, IsSameElsewhere, HasSetting}
 use Rattle.config_parse.specs.Read.{keys_of}

@@ -3,13 +3,13 @@ use Rattle.std.proofs.Common.{◌≡◌, ℕ, zero, suc, ◌≤◌, ◌<◌, Lis
 use Rattle.config_lex.specs.declared.token.Token.{Token}
 use Rattle.config_tree.specs.declared.tree.Config.{Config}
 use Rattle.config_tree.specs.Joining.{empty}
-use Rattle.config_grammar.specs.Symbols.{Symbol}
-use Rattle.config_grammar.specs.Symbols as y
-use Rattle.config_grammar.specs.Machine.{Stack, Sem, Sems, Move, refuses, stays, opens, shuts, next, blank, rise}
-use Rattle.config_grammar.specs.Trees.{Made, front, back, act_with, end_blank, end_with, run_with, step_with, made}
-use Rattle.config_grammar.specs.Verdicts.{Verdict}
-use Rattle.config_grammar.specs.Verdicts as is
-use Rattle.config_grammar.proofs.Taken.{Rises, levels, rises}
+use Rattle.config_parse.specs.Symbols.{Symbol}
+use Rattle.config_parse.specs.Symbols as y
+use Rattle.config_parse.specs.Machine.{Stack, Sem, Sems, Move, refuses, stays, opens, shuts, next, blank, rise}
+use Rattle.config_parse.specs.Trees.{Made, front, back, act_with, end_blank, end_with, run_with, step_with, made}
+use Rattle.config_parse.specs.Verdicts.{Verdict}
+use Rattle.config_parse.specs.Verdicts as is
+use Rattle.config_parse.proofs.Taken.{Rises, levels, rises}
 use Rattle.config_parse.specs.Read as r
 use Rattle.config_parse.specs.Read.{Read, Reader, Readers, ◌>>=◌, refuse, each, skipped, moved, read_by, behind}
 

@@ -1,11 +1,11 @@
 -- What reading tells of the grammar, and what the answers tell of a text.
 use Rattle.std.proofs.Common.{◌≡◌, ℕ, ◌≤◌, List, length, refl, ap, subst, ◌∙◌, Ok, Err, Result, arith, MatchResult}
 use Rattle.config_tree.specs.declared.tree.Config.{Config}
-use Rattle.config_grammar.specs.Grammar.{ReadsConfig}
-use Rattle.config_grammar.specs.Levels.{IsSyntax, IsDeep}
+use Rattle.config_parse.specs.Grammar.{ReadsConfig}
+use Rattle.config_parse.specs.Levels.{IsSyntax, IsDeep}
 use Rattle.config_lex.specs.declared.token.Lexeme.{Lexeme}
 use Rattle.config_lex.specs.Lexemes.{lexemes, tokens, place_in}
-use Rattle.config_grammar.specs.Texts.{Reads, IsSyntaxAt, IsDeepAt}
+use Rattle.config_parse.specs.Texts.{Reads, IsSyntaxAt, IsDeepAt}
 use Rattle.config_parse.specs.declared.error.ReadError.{ReadError}
 use Rattle.config_parse.specs.declared.error.ReadError.TheVariants as errors
 use Rattle.config_parse.specs.Seen.{tokens_of}

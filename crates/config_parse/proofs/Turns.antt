@@ -18,11 +18,11 @@ use Rattle.config_tree.specs.declared.tree.Statement.TheVariants as s
 use Rattle.config_tree.specs.Joints.{disjoined}
 use Rattle.config_tree.specs.Joining.{Entries, with_setting, plugin_of}
 use Rattle.config_lex.specs.Spelling.{spelling}
-use Rattle.config_grammar.specs.Words.{setting_name, plugin_name, key}
-use Rattle.config_grammar.specs.Symbols.{Symbol}
-use Rattle.config_grammar.specs.Symbols as y
-use Rattle.config_grammar.specs.Machine.{Sems, on_some, fresh, next, arm_of}
-use Rattle.config_grammar.specs.Verdicts as is
+use Rattle.config_parse.specs.Words.{setting_name, plugin_name, key}
+use Rattle.config_parse.specs.Symbols.{Symbol}
+use Rattle.config_parse.specs.Symbols as y
+use Rattle.config_parse.specs.Machine.{Sems, on_some, fresh, next, arm_of}
+use Rattle.config_parse.specs.Verdicts as is
 use Rattle.config_parse.specs.declared.error.ReadError.{ReadError}
 use Rattle.config_parse.specs.declared.error.ReadError.TheVariants as errors
 use Rattle.config_lex.specs.declared.token.Lexeme.{Lexeme}

@@ -1,7 +1,7 @@
 -- What the answers on a text say: the limits are its bytes and the levels that may be open.
 use Rattle.std.specs.Prelude.{◌≡◌, ℕ, ◌≤◌, List, length, Result, Err, MatchResult}
 use Rattle.config_tree.specs.declared.tree.Config.{Config}
-use Rattle.config_grammar.specs.Texts.{Reads, IsSyntaxAt, IsDeepAt}
+use Rattle.config_parse.specs.Texts.{Reads, IsSyntaxAt, IsDeepAt}
 use Rattle.config_parse.specs.declared.fault.ConfigFault.{ConfigFault}
 use Rattle.config_parse.specs.declared.fault.ConfigFault.TheVariants as fault
 

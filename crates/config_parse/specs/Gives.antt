@@ -3,7 +3,7 @@ use Rattle.std.specs.Prelude.{◌≡◌, ◌∷◌, [], ℕ, List, length, Optio
 use Rattle.std.specs.Borrow.{Bor}
 use Rattle.config_lex.specs.declared.token.Token.{Token}
 use Rattle.config_lex.specs.declared.token.Lexeme.{Lexeme}
-use Rattle.config_grammar.specs.Verdicts as is
+use Rattle.config_parse.specs.Verdicts as is
 use Rattle.config_parse.specs.Read.{Read, Reader}
 use Rattle.config_parse.specs.Seen.{tokens_of}
 use Rattle.config_parse.specs.declared.error.ReadError.{ReadError}

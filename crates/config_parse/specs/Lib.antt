@@ -4,3 +4,15 @@ pub mod Gives
 pub mod Tables
 pub mod Told
 pub mod Answers
+pub mod Words
+pub mod Grammar
+pub mod Viable
+pub mod Levels
+pub mod Texts
+pub mod Symbols
+pub mod Verdicts
+pub mod Machine
+pub mod Trees
+pub mod GrammarAnswers
+pub mod Branches
+pub mod Laws

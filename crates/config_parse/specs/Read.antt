@@ -12,12 +12,12 @@ use Rattle.config_tree.specs.declared.tree.Statement.{Statement}
 use Rattle.config_tree.specs.declared.tree.Statement.TheVariants as s
 use Rattle.config_tree.specs.declared.tree.Config.{Config}
 use Rattle.config_tree.specs.Joining.{Entries, plugin_of, empty}
-use Rattle.config_grammar.specs.Words.{key, plugin_name}
-use Rattle.config_grammar.specs.Symbols.{Symbol}
-use Rattle.config_grammar.specs.Symbols as y
-use Rattle.config_grammar.specs.Machine.{Stack, Sem, Sems, Move, refuses, stays, opens, shuts, next, blank, rise, fresh, arm_of}
-use Rattle.config_grammar.specs.Verdicts.{Verdict}
-use Rattle.config_grammar.specs.Verdicts as is
+use Rattle.config_parse.specs.Words.{key, plugin_name}
+use Rattle.config_parse.specs.Symbols.{Symbol}
+use Rattle.config_parse.specs.Symbols as y
+use Rattle.config_parse.specs.Machine.{Stack, Sem, Sems, Move, refuses, stays, opens, shuts, next, blank, rise, fresh, arm_of}
+use Rattle.config_parse.specs.Verdicts.{Verdict}
+use Rattle.config_parse.specs.Verdicts as is
 
 -- what is read, and the tokens behind it
 abbrev pub Read : Type 0 → Type 0

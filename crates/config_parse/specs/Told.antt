@@ -3,10 +3,10 @@ use Rattle.std.specs.Prelude.{ℕ, ◌≤◌, ◌<◌, List, length, Result, Ok,
 use Rattle.config_lex.specs.declared.token.Lexeme.{Lexeme}
 use Rattle.config_lex.specs.declared.token.Token.{Token}
 use Rattle.config_tree.specs.declared.tree.Config.{Config}
-use Rattle.config_grammar.specs.Grammar.{ReadsConfig}
-use Rattle.config_grammar.specs.Levels.{IsSyntax, IsDeep}
+use Rattle.config_parse.specs.Grammar.{ReadsConfig}
+use Rattle.config_parse.specs.Levels.{IsSyntax, IsDeep}
 use Rattle.config_lex.specs.Lexemes.{place_in}
-use Rattle.config_grammar.specs.Texts.{Reads, IsSyntaxAt, IsDeepAt}
+use Rattle.config_parse.specs.Texts.{Reads, IsSyntaxAt, IsDeepAt}
 use Rattle.config_parse.specs.declared.error.ReadError.{ReadError}
 use Rattle.config_parse.specs.declared.error.ReadError.TheVariants as errors
 use Rattle.config_parse.specs.declared.fault.ConfigFault.{ConfigFault}

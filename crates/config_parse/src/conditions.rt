@@ -1,7 +1,7 @@
 //! Conditions.
 
-ghost use Rattle.config_grammar.specs.Words as words;
-ghost use Rattle.config_grammar.specs.Symbols as symbol;
+ghost use Rattle.config_parse.specs.Words as words;
+ghost use Rattle.config_parse.specs.Symbols as symbol;
 ghost use Rattle.config_parse.specs.Gives.{Gives, Skips};
 ghost use Rattle.config_parse.specs.Read as spec;
 ghost use Rattle.std.specs.Prelude.{ℕ};

@@ -1,7 +1,7 @@
 //! What a token may stand for.
 
 ghost use Rattle.std.specs.Prelude.{◌≡◌, IfOk};
-ghost use Rattle.config_grammar.specs.Words as words;
+ghost use Rattle.config_parse.specs.Words as words;
 ghost use Rattle.config_lex.specs.Spelling as texts;
 ghost use Rattle.config_tree.specs.Joints as joints;
 ghost use Rattle.std.specs.Option.{option_map};

@@ -2,8 +2,8 @@
 
 ghost use Rattle.std.specs.Prelude.{◌≡◌, ◌∷◌, ◌++◌, [], IfOk, OnOk};
 ghost use Rattle.config_tree.specs.Joining as joining;
-ghost use Rattle.config_grammar.specs.Machine.{last_arm};
-ghost use Rattle.config_grammar.specs.Symbols as symbol;
+ghost use Rattle.config_parse.specs.Machine.{last_arm};
+ghost use Rattle.config_parse.specs.Symbols as symbol;
 ghost use Rattle.config_parse.specs.Gives.{Gives};
 ghost use Rattle.config_parse.specs.Read as spec;
 

@@ -12,7 +12,7 @@ use crate::fault::ConfigFault;
 use crate::laws::reading_is_right;
 use crate::statements::sections;
 use crate::tokens::{first, refuse};
-use config_grammar::{machine_is_right, one_answer, reads_once};
+use crate::{machine_is_right, one_answer, reads_once};
 use config_lex::{Lexeme, lexemes};
 use config_tree::Config;
 use std::alloc::Global;

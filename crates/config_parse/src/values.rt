@@ -1,8 +1,8 @@
 //! Values, settings and plugins.
 
 ghost use Rattle.std.specs.Prelude.{◌≡◌, [], IfOk};
-ghost use Rattle.config_grammar.specs.Words as words;
-ghost use Rattle.config_grammar.specs.Symbols as symbol;
+ghost use Rattle.config_parse.specs.Words as words;
+ghost use Rattle.config_parse.specs.Symbols as symbol;
 ghost use Rattle.config_parse.specs.Gives.{Fills, Gives, GivesAs, Skips};
 ghost use Rattle.config_parse.specs.Read as spec;
 ghost use Rattle.config_parse.specs.Tables.{value_of, values_of};

@@ -3,3 +3,7 @@ pub mod Layout
 pub mod Prints
 pub mod Conditions
 pub mod Printed
+pub mod Once
+pub mod Laws
+pub mod Answers
+pub mod Respaced

@@ -11,7 +11,7 @@ use std::alloc::{AllocError, Global};
 
 /// The text of a configuration: the sections `input`, `filter` and `output`, each where it isn't empty, one
 /// statement, setting, key or brace on a line, with two blanks for each level. (That what a text was read as prints
-/// to a text that reads as the same is a law of `config_print_laws`.)
+/// to a text that reads as the same is a law of `config_print`.)
 ///
 /// A string has double quotes, or single quotes where it holds a `"` that no backslash precedes. The name of a
 /// plugin or a setting is bare where it is a word. A condition stands on the line of its `if`, with parentheses

@@ -21,9 +21,9 @@ use Rattle.config_tree.specs.declared.operators.Disjunction.TheVariants as disju
 use Rattle.config_tree.specs.declared.tree.Condition.{Condition}
 use Rattle.config_tree.specs.declared.tree.Condition.TheVariants as c
 use Rattle.config_tree.specs.declared.tree.Config.{Config}
-use Rattle.config_grammar.specs.Words.{pattern}
+use Rattle.config_parse.specs.Words.{pattern}
 use Rattle.config_tree.specs.Joining.{Entries, with_entries, joined_value, plugin_of}
-use Rattle.config_grammar.specs.Grammar.{ReadsValue, scalar_value, bare, array, hash, no_nest, nested, no_item, items, no_more, more, no_pair, pair, no_setting, setting, no_more_literal, more_literals, no_literal, literals, one_token, list, alone, comparison, matching, within, not_within, ReadsUnary, compare, negation, group, joined, no_and, and, condition, no_or, or, ReadsPlugin, plugin, no_statement, plugin_statement, branch, arm, no_else, else_if, else, no_plugin, plugins, no_section, input, filter, output, ReadsConfig}
+use Rattle.config_parse.specs.Grammar.{ReadsValue, scalar_value, bare, array, hash, no_nest, nested, no_item, items, no_more, more, no_pair, pair, no_setting, setting, no_more_literal, more_literals, no_literal, literals, one_token, list, alone, comparison, matching, within, not_within, ReadsUnary, compare, negation, group, joined, no_and, and, condition, no_or, or, ReadsPlugin, plugin, no_statement, plugin_statement, branch, arm, no_else, else_if, else, no_plugin, plugins, no_section, input, filter, output, ReadsConfig}
 use Rattle.config_tests.specs.Examples.{whole}
 use Rattle.config_tests.specs.Written.{word, field, digit, settings_tokens, settings_config, joints_tokens, joints_with, joints_config, joints_condition, left_of_or, right_of_xor, compared, arms_tokens, arms_with, arms_config, has_g, lacks_i, of_field, of_number}
 use Rattle.config_tests.proofs.Joined.{behind_comparison, behind_match, behind_conjunction, behind_disjunction, conjunction_or}

@@ -3,8 +3,7 @@
 ghost use Rattle.std.specs.Prelude.{IfOk, IsTrue};
 
 use config_parse::{ConfigFault, LENGTH, parse};
-use config_print::print;
-use config_print_laws::{print_and_parse, printed_text_reads};
+use config_print::{print, print_and_parse, printed_text_reads};
 use config_tree::Config;
 use std::alloc::Global;
 

@@ -2,7 +2,7 @@
 use crate::cases::first_word;
 use event_text::Template;
 use event_tree::Event;
-use line_codecs::{Codec, OutCodec};
+use in_lines::{Codec, OutCodec};
 use std::alloc::AllocError;
 use std::str;
 

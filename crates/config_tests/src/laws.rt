@@ -1,12 +1,12 @@
 //! What texts are, by the grammar and its laws: the contracts of functions that do nothing.
 
 ghost use Rattle.std.specs.Prelude.{codes};
-ghost use Rattle.config_grammar.specs.Texts.{Reads};
+ghost use Rattle.config_parse.specs.Texts.{Reads};
 ghost use Rattle.config_tests.specs.Examples.{input_text, input_config, values_text, values_config, branch_text, branch_config};
 ghost use Rattle.config_tests.specs.Written.{settings_text, settings_config, joints_text, joints_config, arms_text, arms_config};
 ghost use Rattle.config_tests.specs.OpenLevels.{Opens};
 
-use config_grammar::machine_is_right;
+use config_parse::machine_is_right;
 
 /// What three texts read as.
 pub fn examples()

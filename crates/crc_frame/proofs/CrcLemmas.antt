@@ -5,7 +5,8 @@ use Rattle.std.proofs.lemmas.List.{take_all, take_at, drop_at, take-append-drop,
 use Rattle.byteorder.specs.Endian.{big_bytes, big_number}
 use Rattle.byteorder.specs.Numbers.{big_number-reads_back, length-bytes_high_first}
 use Rattle.crc_frame.specs.Crc.{crc32, is_checked}
-use Rattle.crc_frame.proofs.Numbers.{IsBytes, IsBytes-drop, big_bytes-big_number}
+use Rattle.crc_frame.specs.Bytes.{IsBytes}
+use Rattle.crc_frame.proofs.Numbers.{IsBytes-drop, big_bytes-big_number}
 
 crc32-lt : (bytes : List ℕ) → crc32 bytes < 256 ^ 4
 unfolding crc32

@@ -11,7 +11,8 @@ use Rattle.byteorder.specs.Endian.{big_bytes, big_number}
 use Rattle.byteorder.specs.Numbers.{big_from-lt, big_number-reads_back, length-bytes_high_first}
 use Rattle.crc_frame.specs.Crc.{crc32, is_checked}
 use Rattle.crc_frame.specs.Frames.{Element, covered, frame_of, unframed, FramesAreReadBack, FramesDiffer}
-use Rattle.crc_frame.proofs.Numbers.{IsBytes, IsBytes-drop, IsBytes-take, big_bytes-big_number}
+use Rattle.crc_frame.specs.Bytes.{IsBytes}
+use Rattle.crc_frame.proofs.Numbers.{IsBytes-drop, IsBytes-take, big_bytes-big_number}
 use Rattle.crc_frame.proofs.CrcLemmas.{is_checked-append, checked_parts}
 
 -- ---- the parts of a frame

@@ -7,3 +7,6 @@ pub mod Numbers
 pub mod SlotLemmas
 pub mod TablesCheck
 pub mod TornSlots
+pub mod Fronts
+pub mod Cuts
+pub mod Repeats

@@ -6,17 +6,17 @@ use Rattle.std.proofs.lemmas.Bool.{cond-true, cond-false}
 use Rattle.std.proofs.lemmas.List.{take_all, take_at, append-nil, append_assoc}
 use Rattle.io_traits.specs.Folders.{Content}
 use Rattle.io_traits.specs.Reads.{bytes_of, file_length}
-use Rattle.store_trait.specs.Images.{Image, FileImage, IsAtRest, at_rest}
-use Rattle.store_trait.specs.Moments.{NowOrSynced, EachMoment, ReadsBeside, ImagesTell}
-use Rattle.store_trait.specs.declared.stores.Store.{Ghosts as StoreWords}
-use Rattle.store_trait.proofs.Beside.{resting}
-use Rattle.store_trait.proofs.Moments.{weaker, one_then_other, holds_now}
-use Rattle.store_changes.specs.Changes.{AllRest, HasFirst, Alters}
-use Rattle.store_changes.specs.Each.{laid, with_more, KeepsBytes, GoneOrSame, AltersEach}
-use Rattle.store_changes.specs.Slots.{ComesNext}
-use Rattle.store_changes.proofs.Altering.{keeps_same}
-use Rattle.store_changes.proofs.EachFile.{none_altered}
-use Rattle.out_files.specs.Contents.{left_in}
+use Rattle.io_traits.specs.Images.{Image, FileImage, IsAtRest, at_rest}
+use Rattle.io_traits.specs.Moments.{NowOrSynced, EachMoment, ReadsBeside, ImagesTell}
+use Rattle.io_traits.specs.declared.stores.Store.{Ghosts as StoreWords}
+use Rattle.io_traits.proofs.Beside.{resting}
+use Rattle.io_traits.proofs.Moments.{weaker, one_then_other, holds_now}
+use Rattle.slot_files.specs.Changes.{AllRest, HasFirst, Alters}
+use Rattle.slot_files.specs.Each.{laid, with_more, KeepsBytes, GoneOrSame, AltersEach}
+use Rattle.slot_files.specs.Slots.{ComesNext}
+use Rattle.slot_files.proofs.Altering.{keeps_same}
+use Rattle.slot_files.proofs.EachFile.{none_altered}
+use Rattle.slot_files.specs.Contents.{left_in}
 use Rattle.dead_letters.specs.Letters.{record_bytes}
 use Rattle.dead_letters.specs.Queues.{Role, segment, names, position, name_in, joined}
 use Rattle.dead_letters.specs.Segments.{counted_in, OldOrNewSegments}

@@ -1,7 +1,7 @@
 -- The letters of a queue behind an append.
 use Rattle.std.proofs.Common.{◌≡◌, inl, inr, ℕ, suc, ◌+◌, ◌==◌, List, [], ◌∷◌, ◌++◌, length, map, drop, Result, Ok, Err, refl, sym, ap, ◌∙◌, subst, append-nil, append_assoc}
 use Rattle.std.proofs.lemmas.Bool.{cond-true, cond-false, cases_Bool}
-use Rattle.store_disk.specs.declared.faults.Damage.{Damage}
+use Rattle.io_traits.specs.declared.queue_faults.Damage.{Damage}
 use Rattle.dead_letters.specs.Letters.{AreLetters, record_bytes, segment_bytes}
 use Rattle.dead_letters.specs.Queues.{segment, name_in, begins_next, grown}
 use Rattle.dead_letters.specs.Records.{records_in}

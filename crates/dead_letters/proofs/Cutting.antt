@@ -5,13 +5,13 @@ use Rattle.std.specs.Str.{bytes_eq}
 use Rattle.std.proofs.lemmas.Bool.{cond-true}
 use Rattle.std.proofs.lemmas.Slice.Eq.{bytes_eq-Decides}
 use Rattle.io_traits.specs.Folders.{Content}
-use Rattle.store_trait.specs.Images.{Image, IsAtRest, at_rest}
-use Rattle.store_trait.specs.Moments.{NowOrSynced, EachMoment, ReadsBeside, ImagesTell}
-use Rattle.store_trait.specs.declared.stores.Store.{Ghosts as StoreWords}
-use Rattle.store_trait.proofs.Moments.{weaker, one_then_other, holds_now}
-use Rattle.store_changes.specs.Changes.{AllRest, HasFirst, KeepsFirst, Alters}
-use Rattle.store_changes.specs.Each.{GoneOrSame, AltersEach, without}
-use Rattle.store_changes.proofs.Altering.{keeps_same}
+use Rattle.io_traits.specs.Images.{Image, IsAtRest, at_rest}
+use Rattle.io_traits.specs.Moments.{NowOrSynced, EachMoment, ReadsBeside, ImagesTell}
+use Rattle.io_traits.specs.declared.stores.Store.{Ghosts as StoreWords}
+use Rattle.io_traits.proofs.Moments.{weaker, one_then_other, holds_now}
+use Rattle.slot_files.specs.Changes.{AllRest, HasFirst, KeepsFirst, Alters}
+use Rattle.slot_files.specs.Each.{GoneOrSame, AltersEach, without}
+use Rattle.slot_files.proofs.Altering.{keeps_same}
 use Rattle.dead_letters.specs.Trimming.{IsCut, Trims}
 
 -- ---- what a stop leaves

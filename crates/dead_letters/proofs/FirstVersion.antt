@@ -8,24 +8,24 @@ use Rattle.std.proofs.lemmas.List.{take_all}
 use Rattle.std.proofs.lemmas.Slice.Eq.{bytes_eq-Decides}
 use Rattle.io_traits.specs.Folders.{Content}
 use Rattle.io_traits.specs.Reads.{bytes_of, file_length}
-use Rattle.store_trait.specs.Images.{Image, FileImage, IsAtRest, at_rest}
+use Rattle.io_traits.specs.Images.{Image, FileImage, IsAtRest, at_rest}
 use Rattle.crc_frame.specs.Slots.{is_slot}
-use Rattle.store_trait.specs.Chance.{NoChance}
-use Rattle.store_trait.specs.Tails.{passes}
-use Rattle.store_trait.specs.Moments.{NowOrSynced, EachMoment, ReadsBeside, ImagesTell}
-use Rattle.store_trait.specs.declared.stores.Store.{Ghosts as StoreWords}
-use Rattle.store_trait.proofs.Moments.{weaker, one_then_other, holds_now}
-use Rattle.store_disk.specs.declared.faults.Damage.{Damage}
-use Rattle.store_changes.specs.Changes.{AllRest, Alters}
-use Rattle.store_changes.specs.Slots.{newest_bytes, ComesNext, first, broken_slot}
-use Rattle.store_changes.proofs.Saying.{by_slot, by_broken}
-use Rattle.position_file.specs.Positions.{recorded_in}
-use Rattle.position_file.specs.declared.recorded.Recorded.{Recorded}
-use Rattle.position_file.specs.declared.recorded.Recorded.TheVariants.{Nothing as NoPosition, Position, Damaged as BadPosition}
-use Rattle.out_files.specs.Views.{Output}
-use Rattle.out_files.specs.Contents.{Holds, left_in, counted_by, counted_in as first_version}
-use Rattle.out_files.specs.Outputs.{IsReady, LeavesHeld as LeavesOutput}
-use Rattle.out_files.proofs.Holding.{held_is_counted, reached}
+use Rattle.io_traits.specs.Chance.{NoChance}
+use Rattle.io_traits.specs.Tails.{passes}
+use Rattle.io_traits.specs.Moments.{NowOrSynced, EachMoment, ReadsBeside, ImagesTell}
+use Rattle.io_traits.specs.declared.stores.Store.{Ghosts as StoreWords}
+use Rattle.io_traits.proofs.Moments.{weaker, one_then_other, holds_now}
+use Rattle.io_traits.specs.declared.queue_faults.Damage.{Damage}
+use Rattle.slot_files.specs.Changes.{AllRest, Alters}
+use Rattle.slot_files.specs.Slots.{newest_bytes, ComesNext, first, broken_slot}
+use Rattle.slot_files.proofs.Saying.{by_slot, by_broken}
+use Rattle.slot_files.specs.Positions.{recorded_in}
+use Rattle.slot_files.specs.declared.recorded.Recorded.{Recorded}
+use Rattle.slot_files.specs.declared.recorded.Recorded.TheVariants.{Nothing as NoPosition, Position, Damaged as BadPosition}
+use Rattle.slot_files.specs.Views.{Output}
+use Rattle.slot_files.specs.Contents.{Holds, left_in, counted_by, counted_in as first_version}
+use Rattle.slot_files.specs.Outputs.{IsReady, LeavesHeld as LeavesOutput}
+use Rattle.slot_files.proofs.Holding.{held_is_counted, reached}
 use Rattle.dead_letters.specs.Queues.{Role, segment, names, position, name_in}
 use Rattle.dead_letters.specs.Segments.{segments, said_by, slot_says, damaged_at_first, counted_in, OldOrNewSegments}
 use Rattle.dead_letters.specs.Found.{Held, bytes_in, held_first, found_by, found}

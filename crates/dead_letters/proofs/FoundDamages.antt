@@ -5,9 +5,9 @@ use Rattle.std.proofs.lemmas.Bool.{cond-true, cond-false, cases_Bool}
 use Rattle.std.proofs.lemmas.Bool.Decides.{nat_tests}
 use Rattle.io_traits.specs.Folders.{Content}
 use Rattle.io_traits.specs.Reads.{bytes_of}
-use Rattle.store_disk.specs.declared.faults.Damage.{Damage}
-use Rattle.out_files.specs.Contents.{damage, counted_in as first_version}
-use Rattle.out_files.proofs.Holding.{damages_differ as outputs_differ}
+use Rattle.io_traits.specs.declared.queue_faults.Damage.{Damage}
+use Rattle.slot_files.specs.Contents.{damage, counted_in as first_version}
+use Rattle.slot_files.proofs.Holding.{damages_differ as outputs_differ}
 use Rattle.dead_letters.specs.Queues.{segment, names, position, name_in}
 use Rattle.dead_letters.specs.Segments.{counted_in}
 use Rattle.dead_letters.specs.Found.{bytes_in, held_in, held_by, held_first, found_by, FoundDamagesDiffer}

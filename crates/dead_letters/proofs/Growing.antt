@@ -11,7 +11,7 @@ use Rattle.std.proofs.lemmas.List.{drop_more, drop_all, drop-drop, take-append-d
 use Rattle.std.proofs.lemmas.Slice.Eq.{bytes_eq-Decides}
 use Rattle.io_traits.specs.Folders.{Content}
 use Rattle.io_traits.specs.Reads.{bytes_of}
-use Rattle.store_changes.specs.Each.{laid, with_more}
+use Rattle.slot_files.specs.Each.{laid, with_more}
 use Rattle.dead_letters.specs.Queues.{Role, segment, names, position, name_in, begins_next, grown, pieces, cut, joined, behind}
 use Rattle.dead_letters.specs.Found.{bytes_in}
 use Rattle.dead_letters.specs.Appends.{with_records}

@@ -9,7 +9,7 @@ use Rattle.std.proofs.lemmas.Bool.Decides.{nat_tests}
 use Rattle.std.proofs.lemmas.List.{map-append, length-map}
 use Rattle.io_traits.specs.Folders.{Content}
 use Rattle.io_traits.specs.Reads.{bytes_of}
-use Rattle.store_changes.specs.Each.{laid}
+use Rattle.slot_files.specs.Each.{laid}
 use Rattle.dead_letters.specs.Letters.{record_bytes}
 use Rattle.dead_letters.specs.Queues.{segment, names, name_in, grown, pieces, cut, joined, behind}
 use Rattle.dead_letters.specs.Segments.{counted_in}

@@ -5,11 +5,12 @@ use Rattle.std.proofs.Math.Seq.{drop-append_seam}
 use Rattle.std.proofs.lemmas.List.{append-nil}
 use Rattle.std.proofs.lemmas.Str.{is_utf8-from_IsUtf8}
 use Rattle.std.proofs.lemmas.Bool.Decides.{nat_tests}
-use Rattle.crc_frame.proofs.Numbers.{IsBytes, IsBytes-take, IsBytes-drop}
-use Rattle.time_instant.specs.Calendar.{IsMoment}
-use Rattle.byte_reader.specs.Fronts.{◌>>=◌, Reads, front_at, run_at, count_bytes, run_bytes, EndIn}
-use Rattle.byte_reader.proofs.Fronts.{chosen, ok_is, run_bytes_again, run_takes, front_takes}
-use Rattle.byte_reader.proofs.Cuts.{bind_err, front_err, run_cut}
+use Rattle.crc_frame.specs.Bytes.{IsBytes}
+use Rattle.crc_frame.proofs.Numbers.{IsBytes-take, IsBytes-drop}
+use Rattle.plain_data.specs.Calendar.{IsMoment}
+use Rattle.crc_frame.specs.Fronts.{◌>>=◌, Reads, front_at, run_at, count_bytes, run_bytes, EndIn}
+use Rattle.crc_frame.proofs.Fronts.{chosen, ok_is, run_bytes_again, run_takes, front_takes}
+use Rattle.crc_frame.proofs.Cuts.{bind_err, front_err, run_cut}
 use Rattle.element_code.specs.Parts.{time_bytes}
 use Rattle.element_code.specs.Faults.{IsRefusedAt}
 use Rattle.element_code.specs.RowBodies.{short_event_at}

@@ -9,13 +9,13 @@ use Rattle.std.specs.Str.{IsUtf8, is_utf8}
 use Rattle.std.proofs.lemmas.Str.{is_utf8-from_IsUtf8, IsUtf8-from_is_utf8}
 use Rattle.std.proofs.lemmas.Bool.Decides.{nat_tests}
 use Rattle.byteorder.specs.Endian.{big_number}
-use Rattle.crc_frame.proofs.Numbers.{IsBytes}
-use Rattle.time_instant.specs.Calendar.{IsMoment, first_moment, last_moment}
+use Rattle.crc_frame.specs.Bytes.{IsBytes}
+use Rattle.plain_data.specs.Calendar.{IsMoment, first_moment, last_moment}
 use Rattle.event_tree.specs.Events.{Ev}
 use Rattle.event_tree.specs.declared.value.Value.TheVariants as v
-use Rattle.byte_reader.specs.Fronts.{◌>>=◌, front_at, run_at, count_bytes, run_bytes}
-use Rattle.byte_reader.proofs.Fronts.{bind_ok, chosen, ok_is, run_again, front_again, front_takes, run_takes, length-count_bytes}
-use Rattle.byte_reader.proofs.Cuts.{bind_err, front_err}
+use Rattle.crc_frame.specs.Fronts.{◌>>=◌, front_at, run_at, count_bytes, run_bytes}
+use Rattle.crc_frame.proofs.Fronts.{bind_ok, chosen, ok_is, run_again, front_again, front_takes, run_takes, length-count_bytes}
+use Rattle.crc_frame.proofs.Cuts.{bind_err, front_err}
 use Rattle.element_code.specs.Parts.{time_bytes, event_spelling}
 use Rattle.element_code.specs.Values.{IsWhole}
 use Rattle.element_code.specs.Reading.{time_in, is_moment, moment_of, event_at}

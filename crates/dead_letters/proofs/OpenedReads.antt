@@ -8,10 +8,10 @@ use Rattle.std.proofs.lemmas.Bool.Decides.{nat_tests}
 use Rattle.std.proofs.lemmas.List.Elements.{All-contains}
 use Rattle.io_traits.specs.Folders.{Content}
 use Rattle.io_traits.specs.Reads.{bytes_of}
-use Rattle.store_trait.specs.Images.{Image, FileImage, at_rest}
-use Rattle.store_trait.specs.declared.stores.Store.{Ghosts as StoreWords}
+use Rattle.io_traits.specs.Images.{Image, FileImage, at_rest}
+use Rattle.io_traits.specs.declared.stores.Store.{Ghosts as StoreWords}
 use Rattle.settings_lines.specs.declared.settings.Policy.{Policy}
-use Rattle.out_files.specs.Contents.{left_in}
+use Rattle.slot_files.specs.Contents.{left_in}
 use Rattle.dead_letters.specs.Queues.{segment, names, name_in}
 use Rattle.dead_letters.specs.Segments.{segments, counted_in}
 use Rattle.dead_letters.specs.Found.{bytes_in, cut_from, held_in, found_by, found}

@@ -3,15 +3,15 @@ use Rattle.std.proofs.Common.{◌≡◌, ◌⊎◌, inl, inr, ⊎_elim, ℕ, ◌
 use Rattle.std.specs.Prelude.{Contains}
 use Rattle.io_traits.specs.Folders.{Content}
 use Rattle.io_traits.specs.Reads.{bytes_of}
-use Rattle.store_trait.specs.Images.{Image, FileImage, IsAtRest, at_rest}
-use Rattle.store_trait.specs.Moments.{MayLeaveNow, NowOrSynced, EachMoment, ReadsBeside, ImagesTell}
-use Rattle.store_trait.specs.declared.stores.Store.{Ghosts as StoreWords}
-use Rattle.store_trait.proofs.Beside.{resting, beside_none}
-use Rattle.store_trait.proofs.Moments.{started, goes_on, weaker, one_then_other, holds_now}
-use Rattle.store_disk.proofs.Looking.{Nothing, nothing_left}
-use Rattle.store_disk.specs.declared.faults.QueueFault.{QueueFault}
-use Rattle.store_changes.specs.Changes.{AllRest, HasFirst}
-use Rattle.out_files.specs.Contents.{left_in}
+use Rattle.io_traits.specs.Images.{Image, FileImage, IsAtRest, at_rest}
+use Rattle.io_traits.specs.Moments.{MayLeaveNow, NowOrSynced, EachMoment, ReadsBeside, ImagesTell}
+use Rattle.io_traits.specs.declared.stores.Store.{Ghosts as StoreWords}
+use Rattle.io_traits.proofs.Beside.{resting, beside_none}
+use Rattle.io_traits.proofs.Moments.{started, goes_on, weaker, one_then_other, holds_now}
+use Rattle.io_traits.proofs.Looking.{Nothing, nothing_left}
+use Rattle.io_traits.specs.declared.queue_faults.QueueFault.{QueueFault}
+use Rattle.slot_files.specs.Changes.{AllRest, HasFirst}
+use Rattle.slot_files.specs.Contents.{left_in}
 use Rattle.dead_letters.specs.Queues.{segment, names, name_in}
 use Rattle.dead_letters.specs.Segments.{counted_in}
 use Rattle.dead_letters.specs.Found.{Held, bytes_in, found}

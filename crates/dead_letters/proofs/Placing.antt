@@ -2,9 +2,9 @@
 use Rattle.std.proofs.Common.{◌≡◌, ◌≤◌, ℕ, suc, ◌+◌, List, [], ◌∷◌, ◌++◌, length, map, take, drop, Result, Ok, Err, refl, sym, ap, ◌∙◌}
 use Rattle.std.proofs.lemmas.List.{append_assoc, append-nil, drop_all, map-append}
 use Rattle.io_traits.specs.Folders.{Content}
-use Rattle.store_disk.specs.declared.faults.Damage.{Damage}
-use Rattle.store_disk.specs.declared.faults.QueueFault.{QueueFault}
-use Rattle.store_disk.specs.declared.faults.QueueFault.TheVariants as f
+use Rattle.io_traits.specs.declared.queue_faults.Damage.{Damage}
+use Rattle.io_traits.specs.declared.queue_faults.QueueFault.{QueueFault}
+use Rattle.io_traits.specs.declared.queue_faults.QueueFault.TheVariants as f
 use Rattle.dead_letters.specs.Queues.{segment, name_in}
 use Rattle.dead_letters.specs.Records.{records_in}
 use Rattle.dead_letters.specs.Found.{bytes_in, fronts_from, in_file, in_front, letters_from, letters_then}

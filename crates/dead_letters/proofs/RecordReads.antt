@@ -8,9 +8,10 @@ use Rattle.std.proofs.lemmas.Bool.Decides.{nat_tests}
 use Rattle.byteorder.specs.Endian.{big_bytes, big_number}
 use Rattle.byteorder.specs.Numbers.{big_from-lt, big_number-reads_back, length-bytes_high_first}
 use Rattle.crc_frame.specs.Crc.{crc32}
-use Rattle.crc_frame.proofs.Numbers.{IsBytes, IsBytes-drop, IsBytes-take, big_bytes-big_number}
-use Rattle.byte_reader.specs.Fronts.{count_bytes}
-use Rattle.byte_reader.proofs.Fronts.{chosen, length-count_bytes}
+use Rattle.crc_frame.specs.Bytes.{IsBytes}
+use Rattle.crc_frame.proofs.Numbers.{IsBytes-drop, IsBytes-take, big_bytes-big_number}
+use Rattle.crc_frame.specs.Fronts.{count_bytes}
+use Rattle.crc_frame.proofs.Fronts.{chosen, length-count_bytes}
 use Rattle.dead_letters.specs.Letters.{letter_body, covered, record_of, record_bytes, segment_bytes, IsLetter, FitsRecord, AreLetters}
 use Rattle.dead_letters.specs.Records.{letter_at, fault, body_length, stored_crc, computed_crc, letter_or, record_at, with_letter, letter_then, records_from, records_in, FaultAs, RecordsAreReadBack, RecordsAreSpelled}
 use Rattle.dead_letters.specs.declared.letter.DeadLetter.{DeadLetter}

@@ -8,8 +8,8 @@ use Rattle.byteorder.specs.Numbers.{big_number-reads_back}
 use Rattle.crc_frame.specs.Crc.{is_checked}
 use Rattle.crc_frame.specs.Slots.{place_of, turn_of, is_slot, next_turn, IsSlotOf}
 use Rattle.crc_frame.proofs.CrcLemmas.{is_checked-append}
-use Rattle.store_changes.specs.Slots.{newest_bytes, ComesNext, next, broken_slot}
-use Rattle.store_changes.proofs.Saying.{by_slot, by_none, by_broken, broken_differs, slot_is_long}
+use Rattle.slot_files.specs.Slots.{newest_bytes, ComesNext, next, broken_slot}
+use Rattle.slot_files.proofs.Saying.{by_slot, by_none, by_broken, broken_differs, slot_is_long}
 use Rattle.dead_letters.specs.Segments.{segments, slot_body, slot_spelling, AreSegments, first_of, last_of, length_of, said_by, slot_says, damaged_at_first, counted_in, HasRoom, DamagesDiffer, CountedHaveRoom}
 use Rattle.dead_letters.specs.declared.segments.Segments.{Segments}
 use Rattle.dead_letters.specs.declared.segments.Counted.TheVariants.{Nothing, Count, Damaged}

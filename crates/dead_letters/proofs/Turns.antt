@@ -4,9 +4,9 @@ use Rattle.std.specs.List.{sum}
 use Rattle.std.proofs.Math.Path.{ap₂}
 use Rattle.std.proofs.lemmas.List.{append_assoc, append-nil, drop_all, take_all}
 use Rattle.io_traits.specs.Folders.{Content}
-use Rattle.store_disk.specs.declared.faults.Damage.{Damage}
-use Rattle.store_disk.specs.declared.faults.QueueFault.{QueueFault}
-use Rattle.store_disk.specs.declared.faults.QueueFault.TheVariants as f
+use Rattle.io_traits.specs.declared.queue_faults.Damage.{Damage}
+use Rattle.io_traits.specs.declared.queue_faults.QueueFault.{QueueFault}
+use Rattle.io_traits.specs.declared.queue_faults.QueueFault.TheVariants as f
 use Rattle.dead_letters.specs.Letters.{record_bytes}
 use Rattle.dead_letters.specs.Queues.{segment, name_in, joined}
 use Rattle.dead_letters.specs.Records.{records_in}

@@ -1,7 +1,7 @@
 -- What an append makes of a queue: which segments leave, which records join, and where.
 use Rattle.std.specs.Prelude.{◌≡◌, ℕ, suc, ◌+◌, ◌==◌, List, [], ◌∷◌, ◌++◌, length, map, drop, All, Ok, if◌then◌else◌, ⊤}
 use Rattle.settings_lines.specs.declared.settings.Policy.{Policy}
-use Rattle.crc_frame.proofs.Numbers.{IsBytes}
+use Rattle.crc_frame.specs.Bytes.{IsBytes}
 use Rattle.dead_letters.specs.Letters.{FitsRecord, AreLetters, record_bytes}
 use Rattle.dead_letters.specs.Queues.{grown}
 use Rattle.dead_letters.specs.Shedding.{shed}

@@ -4,9 +4,9 @@ use Rattle.std.specs.Prelude.{◌<◌, ◌≤◌, ◌^◌, ℕ, ℤ, List, [], �
 use Rattle.std.specs.Str.{IsUtf8}
 use Rattle.byteorder.specs.Endian.{big_bytes}
 use Rattle.crc_frame.specs.Crc.{crc32}
-use Rattle.time_instant.specs.Calendar.{IsMoment}
+use Rattle.plain_data.specs.Calendar.{IsMoment}
 use Rattle.event_tree.specs.Events.{Ev}
-use Rattle.byte_reader.specs.Fronts.{count_bytes, run_bytes}
+use Rattle.crc_frame.specs.Fronts.{count_bytes, run_bytes}
 use Rattle.element_code.specs.Parts.{time_bytes, event_spelling}
 use Rattle.element_code.specs.Values.{IsWhole}
 use Rattle.dead_letters.specs.declared.letter.DeadLetter.{DeadLetter}

@@ -2,12 +2,12 @@
 use Rattle.std.specs.Prelude.{◌≡◌, ◌⊎◌, ◌<◌, ◌^◌, IsTrue, List, ℕ, None, Ok}
 use Rattle.io_traits.specs.Folders.{Content}
 use Rattle.crc_frame.specs.Slots.{is_slot}
-use Rattle.store_trait.specs.Images.{Image}
-use Rattle.store_trait.specs.Chance.{NoChance}
-use Rattle.store_trait.specs.Tails.{passes}
-use Rattle.store_trait.specs.Moments.{MayLeaveNow, NowOrSynced, EachMoment, LeavesBeside}
-use Rattle.store_trait.specs.declared.stores.Store.{Ghosts as StoreWords}
-use Rattle.out_files.specs.Contents.{left_in}
+use Rattle.io_traits.specs.Images.{Image}
+use Rattle.io_traits.specs.Chance.{NoChance}
+use Rattle.io_traits.specs.Tails.{passes}
+use Rattle.io_traits.specs.Moments.{MayLeaveNow, NowOrSynced, EachMoment, LeavesBeside}
+use Rattle.io_traits.specs.declared.stores.Store.{Ghosts as StoreWords}
+use Rattle.slot_files.specs.Contents.{left_in}
 use Rattle.dead_letters.specs.Queues.{segment, names, position, name_in}
 use Rattle.dead_letters.specs.Found.{Held, found}
 use Rattle.dead_letters.specs.Views.{DeadQueue, IsOwn, last_of}

@@ -1,9 +1,9 @@
 -- Where bytes stop being the body of a letter: a place is counted from the first byte.
 use Rattle.std.specs.Prelude.{◌≡◌, ◌↔◌, ◌<◌, ◌≤◌, ◌^◌, ◌+◌, ◌-◌, ℕ, ℤ, List, ◌++◌, length, take, Err}
 use Rattle.std.specs.Str.{IsUtf8}
-use Rattle.crc_frame.proofs.Numbers.{IsBytes}
-use Rattle.time_instant.specs.Calendar.{IsMoment}
-use Rattle.byte_reader.specs.Fronts.{run_bytes, EndIn}
+use Rattle.crc_frame.specs.Bytes.{IsBytes}
+use Rattle.plain_data.specs.Calendar.{IsMoment}
+use Rattle.crc_frame.specs.Fronts.{run_bytes, EndIn}
 use Rattle.element_code.specs.Parts.{time_bytes}
 use Rattle.element_code.specs.Faults.{IsRefusedAt}
 use Rattle.dead_letters.specs.Records.{letter_at}

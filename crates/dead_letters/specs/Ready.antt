@@ -3,12 +3,12 @@ use Rattle.std.specs.Prelude.{◌≡◌, ◌⊎◌, ◌<◌, ◌≤◌, ◌^◌,
 use Rattle.io_traits.specs.Folders.{Content}
 use Rattle.io_traits.specs.Reads.{bytes_of}
 use Rattle.crc_frame.specs.Slots.{is_slot}
-use Rattle.store_trait.specs.Images.{Image, at_rest}
-use Rattle.store_trait.specs.Chance.{NoChance}
-use Rattle.store_trait.specs.Tails.{passes}
-use Rattle.store_trait.specs.Moments.{MayLeaveNow, EachMoment, LeavesBeside, ReadsBeside}
-use Rattle.store_trait.specs.declared.stores.Store.{Ghosts as StoreWords}
-use Rattle.out_files.specs.Contents.{left_in}
+use Rattle.io_traits.specs.Images.{Image, at_rest}
+use Rattle.io_traits.specs.Chance.{NoChance}
+use Rattle.io_traits.specs.Tails.{passes}
+use Rattle.io_traits.specs.Moments.{MayLeaveNow, EachMoment, LeavesBeside, ReadsBeside}
+use Rattle.io_traits.specs.declared.stores.Store.{Ghosts as StoreWords}
+use Rattle.slot_files.specs.Contents.{left_in}
 use Rattle.dead_letters.specs.Queues.{segment, names, name_in}
 use Rattle.dead_letters.specs.Segments.{counted_in}
 use Rattle.dead_letters.specs.Found.{Held, bytes_in, found}

@@ -4,8 +4,8 @@ use Rattle.std.specs.Int.{w64, cast_signed}
 use Rattle.std.specs.Str.{is_utf8}
 use Rattle.byteorder.specs.Endian.{big_number}
 use Rattle.crc_frame.specs.Crc.{crc32}
-use Rattle.crc_frame.proofs.Numbers.{IsBytes}
-use Rattle.byte_reader.specs.Fronts.{◌>>=◌, Reads, front_at, run_at}
+use Rattle.crc_frame.specs.Bytes.{IsBytes}
+use Rattle.crc_frame.specs.Fronts.{◌>>=◌, Reads, front_at, run_at}
 use Rattle.element_code.specs.Reading.{is_moment}
 use Rattle.element_code.specs.RowBodies.{short_event_at}
 use Rattle.dead_letters.specs.Letters.{letter, AreLetters, segment_bytes}

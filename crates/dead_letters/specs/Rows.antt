@@ -1,8 +1,8 @@
 -- Letters with their places in a queue: the segment that has a letter, and how many bytes of that segment stand up to the end of the letter's record.
 use Rattle.std.specs.Prelude.{◌≡◌, ℕ, suc, ◌+◌, List, [], ◌∷◌, ◌++◌, map, Result, Ok, Err, ⊤}
-use Rattle.store_disk.specs.declared.faults.Damage.{Damage}
-use Rattle.store_disk.specs.declared.faults.QueueFault.{QueueFault}
-use Rattle.store_disk.specs.declared.faults.QueueFault.TheVariants as f
+use Rattle.io_traits.specs.declared.queue_faults.Damage.{Damage}
+use Rattle.io_traits.specs.declared.queue_faults.QueueFault.{QueueFault}
+use Rattle.io_traits.specs.declared.queue_faults.QueueFault.TheVariants as f
 use Rattle.dead_letters.specs.Queues.{segment, name_in}
 use Rattle.dead_letters.specs.Records.{records_in}
 use Rattle.dead_letters.specs.Found.{Held, in_file, letters_of}

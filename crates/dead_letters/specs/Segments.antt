@@ -5,8 +5,8 @@ use Rattle.std.specs.Prelude.{◌≡◌, ◌≢◌, ◌<◌, ◌≤◌, ◌^◌,
 use Rattle.byteorder.specs.Endian.{big_bytes, big_number}
 use Rattle.crc_frame.specs.Crc.{crc32}
 use Rattle.crc_frame.specs.Slots.{place_of, turn_of}
-use Rattle.store_trait.specs.Images.{FileImage}
-use Rattle.store_changes.specs.Slots.{said, OldOrNewSaid}
+use Rattle.io_traits.specs.Images.{FileImage}
+use Rattle.slot_files.specs.Slots.{said, OldOrNewSaid}
 use Rattle.dead_letters.specs.declared.segments.Segments.{Segments}
 use Rattle.dead_letters.specs.declared.segments.Counted.{Counted}
 use Rattle.dead_letters.specs.declared.segments.Counted.TheVariants.{Nothing, Count, Damaged}

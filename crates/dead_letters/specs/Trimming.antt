@@ -1,10 +1,10 @@
 -- A folder that is opened, part by part: what does not count of it is removed and cut, and what is open then.
 use Rattle.std.specs.Prelude.{◌≡◌, ◌≢◌, ◌⊎◌, ◌<◌, ◌≤◌, ◌^◌, ◌-◌, ◌++◌, ℕ, Bool, IsTrue, List, [], ◌∷◌, length, map, take, None, option_map, Contains, All, IsSome, Ok}
 use Rattle.io_traits.specs.Folders.{Content}
-use Rattle.store_trait.specs.Images.{Image, at_rest}
-use Rattle.store_trait.specs.declared.stores.Store.{Ghosts as StoreWords}
-use Rattle.store_changes.specs.Changes.{HasFirst}
-use Rattle.out_files.specs.Contents.{counted_in as first_version}
+use Rattle.io_traits.specs.Images.{Image, at_rest}
+use Rattle.io_traits.specs.declared.stores.Store.{Ghosts as StoreWords}
+use Rattle.slot_files.specs.Changes.{HasFirst}
+use Rattle.slot_files.specs.Contents.{counted_in as first_version}
 use Rattle.settings_lines.specs.declared.settings.Policy.{Policy}
 use Rattle.dead_letters.specs.Queues.{segment, position, name_in}
 use Rattle.dead_letters.specs.Found.{bytes_in, found}

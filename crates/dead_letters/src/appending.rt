@@ -4,7 +4,7 @@ ghost use Rattle.std.specs.List.{sum};
 ghost use Rattle.io_traits.specs.Counts.{HasCause};
 ghost use Rattle.io_traits.specs.Reads.{file_length};
 ghost use Rattle.crc_frame.specs.Slots.{place_of};
-ghost use Rattle.store_trait.specs.Moments.{ReadsBeside};
+ghost use Rattle.io_traits.specs.Moments.{ReadsBeside};
 ghost use Rattle.dead_letters.specs.Plans.{IsPlan};
 ghost use Rattle.dead_letters.specs.Ready.{AppendLeaves, IsAppended, IsReady};
 ghost use Rattle.dead_letters.specs.Views.{DeadQueue, IsOwn, behind_append};
@@ -12,8 +12,8 @@ ghost use Rattle.dead_letters.specs.declared.letter.DeadLetter.{DeadLetter as Le
 
 use crate::append_plan::AppendPlan;
 use crate::naming::count_segments;
-use store_changes::{append_each, remove_each};
-use store_disk::{Failed, Store};
+use io_traits::{Failed, Store};
+use slot_files::{append_each, remove_each};
 
 /// Carries out an append: writes the records and syncs, names the segments that count and syncs, and removes
 /// those that left. Takes no memory.

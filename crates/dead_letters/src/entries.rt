@@ -2,8 +2,8 @@
 ghost use Rattle.std.specs.Prelude.{◌≡◌, ◌≤◌, ◌<◌, ◌+◌, ◌^◌, IsTrue, Err, length, take, IfOk, IfErr};
 ghost use Rattle.io_traits.specs.Counts.{HasCause};
 ghost use Rattle.io_traits.specs.Reads.{bytes_of};
-ghost use Rattle.store_trait.specs.Calls.{ChangesNothing};
-ghost use Rattle.store_disk.specs.declared.faults.QueueFault.TheVariants as f;
+ghost use Rattle.io_traits.specs.Calls.{ChangesNothing};
+ghost use Rattle.io_traits.specs.declared.queue_faults.QueueFault.TheVariants as f;
 ghost use Rattle.dead_letters.specs.Found.{Answers, IsNoDamage, bytes_in, fronts_from, in_file, letters_from};
 ghost use Rattle.dead_letters.specs.Letters.{AreLetters, segment_bytes};
 ghost use Rattle.dead_letters.specs.Queues.{name_in, segment};
@@ -16,8 +16,8 @@ use crate::queue::segment_name;
 use crate::records::read_records;
 use crate::rows::{DeadRows, placed};
 use event_tree::{Items, Text};
+use io_traits::{Damage, QueueFault, Store};
 use std::alloc::Global;
-use store_disk::{Damage, QueueFault, Store};
 
 /// The letters in so many bytes of each of these segments, from a number on.
 pub(crate) fn read_letters<S: Store>(

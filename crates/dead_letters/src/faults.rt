@@ -1,6 +1,6 @@
 // The errors of reading and appending dead letters.
+use io_traits::Failed;
 use std::alloc::AllocError;
-use store_disk::Failed;
 
 /// A record of a segment that doesn't read.
 #[derive(Clone, Copy, Debug, PartialEq, Eq)]

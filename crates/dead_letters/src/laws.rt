@@ -11,7 +11,7 @@ ghost use Rattle.dead_letters.specs.Rows.{RowsHaveTheLetters};
 ghost use Rattle.dead_letters.specs.Segments.{CountedHaveRoom, DamagesDiffer};
 ghost use Rattle.dead_letters.specs.Shedding.{FewestSegmentsLeave};
 
-use store_disk::Store;
+use io_traits::Store;
 
 /// The letters of a segment have one spelling, and bytes are the records of at most one list of letters.
 pub fn records_have_one_spelling()

@@ -1,6 +1,6 @@
 // A moment in twelve bytes: the seconds, rounded down, and the nanoseconds since then.
 ghost use Rattle.std.specs.Prelude.{◌≡◌, length};
-ghost use Rattle.time_instant.specs.Calendar.{IsMoment};
+ghost use Rattle.plain_data.specs.Calendar.{IsMoment};
 ghost use Rattle.element_code.specs.Parts.{time_bytes};
 ghost use Rattle.dead_letters.specs.Records.{instant_in};
 

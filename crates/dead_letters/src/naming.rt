@@ -3,18 +3,18 @@ ghost use Rattle.std.specs.Prelude.{◌≡◌, ◌≤◌, IsTrue, IsErr, length,
 ghost use Rattle.io_traits.specs.Counts.{HasCause};
 ghost use Rattle.io_traits.specs.Reads.{bytes_of, file_length};
 ghost use Rattle.crc_frame.specs.Slots.{place_of};
-ghost use Rattle.store_trait.specs.Calls.{ChangesNothing};
-ghost use Rattle.store_trait.specs.Moments.{EachMoment, ReadsBeside};
-ghost use Rattle.store_changes.specs.Changes.{AllRest, Alters};
-ghost use Rattle.store_changes.specs.Slots.{ComesNext};
+ghost use Rattle.io_traits.specs.Calls.{ChangesNothing};
+ghost use Rattle.io_traits.specs.Moments.{EachMoment, ReadsBeside};
+ghost use Rattle.slot_files.specs.Changes.{AllRest, Alters};
+ghost use Rattle.slot_files.specs.Slots.{ComesNext};
 ghost use Rattle.dead_letters.specs.Segments.{AreOrdered, OldOrNewSegments, counted_in, said_by};
 ghost use Rattle.dead_letters.specs.declared.segments.Counted.TheVariants.{Count};
 
 use crate::segment_slot::{SLOT_LEN, segments_of, slot_of};
 use crate::segments::{Counted, Segments};
 use crc_frame::newest;
-use store_changes::{broken_slot, write_slot};
-use store_disk::{Failed, Store};
+use io_traits::{Failed, Store};
+use slot_files::{broken_slot, write_slot};
 
 /// The segments that the file of this name says to count. A missing one says nothing.
 pub fn read_segments<S: Store>(store: &mut S, name: &str) -> Result<Counted, Failed>

@@ -3,10 +3,10 @@ ghost use Rattle.std.specs.Prelude.{◌≡◌, ◌≤◌, ◌<◌, ◌+◌, ◌^
 ghost use Rattle.std.specs.List.{sum};
 ghost use Rattle.io_traits.specs.Counts.{HasCause};
 ghost use Rattle.io_traits.specs.Folders.{folder_start};
-ghost use Rattle.store_trait.specs.Calls.{ChangesNothing};
-ghost use Rattle.store_trait.specs.Moments.{EachMoment, ReadsBeside};
-ghost use Rattle.store_disk.specs.declared.faults.Damage.{Damage as DamageValue};
-ghost use Rattle.store_disk.specs.declared.faults.QueueFault.TheVariants as f;
+ghost use Rattle.io_traits.specs.Calls.{ChangesNothing};
+ghost use Rattle.io_traits.specs.Moments.{EachMoment, ReadsBeside};
+ghost use Rattle.io_traits.specs.declared.queue_faults.Damage.{Damage as DamageValue};
+ghost use Rattle.io_traits.specs.declared.queue_faults.QueueFault.TheVariants as f;
 ghost use Rattle.dead_letters.specs.Appends.{AllFit, size_of};
 ghost use Rattle.dead_letters.specs.Views.{IsOwn, behind_append, holds_all, is_full, sheds};
 ghost use Rattle.dead_letters.specs.Plans.{IsJoining, IsPlan};
@@ -27,10 +27,10 @@ use crate::queue::{pieces, slot_name};
 use crate::rows::DeadRows;
 use crate::shedding::{Shedding, shed, total};
 use event_tree::{Items, Text};
+use io_traits::{QueueFault, Store};
 use settings_lines::Policy;
 use std::alloc::{AllocError, Global};
 use std::marker::Model;
-use store_disk::{QueueFault, Store};
 
 /// A queue of dead letters in a folder of a store: a list of segments, of which a file of two slots names
 /// those that count.

@@ -3,10 +3,10 @@ ghost use Rattle.std.specs.Prelude.{◌≡◌, ◌⊎◌, IsTrue, IsErr, Ok, Err
 ghost use Rattle.io_traits.specs.Counts.{HasCause};
 ghost use Rattle.io_traits.specs.Folders.{folder_start};
 ghost use Rattle.io_traits.specs.Reads.{bytes_of};
-ghost use Rattle.store_trait.specs.Moments.{EachMoment, NowOrSynced, ReadsBeside};
-ghost use Rattle.store_disk.specs.declared.faults.Damage.{Damage as DamageValue};
-ghost use Rattle.store_disk.specs.declared.faults.QueueFault.TheVariants as f;
-ghost use Rattle.store_changes.specs.Changes.{AllRest};
+ghost use Rattle.io_traits.specs.Moments.{EachMoment, NowOrSynced, ReadsBeside};
+ghost use Rattle.io_traits.specs.declared.queue_faults.Damage.{Damage as DamageValue};
+ghost use Rattle.io_traits.specs.declared.queue_faults.QueueFault.TheVariants as f;
+ghost use Rattle.slot_files.specs.Changes.{AllRest};
 ghost use Rattle.dead_letters.specs.Queues.{name_in, names, position, segment};
 ghost use Rattle.dead_letters.specs.Segments.{AreOrdered, counted_in};
 ghost use Rattle.dead_letters.specs.Found.{found};
@@ -20,9 +20,9 @@ use crate::queue::{position_name, segment_name, slot_name};
 use crate::segments::{Counted, Segments};
 use crate::trimming::{cut_back, damaged};
 use event_tree::{Items, Text};
-use out_files::OutFile;
+use io_traits::{Failed, QueueFault, Store};
+use slot_files::OutFile;
 use std::alloc::Global;
-use store_disk::{Failed, QueueFault, Store};
 
 /// What a folder holds, once it is open.
 #[derive(Drop)]

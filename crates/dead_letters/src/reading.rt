@@ -1,12 +1,12 @@
 // The body of a letter, read from the front.
 ghost use Rattle.std.specs.Prelude.{◌≤◌, drop, length, IfOk};
-ghost use Rattle.byte_reader.specs.Gives.{Gives};
+ghost use Rattle.crc_frame.specs.Gives.{Gives};
 ghost use Rattle.element_code.specs.RowBodies.{short_event_at};
 ghost use Rattle.dead_letters.specs.Records.{letter_at, moment_at, text_at};
 
 use crate::letter::{DeadLetter, LENGTH_BYTES};
 use crate::moment::{MOMENT_LEN, moment_in};
-use byte_reader::{Stop, read_front, read_run};
+use crc_frame::{Stop, read_front, read_run};
 use element_code::{ElementFault, decode};
 use event_tree::{Event, Instant, Text};
 use std::alloc::Global;

@@ -6,9 +6,8 @@ ghost use Rattle.dead_letters.specs.declared.faults.ReadFault.TheVariants.{At};
 use crate::faults::{ReadFault, RecordFault};
 use crate::letter::{DeadLetter, LENGTH_BYTES, Letters, RECORD_EXTRA};
 use crate::reading::letter_of;
-use byte_reader::Stop;
 use byteorder::{BigEndian, ByteOrder};
-use crc_frame::crc32;
+use crc_frame::{Stop, crc32};
 use event_tree::Items;
 use std::alloc::Global;
 

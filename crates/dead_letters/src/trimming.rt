@@ -3,11 +3,11 @@ ghost use Rattle.std.specs.Prelude.{◌≡◌, ◌≤◌, ◌⊎◌, ◌+◌, �
 ghost use Rattle.io_traits.specs.Counts.{HasCause};
 ghost use Rattle.io_traits.specs.Folders.{folder_start};
 ghost use Rattle.io_traits.specs.Reads.{bytes_of, file_length};
-ghost use Rattle.store_trait.specs.Calls.{ChangesNothing};
-ghost use Rattle.store_trait.specs.Moments.{EachMoment, ReadsBeside};
-ghost use Rattle.store_disk.specs.declared.faults.Damage.{Damage as DamageValue};
-ghost use Rattle.store_disk.specs.declared.faults.QueueFault.TheVariants as f;
-ghost use Rattle.store_changes.specs.Changes.{AllRest};
+ghost use Rattle.io_traits.specs.Calls.{ChangesNothing};
+ghost use Rattle.io_traits.specs.Moments.{EachMoment, ReadsBeside};
+ghost use Rattle.io_traits.specs.declared.queue_faults.Damage.{Damage as DamageValue};
+ghost use Rattle.io_traits.specs.declared.queue_faults.QueueFault.TheVariants as f;
+ghost use Rattle.slot_files.specs.Changes.{AllRest};
 ghost use Rattle.dead_letters.specs.Queues.{name_in, names, segment};
 ghost use Rattle.dead_letters.specs.Segments.{counted_in};
 ghost use Rattle.dead_letters.specs.Found.{IsNoDamage, bytes_in, found, held_by};
@@ -21,9 +21,9 @@ use crate::opening::OpenedLetters;
 use crate::queue::segment_name;
 use crate::segments::Segments;
 use event_tree::{Items, Text};
+use io_traits::{Damage, Failed, QueueFault, Store};
+use slot_files::{cut_settled, remove_each};
 use std::alloc::Global;
-use store_changes::{cut_settled, remove_each};
-use store_disk::{Damage, Failed, QueueFault, Store};
 
 /// What does not count of a folder.
 #[derive(Drop)]

@@ -1,7 +1,7 @@
 // Letters as bytes.
 ghost use Rattle.std.specs.Prelude.{◌≡◌, ◌+◌, ◌++◌, ◌<◌, ◌^◌, length, OnOk};
 ghost use Rattle.std.specs.Str.{IsUtf8};
-ghost use Rattle.byte_reader.specs.Fronts.{count_bytes, run_bytes};
+ghost use Rattle.crc_frame.specs.Fronts.{count_bytes, run_bytes};
 ghost use Rattle.dead_letters.specs.Letters.{IsLetter, letter_body, record_bytes};
 
 use crate::letter::{DeadLetter, LENGTH_BYTES};
@@ -54,7 +54,7 @@ fn write_text(text: &str, to: &mut Vec<u8>) -> Result<(), AllocError>
     Ok(())
 }
 
-#[tactic(auto, unfolding(byte_reader::specs::Fronts::count_bytes))]
+#[tactic(auto, unfolding(crc_frame::specs::Fronts::count_bytes))]
 fn length_bytes(length: usize) -> [u8; LENGTH_BYTES]
     requires { length < 2 ^ 32 }
     ensures { result ≡ count_bytes length }

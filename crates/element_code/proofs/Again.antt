@@ -3,14 +3,14 @@ use Rattle.std.proofs.Common.{◌≡◌, ℕ, zero, suc, List, [], ◌∷◌, �
 use Rattle.std.proofs.lemmas.List.{append-nil}
 use Rattle.std.specs.Ordering.{is_lt}
 use Rattle.std.proofs.Common.{ℤ}
-use Rattle.time_instant.specs.Calendar.{IsMoment}
+use Rattle.plain_data.specs.Calendar.{IsMoment}
 use Rattle.event_tree.specs.Number.{Num}
 use Rattle.event_tree.specs.Values.{Members, on_values}
 use Rattle.event_tree.specs.Events.{Ev, both}
 use Rattle.event_tree.specs.declared.value.Value.{Value, out-Value}
 use Rattle.event_tree.specs.declared.value.Value.TheVariants as v
-use Rattle.byte_reader.specs.Fronts.{Reads, count_bytes, repeated, run_at}
-use Rattle.byte_reader.proofs.Fronts.{front_again, count_again, run_again}
+use Rattle.crc_frame.specs.Fronts.{Reads, count_bytes, repeated, run_at}
+use Rattle.crc_frame.proofs.Fronts.{front_again, count_again, run_again}
 use Rattle.element_code.specs.Parts.{Part, plain, text, many, count, key, part_bytes, bytes_of, number_bytes, time_bytes, items_parts, members_parts, parts, spelling, object_parts, object_parts_in, event_parts, event_spelling}
 use Rattle.element_code.specs.Values.{IsNumber, IsText, IsAbove, IsValue, AreValues, AreMembers, AreItemsOf, AreMembersOf, IsEventObject, IsWhole}
 use Rattle.element_code.specs.Reading.{leaf_at, is_above, key_at, members_at, list_at, object_at, as_list, as_object, value_at, whole, event_at}

@@ -2,11 +2,11 @@
 use Rattle.std.proofs.Common.{◌≡◌, ℕ, suc, ◌+◌, ◌-◌, ◌<◌, ◌==◌, true, false, List, [], ◌∷◌, length, Result, Ok, Err, Option, Some, refl, sym, ap, ◌∙◌, arith, rules}
 use Rattle.event_tree.specs.Values.{Members}
 use Rattle.event_tree.specs.declared.value.Value.{Value}
-use Rattle.byte_reader.specs.declared.stop.Stop.{Stop}
-use Rattle.byte_reader.specs.declared.stop.Stop.TheVariants.{Left, Memory}
-use Rattle.byte_reader.specs.Gives.{StopsAs}
-use Rattle.byte_reader.specs.Fronts.{◌>>=◌, Reads, repeated}
-use Rattle.byte_reader.proofs.Fronts.{ok_is}
+use Rattle.crc_frame.specs.declared.stop.Stop.{Stop}
+use Rattle.crc_frame.specs.declared.stop.Stop.TheVariants.{Left, Memory}
+use Rattle.crc_frame.specs.Gives.{StopsAs}
+use Rattle.crc_frame.specs.Fronts.{◌>>=◌, Reads, repeated}
+use Rattle.crc_frame.proofs.Fronts.{ok_is}
 use Rattle.element_code.specs.Behind.{behind, done}
 use Rattle.element_code.specs.Reading.{key_at, members_at, object_at, as_list, as_object, value_at, whole, event_at}
 use Rattle.element_code.specs.RowBodies.{origin_at, short_event_at, row, row_at}

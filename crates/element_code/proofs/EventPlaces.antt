@@ -2,14 +2,14 @@
 use Rattle.std.proofs.Common.{◌≡◌, ◌≢◌, ℕ, zero, suc, ◌+◌, ◌<◌, ◌≤◌, ◌^◌, inl, inr, List, [], ◌∷◌, ◌++◌, length, map, Bool, true, false, ◌==◌, None, Ok, Err, if◌then◌else◌, refl, sym, ap, subst, ◌∙◌, arith, rules, append_assoc, length-append}
 use Rattle.std.proofs.lemmas.List.{append-nil}
 use Rattle.std.proofs.lemmas.Str.{IsUtf8-nil}
-use Rattle.crc_frame.proofs.Numbers.{IsBytes}
+use Rattle.crc_frame.specs.Bytes.{IsBytes}
 use Rattle.event_tree.specs.Values.{Members, on_values}
 use Rattle.event_tree.specs.Events.{both}
 use Rattle.event_tree.specs.declared.value.Value.{Value}
 use Rattle.event_tree.specs.declared.value.Value.TheVariants as v
-use Rattle.byte_reader.specs.Fronts.{Reads, count_bytes, number_at, repeated, ◌>>=◌}
-use Rattle.byte_reader.proofs.Fronts.{chosen, count_takes}
-use Rattle.byte_reader.proofs.Cuts.{bind_err, number_err, count_cut}
+use Rattle.crc_frame.specs.Fronts.{Reads, count_bytes, number_at, repeated, ◌>>=◌}
+use Rattle.crc_frame.proofs.Fronts.{chosen, count_takes}
+use Rattle.crc_frame.proofs.Cuts.{bind_err, number_err, count_cut}
 use Rattle.element_code.specs.Parts.{Part, plain, text, many, count, key, bytes_of, items_parts, members_parts, parts, object_parts}
 use Rattle.element_code.specs.Values.{IsValue, AreMembersOf, IsEventObject}
 use Rattle.element_code.specs.Reading.{members_at, list_at, object_at, as_list, as_object, leaf_at, value_at, whole, event_at}

@@ -4,15 +4,15 @@ use Rattle.std.proofs.lemmas.Bool.Decides.{nat_tests}
 use Rattle.std.proofs.lemmas.List.{append-nil}
 use Rattle.std.proofs.lemmas.Str.{IsUtf8-nil}
 use Rattle.std.proofs.lemmas.Int.{ints}
-use Rattle.crc_frame.proofs.Numbers.{IsBytes}
-use Rattle.time_instant.specs.Calendar.{IsMoment}
+use Rattle.crc_frame.specs.Bytes.{IsBytes}
+use Rattle.plain_data.specs.Calendar.{IsMoment}
 use Rattle.event_tree.specs.Number.{Num}
 use Rattle.event_tree.specs.Values.{Members}
 use Rattle.event_tree.specs.declared.value.Value.{Value}
 use Rattle.event_tree.specs.declared.value.Value.TheVariants as v
-use Rattle.byte_reader.specs.Fronts.{EndIn, count_bytes, front_at, run_at, ◌>>=◌}
-use Rattle.byte_reader.proofs.Fronts.{chosen, front_again, front_takes, run_again, run_takes}
-use Rattle.byte_reader.proofs.Cuts.{bind_err, front_err, filled, run_cut}
+use Rattle.crc_frame.specs.Fronts.{EndIn, count_bytes, front_at, run_at, ◌>>=◌}
+use Rattle.crc_frame.proofs.Fronts.{chosen, front_again, front_takes, run_again, run_takes}
+use Rattle.crc_frame.proofs.Cuts.{bind_err, front_err, filled, run_cut}
 use Rattle.element_code.specs.Parts.{Part, plain, text, many, count, key, number_bytes, time_bytes, parts}
 use Rattle.element_code.specs.Values.{IsNumber, IsText, IsValue}
 use Rattle.element_code.specs.Reading.{fits, number_in, time_in, text_in, leaf_at}

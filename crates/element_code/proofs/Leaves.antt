@@ -8,14 +8,14 @@ use Rattle.std.proofs.lemmas.Bool.{false_from_ne_true}
 use Rattle.std.specs.Ordering.{int_eq}
 use Rattle.std.proofs.lemmas.List.{get_or-drop}
 use Rattle.std.proofs.lemmas.Int.{ints, fits_signed_from_abs, to_z_pos, to_z-of_z}
-use Rattle.time_instant.specs.Calendar.{IsMoment}
+use Rattle.plain_data.specs.Calendar.{IsMoment}
 use Rattle.std.proofs.lemmas.Bool.Decides.{Decides-int_eq, nat_tests}
 use Rattle.byteorder.specs.Endian.{big_number}
 use Rattle.event_tree.specs.Number.{Num, least}
 use Rattle.event_tree.specs.declared.value.Value.TheVariants as v
-use Rattle.byte_reader.specs.Fronts.{run_at}
+use Rattle.crc_frame.specs.Fronts.{run_at}
 use Rattle.element_code.specs.Reading.{exact_number, same_number, moment_of, is_moment, text_in, is_above, key_at}
-use Rattle.time_instant.specs.Calendar.{first_moment, last_moment}
+use Rattle.plain_data.specs.Calendar.{first_moment, last_moment}
 use Rattle.event_tree.proofs.Sounds.{both_true}
 
 pub last_byte : (bytes : List ℕ) → big_number 1 (drop 8 bytes) ≡ slice_index bytes 8

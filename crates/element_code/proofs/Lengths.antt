@@ -16,8 +16,8 @@ use Rattle.event_tree.specs.declared.value.Value.TheVariants as v
 use Rattle.event_tree.proofs.Depths.{depth-Null, depth-Bool, depth-Num, depth-Text, depth-Time, depth-List, depth-Object}
 use Rattle.event_tree.proofs.Sizes.{size-Null, size-Bool, size-Num, size-Text, size-Time, size-List, size-Object}
 use Rattle.event_tree.proofs.Sounds.{sound-Null, sound-Bool, sound_number, sound_text, sound_time, sound-List, sound_rises, number_true, text_true, both_true}
-use Rattle.byte_reader.specs.Fronts.{count_bytes}
-use Rattle.byte_reader.proofs.Fronts.{length-count_bytes}
+use Rattle.crc_frame.specs.Fronts.{count_bytes}
+use Rattle.crc_frame.proofs.Fronts.{length-count_bytes}
 use Rattle.element_code.specs.Parts.{plain, text, count, key, part_bytes, bytes_of, number_bytes, time_bytes, items_parts, members_parts, parts, spelling, object_parts, event_spelling}
 use Rattle.element_code.specs.Values.{IsValue, AreValues, AreMembers, AreMembersOf, IsEventObject, IsWhole}
 use Rattle.element_code.proofs.Numbers.{length-number_bytes, length-time_bytes}

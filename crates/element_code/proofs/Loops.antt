@@ -2,10 +2,10 @@
 use Rattle.std.proofs.Common.{◌≡◌, ℕ, suc, ◌-◌, ◌+◌, ◌<◌, List, [], ◌∷◌, ◌++◌, Result, Ok, Option, Some, sym, ap, ◌∙◌, arith}
 use Rattle.event_tree.specs.Values.{Members}
 use Rattle.event_tree.specs.declared.value.Value.{Value}
-use Rattle.byte_reader.specs.declared.stop.Stop.{Stop}
-use Rattle.byte_reader.specs.Gives.{StopsAs}
-use Rattle.byte_reader.specs.Fronts.{◌>>=◌, Reads}
-use Rattle.byte_reader.proofs.Repeats.{with_front, regroup, stops_so}
+use Rattle.crc_frame.specs.declared.stop.Stop.{Stop}
+use Rattle.crc_frame.specs.Gives.{StopsAs}
+use Rattle.crc_frame.specs.Fronts.{◌>>=◌, Reads}
+use Rattle.crc_frame.proofs.Repeats.{with_front, regroup, stops_so}
 use Rattle.element_code.specs.Reading.{key_at, members_at}
 
 module _ (read : Reads Value) (count i : ℕ) (front : Members) (last : Option (List ℕ)) (bytes : List ℕ) (total : Result (Members × List ℕ) ℕ) (lt : i < count) (so_far : with_front front (members_at read last (count - i) bytes) ≡ total) where

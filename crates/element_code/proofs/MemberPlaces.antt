@@ -3,14 +3,14 @@ use Rattle.std.proofs.Common.{◌≡◌, ℕ, zero, suc, ◌+◌, ◌-◌, ◌�
 use Rattle.std.proofs.lemmas.List.{append-nil}
 use Rattle.std.proofs.lemmas.Str.{is_utf8-from_IsUtf8}
 use Rattle.std.specs.Str.{IsUtf8, is_utf8}
-use Rattle.crc_frame.proofs.Numbers.{IsBytes}
+use Rattle.crc_frame.specs.Bytes.{IsBytes}
 use Rattle.event_tree.specs.Values.{on_values}
 use Rattle.event_tree.specs.declared.value.Value.{Value}
 use Rattle.event_tree.specs.declared.value.Value.TheVariants as v
 use Rattle.event_tree.proofs.Sounds.{both_true}
-use Rattle.byte_reader.specs.Fronts.{Reads, count_bytes, run_at, ◌>>=◌}
-use Rattle.byte_reader.proofs.Fronts.{chosen, run_takes, length-count_bytes}
-use Rattle.byte_reader.proofs.Cuts.{bind_err, run_cut}
+use Rattle.crc_frame.specs.Fronts.{Reads, count_bytes, run_at, ◌>>=◌}
+use Rattle.crc_frame.proofs.Fronts.{chosen, run_takes, length-count_bytes}
+use Rattle.crc_frame.proofs.Cuts.{bind_err, run_cut}
 use Rattle.element_code.specs.Parts.{Part, key, part_bytes, members_parts, parts, spelling}
 use Rattle.element_code.specs.Values.{IsText, IsAbove, IsValue, AreMembers}
 use Rattle.element_code.specs.Reading.{is_above, key_at, members_at}

@@ -5,8 +5,8 @@ use Rattle.event_tree.specs.Values.{Members, on_values}
 use Rattle.event_tree.specs.Events.{Ev}
 use Rattle.event_tree.specs.declared.value.Value.{Value}
 use Rattle.event_tree.specs.declared.value.Value.TheVariants as v
-use Rattle.byte_reader.specs.Fronts.{count_bytes, number_at, run_at}
-use Rattle.byte_reader.proofs.Fronts.{count_again, run_again, ok_is}
+use Rattle.crc_frame.specs.Fronts.{count_bytes, number_at, run_at}
+use Rattle.crc_frame.proofs.Fronts.{count_again, run_again, ok_is}
 use Rattle.element_code.specs.Parts.{Part, plain, text, many, count, key, part_bytes, number_bytes, time_bytes, items_parts, members_parts, parts, object_parts, event_parts}
 use Rattle.element_code.specs.Values.{IsValue, AreValues, AreMembers, IsEventObject, IsWhole}
 use Rattle.element_code.proofs.Numbers.{length-number_bytes, length-time_bytes}

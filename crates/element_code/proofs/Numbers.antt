@@ -12,13 +12,14 @@ use Rattle.std.proofs.lemmas.Int.{ints, to_z-of_z, of_z-to_z}
 use Rattle.std.proofs.Math.Facts.{sfits_to_z, Fits-of_lt}
 use Rattle.byteorder.specs.Endian.{big_bytes, big_number}
 use Rattle.byteorder.specs.Numbers.{big_from-lt, big_number-reads_back}
-use Rattle.crc_frame.proofs.Numbers.{IsBytes, IsBytes-drop, big_bytes-big_number}
-use Rattle.time_instant.specs.Calendar.{IsMoment, first_moment, last_moment}
+use Rattle.crc_frame.specs.Bytes.{IsBytes}
+use Rattle.crc_frame.proofs.Numbers.{IsBytes-drop, big_bytes-big_number}
+use Rattle.plain_data.specs.Calendar.{IsMoment, first_moment, last_moment}
 use Rattle.event_tree.proofs.Sounds.{first, second as second_true}
 use Rattle.event_tree.specs.Number.{Num, IsLeast, least}
 use Rattle.event_tree.specs.declared.value.Value.{Value}
 use Rattle.event_tree.specs.declared.value.Value.TheVariants as v
-use Rattle.byte_reader.proofs.Fronts.{chosen, length-big_bytes}
+use Rattle.crc_frame.proofs.Fronts.{chosen, length-big_bytes}
 use Rattle.element_code.specs.Parts.{number_bytes, time_bytes, second}
 use Rattle.element_code.specs.Values.{IsNumber}
 use Rattle.element_code.specs.Reading.{number_in, exact_number, same_number, time_in, moment_of, is_moment, text_in}

@@ -1,8 +1,8 @@
 -- Bytes are refused at one place at most.
 use Rattle.std.proofs.Common.{◌≡◌, ℕ, ◌+◌, ◌<◌, ◌≤◌, ◌^◌, ◌⊎◌, inl, inr, List, [], ◌∷◌, ◌++◌, length, refl, sym, ap, subst, ◌∙◌, append_assoc, length-append, arith, rules}
 use Rattle.std.proofs.lemmas.List.{append-nil, nil_from_length}
-use Rattle.byte_reader.specs.Fronts.{count_bytes, run_at}
-use Rattle.byte_reader.proofs.Fronts.{run_again, length-count_bytes, ok_is}
+use Rattle.crc_frame.specs.Fronts.{count_bytes, run_at}
+use Rattle.crc_frame.proofs.Fronts.{run_again, length-count_bytes, ok_is}
 use Rattle.element_code.specs.Parts.{Part, plain, text, many, count, key, part_bytes, bytes_of, event_parts, event_spelling}
 use Rattle.event_tree.specs.Events.{Ev}
 use Rattle.element_code.specs.Values.{IsWhole}

@@ -3,8 +3,8 @@ use Rattle.std.proofs.Common.{◌≡◌, ℕ, zero, suc, List, [], ◌∷◌, �
 use Rattle.event_tree.specs.Values.{Members, on_values}
 use Rattle.event_tree.specs.declared.value.Value.{Value}
 use Rattle.event_tree.specs.declared.value.Value.TheVariants as v
-use Rattle.byte_reader.specs.Fronts.{count_bytes, repeated}
-use Rattle.byte_reader.proofs.Fronts.{ok_is}
+use Rattle.crc_frame.specs.Fronts.{count_bytes, repeated}
+use Rattle.crc_frame.proofs.Fronts.{ok_is}
 use Rattle.element_code.specs.Parts.{Part, count, bytes_of, items_parts, members_parts, parts}
 use Rattle.element_code.specs.Values.{IsValue, AreValues, AreMembers, AreMembersOf}
 use Rattle.element_code.specs.Reading.{value_at, members_at, object_at}

@@ -1,7 +1,7 @@
 -- The equations of parts, one for each variant, and what values are in each.
 use Rattle.std.proofs.Common.{◌≡◌, ℕ, zero, suc, List, [], ◌∷◌, ◌++◌, length, map, Bool, ℤ, if◌then◌else◌, refl, sym, ap, subst, ◌∙◌, append_assoc}
 use Rattle.std.proofs.lemmas.List.{length-map}
-use Rattle.time_instant.specs.Calendar.{IsMoment}
+use Rattle.plain_data.specs.Calendar.{IsMoment}
 use Rattle.event_tree.specs.Number.{Num}
 use Rattle.event_tree.specs.Values.{Members, on_values}
 use Rattle.event_tree.specs.declared.value.Value.{Value, out-Value}

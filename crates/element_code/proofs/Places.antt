@@ -1,10 +1,10 @@
 -- Where bytes stop being a value, items, members or an event: the place at which reading them stops.
 use Rattle.std.proofs.Common.{◌≡◌, ℕ, zero, suc, ◌≤◌, inl, inr, List, [], ◌∷◌, ◌++◌, length, map, Ok, Err, refl, sym, ap, subst, ◌∙◌, arith, rules, length-append}
 use Rattle.std.proofs.lemmas.List.{append-nil}
-use Rattle.crc_frame.proofs.Numbers.{IsBytes}
+use Rattle.crc_frame.specs.Bytes.{IsBytes}
 use Rattle.event_tree.specs.declared.value.Value.{Value}
-use Rattle.byte_reader.specs.Fronts.{Reads, repeated, ◌>>=◌}
-use Rattle.byte_reader.proofs.Cuts.{bind_err}
+use Rattle.crc_frame.specs.Fronts.{Reads, repeated, ◌>>=◌}
+use Rattle.crc_frame.proofs.Cuts.{bind_err}
 use Rattle.element_code.specs.Parts.{Part, items_parts, parts, spelling}
 use Rattle.element_code.specs.Values.{IsValue, AreValues}
 use Rattle.element_code.proofs.Sound.{IsSound}

@@ -9,7 +9,7 @@ use Rattle.std.specs.declared.cmp.Ordering.TheVariants.{Less, Equal}
 use Rattle.plain_data.specs.Keys.{text_cmp}
 use Rattle.event_tree.specs.Values.{Members}
 use Rattle.event_tree.specs.declared.value.Value.TheVariants as v
-use Rattle.byte_reader.proofs.Cuts.{zeros, length-zeros}
+use Rattle.crc_frame.proofs.Cuts.{zeros, length-zeros}
 use Rattle.element_code.specs.Values.{IsText, IsAbove, IsValue, AreMembers}
 use Rattle.element_code.proofs.PartsOf.{null_value}
 

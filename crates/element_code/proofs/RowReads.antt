@@ -4,11 +4,11 @@ use Rattle.std.specs.Str.{IsUtf8, is_utf8}
 use Rattle.std.proofs.lemmas.Str.{is_utf8-from_IsUtf8, IsUtf8-from_is_utf8}
 use Rattle.std.proofs.lemmas.Bool.{false_from_ne_true}
 use Rattle.std.proofs.lemmas.Bool.Decides.{nat_tests}
-use Rattle.crc_frame.proofs.Numbers.{IsBytes}
+use Rattle.crc_frame.specs.Bytes.{IsBytes}
 use Rattle.event_tree.specs.Events.{Ev, IsEvent, event_size}
-use Rattle.byte_reader.specs.Fronts.{◌>>=◌, front_at, number_at, count_bytes, run_bytes}
-use Rattle.byte_reader.proofs.Fronts.{bind_ok, chosen, ok_is, count_again, front_again, length-count_bytes, count_takes, front_takes}
-use Rattle.byte_reader.proofs.Cuts.{bind_err, front_err, number_err}
+use Rattle.crc_frame.specs.Fronts.{◌>>=◌, front_at, number_at, count_bytes, run_bytes}
+use Rattle.crc_frame.proofs.Fronts.{bind_ok, chosen, ok_is, count_again, front_again, length-count_bytes, count_takes, front_takes}
+use Rattle.crc_frame.proofs.Cuts.{bind_err, front_err, number_err}
 use Rattle.element_code.specs.Parts.{event_spelling}
 use Rattle.element_code.specs.Values.{IsWhole}
 use Rattle.element_code.specs.Reading.{event_at}

@@ -4,7 +4,7 @@ use Rattle.std.proofs.lemmas.List.{append-nil}
 use Rattle.std.proofs.lemmas.Bool.Decides.{nat_tests}
 use Rattle.std.specs.Str.{is_utf8}
 use Rattle.std.proofs.lemmas.Str.{IsUtf8-from_is_utf8}
-use Rattle.crc_frame.proofs.Numbers.{IsBytes}
+use Rattle.crc_frame.specs.Bytes.{IsBytes}
 use Rattle.plain_data.proofs.KeyLemmas.{Less-from_is_lt}
 use Rattle.plain_data.specs.Keys.{text_cmp}
 use Rattle.event_tree.specs.Values.{Members, on_values}
@@ -12,8 +12,8 @@ use Rattle.event_tree.specs.Events.{Ev, both}
 use Rattle.event_tree.specs.declared.value.Value.{Value}
 use Rattle.event_tree.specs.declared.value.Value.TheVariants as v
 use Rattle.event_tree.proofs.Sounds.{first, second as second_true}
-use Rattle.byte_reader.specs.Fronts.{Reads, count_bytes, front_at, number_at, repeated, run_at, ◌>>=◌}
-use Rattle.byte_reader.proofs.Fronts.{bind_ok, chosen, ok_is, front_takes, count_takes, run_takes}
+use Rattle.crc_frame.specs.Fronts.{Reads, count_bytes, front_at, number_at, repeated, run_at, ◌>>=◌}
+use Rattle.crc_frame.proofs.Fronts.{bind_ok, chosen, ok_is, front_takes, count_takes, run_takes}
 use Rattle.element_code.specs.Parts.{Part, plain, text, key, part_bytes, bytes_of, number_bytes, time_bytes, items_parts, members_parts, parts, spelling, object_parts, event_parts, event_spelling}
 use Rattle.element_code.specs.Values.{IsText, IsAbove, IsValue, AreValues, AreMembers, AreItemsOf, AreMembersOf, IsWhole}
 use Rattle.element_code.specs.Reading.{fits, number_in, time_in, text_in, leaf_at, is_above, key_at, members_at, list_at, object_at, as_list, as_object, value_at, whole, event_at}

@@ -5,7 +5,7 @@ use Rattle.event_tree.specs.Number.{Num}
 use Rattle.event_tree.specs.Values.{Members, on_values}
 use Rattle.event_tree.specs.declared.value.Value.{Value}
 use Rattle.event_tree.specs.declared.value.Value.TheVariants as v
-use Rattle.byte_reader.specs.Fronts.{count_bytes}
+use Rattle.crc_frame.specs.Fronts.{count_bytes}
 use Rattle.element_code.specs.Parts.{plain, text, key, part_bytes, bytes_of, number_bytes, time_bytes, items_parts, members_parts, parts, spelling}
 use Rattle.element_code.proofs.PartsOf.{bytes_of-append, parts-Null, parts-Bool, parts-Num, parts-Text, parts-Time, parts-List, parts-Object}
 use Rattle.element_code.proofs.Again.{one_part}

@@ -1,6 +1,6 @@
 -- Reading of which nothing is kept: the bytes that are left behind, or how many are left at the place of the fault.
 use Rattle.std.specs.Prelude.{ℕ, List, Result, Ok}
-use Rattle.byte_reader.specs.Fronts.{◌>>=◌}
+use Rattle.crc_frame.specs.Fronts.{◌>>=◌}
 
 -- the bytes behind what is read
 abbrev pub behind : {X : Type 0} → Result (X × List ℕ) ℕ → Result (List ℕ) ℕ

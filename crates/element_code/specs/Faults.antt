@@ -1,7 +1,7 @@
 -- Where bytes stop being the spelling of an event: a place is counted from the first byte.
 use Rattle.std.specs.Prelude.{◌≡◌, ◌≢◌, ℕ, ◌+◌, ◌<◌, ◌≤◌, ◌^◌, ◌⊎◌, List, [], ◌∷◌, ◌++◌, length}
 use Rattle.event_tree.specs.Events.{Ev}
-use Rattle.byte_reader.specs.Fronts.{EndIn}
+use Rattle.crc_frame.specs.Fronts.{EndIn}
 use Rattle.element_code.specs.Parts.{Part, plain, text, many, count, key, part_bytes, bytes_of, event_parts, event_spelling}
 use Rattle.element_code.specs.Values.{IsWhole}
 

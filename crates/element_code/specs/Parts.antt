@@ -8,7 +8,7 @@ use Rattle.event_tree.specs.Events.{Ev}
 use Rattle.event_tree.specs.declared.value.Value.{Value, out-Value}
 use Rattle.event_tree.specs.declared.value.Value.TheOpen.{Value-F}
 use Rattle.event_tree.specs.declared.value.Value.TheFolds.{fold-Value}
-use Rattle.byte_reader.specs.Fronts.{count_bytes, run_bytes}
+use Rattle.crc_frame.specs.Fronts.{count_bytes, run_bytes}
 
 -- What the bytes of an event are made of: a tag with the bytes of a value whose length the tag says; a text, with its tag and its length; the tag of a list or of an object, with its count; the count of an event's object, which has no tag; and a key, with its length.
 pub data Part : Type 0 where

@@ -5,14 +5,14 @@ use Rattle.std.specs.Ordering.{is_lt, int_eq}
 use Rattle.std.specs.Str.{is_utf8}
 use Rattle.byteorder.specs.Endian.{big_number}
 use Rattle.plain_data.specs.Keys.{text_cmp}
-use Rattle.time_instant.specs.Calendar.{first_moment, last_moment}
+use Rattle.plain_data.specs.Calendar.{first_moment, last_moment}
 use Rattle.event_tree.specs.Number.{Num, least}
 use Rattle.event_tree.specs.Values.{Members}
 use Rattle.event_tree.specs.Events.{Ev, both}
 use Rattle.event_tree.specs.declared.value.Value.{Value}
 use Rattle.event_tree.specs.declared.value.Value.TheVariants as v
 use Rattle.element_code.specs.Parts.{null_tag, false_tag, true_tag, number_tag, text_tag, time_tag, list_tag, object_tag}
-use Rattle.byte_reader.specs.Fronts.{◌>>=◌, Reads, front_at, number_at, run_at, repeated}
+use Rattle.crc_frame.specs.Fronts.{◌>>=◌, Reads, front_at, number_at, run_at, repeated}
 
 -- what fits its tag, or the fault at the tag, which stands before the bytes behind it
 abbrev pub fits : List ℕ → Option Value → Result Value ℕ

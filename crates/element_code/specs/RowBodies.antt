@@ -3,7 +3,7 @@
 use Rattle.std.specs.Prelude.{◌≡◌, ◌⊎◌, ℕ, ◌+◌, ◌-◌, ◌==◌, ◌||◌, ◌<◌, ◌≤◌, ◌^◌, nat_lt, Bool, List, [], ◌++◌, length, if◌then◌else◌, Result, Ok, Err}
 use Rattle.std.specs.Str.{IsUtf8, is_utf8}
 use Rattle.event_tree.specs.Events.{Ev}
-use Rattle.byte_reader.specs.Fronts.{◌>>=◌, Reads, front_at, number_at, count_bytes, run_bytes}
+use Rattle.crc_frame.specs.Fronts.{◌>>=◌, Reads, front_at, number_at, count_bytes, run_bytes}
 use Rattle.element_code.specs.Parts.{event_spelling}
 use Rattle.element_code.specs.Values.{IsWhole}
 use Rattle.element_code.specs.Reading.{event_at}

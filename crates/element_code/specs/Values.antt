@@ -4,7 +4,7 @@ use Rattle.std.proofs.Common.{w64, SFits}
 use Rattle.std.specs.Str.{IsUtf8}
 use Rattle.std.specs.declared.cmp.Ordering.TheVariants.{Less}
 use Rattle.plain_data.specs.Keys.{text_cmp}
-use Rattle.time_instant.specs.Calendar.{IsMoment}
+use Rattle.plain_data.specs.Calendar.{IsMoment}
 use Rattle.event_tree.specs.Number.{Num, IsLeast}
 use Rattle.event_tree.specs.Values.{Members}
 use Rattle.event_tree.specs.Events.{Ev}

@@ -8,7 +8,7 @@ ghost use Rattle.element_code.specs.declared.fault.ElementFault.TheVariants.{At}
 
 use crate::fault::ElementFault;
 use crate::reading::event_of;
-use byte_reader::Stop;
+use crc_frame::Stop;
 use event_tree::Event;
 use std::alloc::Global;
 

@@ -1,7 +1,7 @@
 // The encoding of an event: one spelling for each.
 ghost use Rattle.std.specs.Prelude.{◌≡◌, ◌∷◌, ◌++◌, length, OnOk, OnErr};
 ghost use Rattle.event_tree.specs.Events.{IsEvent, event_size};
-ghost use Rattle.byte_reader.specs.Fronts.{count_bytes, run_bytes};
+ghost use Rattle.crc_frame.specs.Fronts.{count_bytes, run_bytes};
 ghost use Rattle.element_code.specs.Parts.{number_tag, text_tag, time_tag, bytes_of, number_bytes, time_bytes, items_bytes, members_bytes, object_parts, spelling, event_spelling};
 ghost use Rattle.element_code.specs.Values.{IsWhole};
 ghost use Rattle.element_code.specs.Adds.{Writes};
@@ -113,7 +113,7 @@ pub(crate) fn add_key(to: &mut Vec<u8>, key: &str) -> Result<(), AllocError>
 }
 
 // A count or a length, of which the lowest four bytes are written.
-#[tactic(auto, unfolding(byte_reader::specs::Fronts::count_bytes))]
+#[tactic(auto, unfolding(crc_frame::specs::Fronts::count_bytes))]
 fn count_of(count: usize) -> [u8; 4]
     ensures { result ≡ count_bytes count }
 {
@@ -126,7 +126,7 @@ fn count_of(count: usize) -> [u8; 4]
 }
 
 // A tag, and a count or a length.
-#[tactic(auto, unfolding(byte_reader::specs::Fronts::count_bytes))]
+#[tactic(auto, unfolding(crc_frame::specs::Fronts::count_bytes))]
 fn head_of(tag: u8, count: usize) -> [u8; 5]
     ensures { result ≡ tag ∷ count_bytes count }
 {

@@ -1,14 +1,14 @@
 // Reading values from the front of bytes.
 ghost use Rattle.std.specs.Prelude.{◌≡◌, ◌≤◌, length, Ok, IfOk, IsTrue};
 ghost use Rattle.plain_data.specs.Members.{AllBelow};
-ghost use Rattle.byte_reader.specs.Fronts.{front_at, number_at, repeated, run_at};
-ghost use Rattle.byte_reader.specs.Gives.{Gives};
+ghost use Rattle.crc_frame.specs.Fronts.{front_at, number_at, repeated, run_at};
+ghost use Rattle.crc_frame.specs.Gives.{Gives};
 ghost use Rattle.element_code.specs.Reading.{fits, number_in, time_in, text_in, leaf_at, is_above, last_key, key_at, members_at, list_at, object_at, value_at, event_at};
 
 use crate::tags;
 use crate::utf8::text_of;
-use byte_reader::{Stop, read_front, read_run, read_u32};
 use byteorder::{BigEndian, ByteOrder};
+use crc_frame::{Stop, read_front, read_run, read_u32};
 use event_tree::{Event, Fields, Instant, Items, Number, Text, Value};
 use std::alloc::Global;
 

@@ -1,7 +1,7 @@
 // Rows of a queue: an event behind the input that it came by.
 ghost use Rattle.std.specs.Prelude.{◌≡◌, ◌≢◌, ◌+◌, ◌++◌, ◌≤◌, length, Ok, Err, OnOk, OnErr, IfOk};
 ghost use Rattle.event_tree.specs.Events.{event_size};
-ghost use Rattle.byte_reader.specs.Gives.{Gives};
+ghost use Rattle.crc_frame.specs.Gives.{Gives};
 ghost use Rattle.element_code.specs.Adds.{Writes};
 ghost use Rattle.element_code.specs.Gives.{IsAt};
 ghost use Rattle.element_code.specs.RowBodies.{RowBody, ReadsEachRow, IsRowRefusedAt, row_spelling, short_run_at, origin_at, short_event_at, row_at};
@@ -11,7 +11,7 @@ use crate::encoding::{add_event, add_key};
 use crate::fault::ElementFault;
 use crate::reading::event_of;
 use crate::utf8::text_of;
-use byte_reader::{Stop, read_front, read_u32};
+use crc_frame::{Stop, read_front, read_u32};
 use event_tree::{Event, Text};
 use std::alloc::{AllocError, Global};
 

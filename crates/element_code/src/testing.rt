@@ -1,6 +1,6 @@
 // Bytes that are tested as `decode` and `decode_row` read them, and of which nothing is made.
 ghost use Rattle.std.specs.Prelude.{◌≡◌, ◌≢◌, ◌↔◌, ◌≤◌, Err, None, IfSome, length, option_map};
-ghost use Rattle.byte_reader.specs.Gives.{Gives};
+ghost use Rattle.crc_frame.specs.Gives.{Gives};
 ghost use Rattle.element_code.specs.Faults.{IsRefusedAt};
 ghost use Rattle.element_code.specs.Gives.{SpellsEvent};
 ghost use Rattle.element_code.specs.Reading.{leaf_at, is_above, key_at, list_at, object_at, value_at, event_at};
@@ -12,7 +12,7 @@ use crate::reading::{INNER_LEVELS, number_from, time_from};
 use crate::row::origin_of;
 use crate::tags;
 use crate::utf8::{is_text, text_of};
-use byte_reader::{Stop, read_front, read_run, read_u32};
+use crc_frame::{Stop, read_front, read_run, read_u32};
 use plain_data::text_order;
 
 /// The place at which bytes stop being the spelling of an event, which is that of the fault that `decode`

@@ -2,8 +2,8 @@
 use Rattle.std.proofs.Common.{◌≡◌, ℕ, ◌<◌, List, [], ◌∷◌, ◌++◌, length, drop, refl, sym, ◌∙◌, arith, Some, Result, Ok, Err, OnOk, is_ok, if◌then◌else◌, length-drop, true, false}
 use Rattle.std.specs.Prelude.{encode_utf8}
 use lib.Utf8.{encode}
-use Rattle.event_json_laws.specs.Strings.{replacement, is_high, is_low, alone, joined}
-use Rattle.event_json_laws.specs.Reading.{At, after_word}
+use Rattle.event_json.specs.Strings.{replacement, is_high, is_low, alone, joined}
+use Rattle.event_json.specs.Reading.{At, after_word}
 
 pub added : {T E : Type 0} (r : Result T E) (old new bytes : List ℕ) → new ≡ (if is_ok r then old ++ bytes else old) → OnOk r (new ≡ old ++ bytes)
 added (Ok x) old new bytes e = e

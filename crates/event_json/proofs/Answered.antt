@@ -2,10 +2,10 @@
 use Rattle.std.proofs.Common.{◌≡◌, ℕ, List, length, Result, Ok, Err, sym, ◌∙◌, ap}
 use Rattle.std.specs.Str.{IsUtf8}
 use Rattle.event_tree.specs.declared.value.Value.{Value}
-use Rattle.event_json_laws.specs.Json.{JsonWithin}
-use Rattle.event_json_laws.specs.Reading.{Fault, At, Deep, read}
-use Rattle.event_json_laws.proofs.Whole.{read_found, read_each}
-use Rattle.event_json_laws.proofs.Places.{stops_at, passes_at}
+use Rattle.event_json.specs.JsonValues.{JsonWithin}
+use Rattle.event_json.specs.Reading.{Fault, At, Deep, read}
+use Rattle.event_json.proofs.Whole.{read_found, read_each}
+use Rattle.event_json.proofs.Places.{stops_at, passes_at}
 use Rattle.event_json.specs.declared.fault.JsonFault.{JsonFault}
 use Rattle.event_json.specs.declared.fault.JsonStop.{JsonStop}
 use Rattle.event_json.specs.declared.fault.JsonStop.TheVariants as stops

@@ -6,8 +6,8 @@ use Rattle.std.proofs.lemmas.List.{append-nil}
 use Rattle.std.proofs.lemmas.Bool.Decides.{nat_tests}
 use Rattle.std.specs.Str.{IsAscii}
 use Rattle.std.proofs.lemmas.Str.{IsAscii-append}
-use Rattle.event_json_laws.specs.Strings.{is_plain, lone, joined, held, hex_of, short_of}
-use Rattle.event_json_laws.specs.Reading.{Fault, At, Deep, ◌>>=◌, Inside, plainly, escaped, digits_in, inside_at, turn, turned}
+use Rattle.event_json.specs.Strings.{is_plain, lone, joined, held, hex_of, short_of}
+use Rattle.event_json.specs.Reading.{Fault, At, Deep, ◌>>=◌, Inside, plainly, escaped, digits_in, inside_at, turn, turned}
 use Rattle.std.proofs.lemmas.Bool.{false_from_ne_true}
 use Rattle.event_json.specs.declared.fault.JsonStop.{JsonStop}
 use Rattle.event_json.specs.declared.fault.JsonStop.TheVariants as stops
@@ -51,12 +51,12 @@ bind_same (Err e) f g h = refl
 digit_step : (bs : List ℕ) (n u : ℕ) (w : Option ℕ) (f : List ℕ) → inside_at bs (digits_in (suc n) u) w f ≡ (hex_at bs >>= λ x. inside_at x.1 (digits_in n (16 * u + x.0)) w f)
 unfolding inside_at
 digit_step [] n u w f = refl
-digit_step (b ∷ bs) n u w f = elim (hex_of b) as (λ o. turned (Rattle.event_json_laws.specs.Reading.digit_turn o (suc n) u w f) (inside_at bs) bs ≡ (hex_behind o bs >>= λ x. inside_at x.1 (digits_in n (16 * u + x.0)) w f)) [ None ↦ refl | Some d ↦ refl ]
+digit_step (b ∷ bs) n u w f = elim (hex_of b) as (λ o. turned (Rattle.event_json.specs.Reading.digit_turn o (suc n) u w f) (inside_at bs) bs ≡ (hex_behind o bs >>= λ x. inside_at x.1 (digits_in n (16 * u + x.0)) w f)) [ None ↦ refl | Some d ↦ refl ]
 
 last_digit : (bs : List ℕ) (u : ℕ) (w : Option ℕ) (f : List ℕ) → inside_at bs (digits_in 0 u) w f ≡ (hex_at bs >>= λ x. inside_at x.1 plainly (held (16 * u + x.0)) (f ++ joined w (16 * u + x.0)))
 unfolding inside_at
 last_digit [] u w f = refl
-last_digit (b ∷ bs) u w f = elim (hex_of b) as (λ o. turned (Rattle.event_json_laws.specs.Reading.digit_turn o 0 u w f) (inside_at bs) bs ≡ (hex_behind o bs >>= λ x. inside_at x.1 plainly (held (16 * u + x.0)) (f ++ joined w (16 * u + x.0)))) [ None ↦ refl | Some d ↦ refl ]
+last_digit (b ∷ bs) u w f = elim (hex_of b) as (λ o. turned (Rattle.event_json.specs.Reading.digit_turn o 0 u w f) (inside_at bs) bs ≡ (hex_behind o bs >>= λ x. inside_at x.1 plainly (held (16 * u + x.0)) (f ++ joined w (16 * u + x.0)))) [ None ↦ refl | Some d ↦ refl ]
 
 abbrev behind_unit : Option ℕ → List ℕ → ℕ × List ℕ → Result (List ℕ × List ℕ) Fault
 behind_unit w f x = inside_at x.1 plainly (held x.0) (f ++ joined w x.0)

@@ -18,7 +18,7 @@ use Rattle.jiff_core.proofs.MarchLemmas.{days_of_years-march_days}
 use Rattle.jiff_core.proofs.DateLemmas.{epoch_day-lt, days_from_civil-day}
 use Rattle.jiff_core.proofs.IsoWeekLemmas.{epoch_day-year}
 use Rattle.jiff_core.proofs.DateTimeLemmas.{civil_nanos-parts, epoch_day-civil_nanos, time_nanos_bound}
-use Rattle.time_instant.specs.Calendar.{IsMoment, first_moment}
+use Rattle.plain_data.specs.Calendar.{IsMoment, first_moment}
 use Rattle.event_json.specs.TimeText.{date_time_text, fraction_text, date_text, clock_text, nine_digits, decimals_of, time_text_of, last_year, last_month, year_of, month_of, day_in_month, nanos_in_day, day_of}
 
 le_is : (a b : ℤ) → a ≤ℤ b → int_le a b ≡ true

@@ -1,6 +1,6 @@
 -- Pairs that were sorted by their keys, those with equal keys in their order, are the same members.
 use Rattle.std.proofs.Common.{◌≡◌, ◌≢◌, ℕ, List, [], ◌∷◌, ◌++◌, Bool, true, false, ◌&&◌, cond, Option, Some, None, Result, Ok, Err, OnOk, refl, sym, ap, subst, ◌∙◌, rules}
-use Rattle.event_json_laws.proofs.Tests.{bool_cases}
+use Rattle.event_json.proofs.Tests.{bool_cases}
 use Rattle.std.specs.Prelude.{not}
 use Rattle.std.specs.List.{filter}
 use Rattle.std.specs.List.Sorted.{IsStableBy, ties}

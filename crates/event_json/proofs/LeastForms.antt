@@ -8,7 +8,7 @@ use Rattle.std.proofs.lemmas.Bool.Decides.{nat_tests, Decides-int_eq}
 use Rattle.event_tree.specs.Number.{Num, IsLeast, least}
 use Rattle.event_tree.specs.NumberTexts.{signed, tens}
 use Rattle.event_tree.proofs.Tens.{tens-ten, tens-add, tens-cancel}
-use Rattle.event_json_laws.proofs.Tests.{bool_cases}
+use Rattle.event_json.proofs.Tests.{bool_cases}
 use Rattle.event_json.specs.LeastForms.{IsValueOf}
 
 sign_of : (m : ℤ) → (negative : Bool) × (m ≡ signed negative (unsigned_abs m))

@@ -5,7 +5,7 @@ use Rattle.plain_data.specs.Members.{insert_member}
 use Rattle.event_tree.specs.Values.{Members}
 use Rattle.event_tree.specs.declared.value.Value.{Value}
 use Rattle.event_tree.specs.declared.value.Value.TheVariants as v
-use Rattle.event_json_laws.specs.Reading.{◌>>=◌, Fault, At, Deep, Reads, skip, spaced_at, after_element, elements_at, group_from, group_at, item_at, entry_at, member_at, list_at, object_at, text_at, scalar_at, node_at, string_at}
+use Rattle.event_json.specs.Reading.{◌>>=◌, Fault, At, Deep, Reads, skip, spaced_at, after_element, elements_at, group_from, group_at, item_at, entry_at, member_at, list_at, object_at, text_at, scalar_at, node_at, string_at}
 use Rattle.event_json.specs.declared.fault.JsonStop.{JsonStop}
 use Rattle.event_json.specs.declared.fault.JsonStop.TheVariants as stops
 use Rattle.event_json.specs.Stops.{Fails}

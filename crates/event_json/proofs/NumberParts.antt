@@ -7,9 +7,9 @@ use Rattle.std.proofs.lemmas.List.{append-nil}
 use Rattle.event_tree.specs.Number.{Num}
 use Rattle.event_tree.specs.NumberTexts.{Decimal, StandsFor, NumberReads, is_digit, AreDigits, digits_front, digits_behind, split_minus, split_sign, is_whole, some_digits, fraction_of, only_digits, exponent_of, decimal_behind, decimal_of}
 use Rattle.event_tree.proofs.DigitRuns.{front_are_digits}
-use Rattle.event_json_laws.specs.Grammar as g
-use Rattle.event_json_laws.proofs.Tests.{bool_cases}
-use Rattle.event_json_laws.proofs.Only.{digit_bounds}
+use Rattle.event_json.specs.Grammar as g
+use Rattle.event_json.proofs.Tests.{bool_cases}
+use Rattle.event_json.proofs.Only.{digit_bounds}
 use Rattle.event_json.proofs.WrittenNumbers.{front_all, behind_all, same_digits}
 use Rattle.event_json.specs.NumberGrammar.{behind_first, is_negative, without_sign, parts_of, IsNumberText}
 

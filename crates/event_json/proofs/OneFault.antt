@@ -4,9 +4,9 @@ use Rattle.std.proofs.lemmas.List.{take-append-drop, take-take}
 use Rattle.std.proofs.lemmas.Bool.{cases_order}
 use Rattle.std.specs.Str.{IsUtf8, IsValidUpTo}
 use Rattle.event_tree.specs.declared.value.Value.{Value}
-use Rattle.event_json_laws.specs.Json.{JsonWithin, Json, IsFront, IsFrontWithin, StopsAt, PassesAt}
-use Rattle.event_json_laws.specs.Reading.{read}
-use Rattle.event_json_laws.proofs.Whole.{read_found, read_each}
+use Rattle.event_json.specs.JsonValues.{JsonWithin, Json, IsFront, IsFrontWithin, StopsAt, PassesAt}
+use Rattle.event_json.specs.Reading.{read}
+use Rattle.event_json.proofs.Whole.{read_found, read_each}
 use Rattle.event_json.specs.declared.fault.JsonFault.{JsonFault}
 use Rattle.event_json.specs.declared.fault.JsonFault.TheVariants.{NotUtf8, At, Deep, Memory}
 use Rattle.event_json.specs.Faults.{IsFault}

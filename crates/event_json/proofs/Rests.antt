@@ -1,10 +1,10 @@
 -- The rests behind blanks, numbers and literals.
 use Rattle.std.proofs.Common.{◌≡◌, ℕ, List, subst, sym, Result, Ok}
 use Rattle.std.specs.Str.{IsAscii}
-use Rattle.event_json_laws.specs.Reading as r
-use Rattle.event_json_laws.specs.Reading.{Fault}
-use Rattle.event_json_laws.proofs.Fronts.{Read, Fronts, IsNumberText, skip_front, number_read, word_read}
-use Rattle.event_json_laws.proofs.Ascii.{space_ascii, number_ascii}
+use Rattle.event_json.specs.Reading as r
+use Rattle.event_json.specs.Reading.{Fault}
+use Rattle.event_json.proofs.GrammarFronts.{Read, Fronts, IsNumberText, skip_front, number_read, word_read}
+use Rattle.event_json.proofs.Ascii.{space_ascii, number_ascii}
 use Rattle.event_json.specs.Stops.{IsRest}
 
 pub space_rest : (bytes : List ℕ) → IsRest bytes (r.skip bytes)

@@ -3,8 +3,8 @@ use Rattle.std.proofs.Common.{◌≡◌, ℕ, suc, ◌+◌, ◌-◌, ◌<◌, �
 use Rattle.std.proofs.lemmas.Bool.Decides.{nat_tests}
 use Rattle.std.proofs.lemmas.List.{append-nil}
 use Rattle.std.proofs.Math.Seq.{drop-cons, drop-length, take-length}
-use Rattle.event_json_laws.specs.Strings.{is_plain}
-use Rattle.event_json_laws.proofs.Tests.{bool_cases}
+use Rattle.event_json.specs.Strings.{is_plain}
+use Rattle.event_json.proofs.Tests.{bool_cases}
 use Rattle.event_json.specs.Json.{escaped}
 use Rattle.event_json.specs.Stops.{plain_run, after_plain_run}
 

@@ -8,10 +8,10 @@ use Rattle.std.proofs.Math.Seq.{take-length, drop-length}
 use Rattle.std.proofs.lemmas.Fmt.{decimal_digit, first_decimal}
 use Rattle.event_tree.specs.Number.{Num, IsLeast}
 use Rattle.event_tree.specs.NumberTexts.{Decimal, is_digit, AreDigits, digits_front, digits_behind, is_whole, decimal_of, decimal_behind, split_minus, number, tens, signed, IsI64, NumberReads}
-use Rattle.event_json_laws.specs.Grammar as g
-use Rattle.event_json_laws.proofs.Tests.{bool_cases}
-use Rattle.event_json_laws.specs.Numbers.{number_of}
-use Rattle.event_json_laws.proofs.NumberLaws.{number_read_some}
+use Rattle.event_json.specs.Grammar as g
+use Rattle.event_json.proofs.Tests.{bool_cases}
+use Rattle.event_json.specs.Numbers.{number_of}
+use Rattle.event_json.proofs.NumberLaws.{number_read_some}
 use Rattle.event_json.proofs.DecimalDigits.{padded_writes, take_digits, drop_digits, length-padded}
 use Rattle.event_json.specs.Json.{zeros, padded, pointed, sign_of, number_text}
 

@@ -4,7 +4,7 @@ use Rattle.std.proofs.lemmas.Bool.{and_parts, cases_lt}
 use Rattle.std.proofs.lemmas.Bool.Decides.{nat_tests}
 use Rattle.std.proofs.lemmas.Str.{IsUtf8-append, IsUtf8-nil, IsUtf8-encode, encode_ascii}
 use lib.Utf8.{low_scalar}
-use Rattle.event_json_laws.specs.Strings.{Piece, plain, short, unit, short_of, hex_of, hex_or_0, alone, held, is_high, is_low, unit_of, IsPiece, ArePieces, piece_bytes, pieces_bytes, pieces_behind, pieces_text}
+use Rattle.event_json.specs.Strings.{Piece, plain, short, unit, short_of, hex_of, hex_or_0, alone, held, is_high, is_low, unit_of, IsPiece, ArePieces, piece_bytes, pieces_bytes, pieces_behind, pieces_text}
 use Rattle.event_json.specs.Json.{hex_digit, escaped}
 
 -- ---- in UTF-8

@@ -14,19 +14,19 @@ use Rattle.std.specs.declared.cmp.Ordering.TheVariants.{Less, Greater}
 use Rattle.plain_data.specs.Keys.{text_cmp, Below}
 use Rattle.plain_data.specs.Members.{Rises, AllBelow, insert_member}
 use Rattle.plain_data.proofs.KeyLemmas.{text_cmp-flip}
-use Rattle.event_json_laws.specs.Strings.{pieces_bytes, pieces_text}
-use Rattle.event_json_laws.specs.Grammar.{Pairs, last_pair, more_pairs, no_members, members, ArePairs, pairs_bytes, pairs_levels, key_bytes}
-use Rattle.event_json_laws.specs.Json.{pairs_members}
+use Rattle.event_json.specs.Strings.{pieces_bytes, pieces_text}
+use Rattle.event_json.specs.Grammar.{Pairs, last_pair, more_pairs, no_members, members, ArePairs, pairs_bytes, pairs_levels, key_bytes}
+use Rattle.event_json.specs.JsonValues.{pairs_members}
 use Rattle.event_json.specs.Json.{members_json}
 use Rattle.event_json.proofs.Jsons.{json-Object}
 use Rattle.event_tree.proofs.Depths.{depth-Text, depth-List, depth-Object}
-use Rattle.event_json_laws.specs.Grammar as g
-use Rattle.event_json_laws.proofs.Ascii.{number_ascii}
+use Rattle.event_json.specs.Grammar as g
+use Rattle.event_json.proofs.Ascii.{number_ascii}
 use Rattle.std.proofs.lemmas.Str.{IsUtf8-from_ascii}
 use Rattle.event_json.specs.Json.{number_text}
-use Rattle.event_json_laws.specs.Numbers.{number_or_text, number_of}
-use Rattle.event_json_laws.specs.Grammar.{Text, spaced, Node, null_word, true_word, false_word, number, string, no_items, items, Elements, last, more, IsNode, AreElements, IsText, node_bytes, elements_bytes, text_bytes, node_levels, elements_levels, text_levels}
-use Rattle.event_json_laws.specs.Json.{node_value, elements_values, text_value}
+use Rattle.event_json.specs.Numbers.{number_or_text, number_of}
+use Rattle.event_json.specs.Grammar.{Text, spaced, Node, null_word, true_word, false_word, number, string, no_items, items, Elements, last, more, IsNode, AreElements, IsText, node_bytes, elements_bytes, text_bytes, node_levels, elements_levels, text_levels}
+use Rattle.event_json.specs.JsonValues.{node_value, elements_values, text_value}
 use Rattle.event_json.specs.Json.{json, quoted, items_json}
 use Rattle.event_json.specs.TimeText.{time_text_of}
 use Rattle.event_json.specs.Untimed.{untimed, untimed_step, ReadsBack}

@@ -2,7 +2,7 @@
 use Rattle.std.specs.Prelude.{◌≡◌, ℕ, List, Result, Ok, Err}
 use Rattle.std.specs.Str.{IsUtf8, IsValidUpTo}
 use Rattle.event_tree.specs.declared.value.Value.{Value}
-use Rattle.event_json_laws.specs.Json.{StopsAt, PassesAt}
+use Rattle.event_json.specs.JsonValues.{StopsAt, PassesAt}
 use Rattle.event_json.specs.declared.fault.JsonFault.{JsonFault}
 use Rattle.event_json.specs.declared.fault.JsonFault.TheVariants.{NotUtf8, At, Deep, Memory}
 

@@ -1,7 +1,7 @@
 -- The one compact JSON text of a value: RFC 8259, with no blank and keys in byte order.
 use Rattle.std.specs.Prelude.{ℕ, zero, suc, ◌+◌, ◌-◌, ◌/◌, ◌%◌, ℤ, pos, negsuc, unsigned_abs, List, [], ◌∷◌, ◌++◌, length, take, drop, map, Bool, true, false, ◌==◌, nat_lt, if◌then◌else◌, flat_map, codes, decimal}
 use Rattle.event_tree.specs.Characters.{backslash, closing_brace, closing_bracket, colon, comma, digit_zero, minus, opening_brace, opening_bracket, point, quote}
-use Rattle.event_json_laws.specs.Characters.{backspace, carriage_return, form_feed, line_feed, small_b, small_f, small_n, small_r, small_t, small_u, tab}
+use Rattle.event_json.specs.Characters.{backspace, carriage_return, form_feed, line_feed, small_b, small_f, small_n, small_r, small_t, small_u, tab}
 use Rattle.event_tree.specs.Number.{Num}
 use Rattle.event_tree.specs.Values.{Members, on_values}
 use Rattle.event_tree.specs.declared.value.Value.{Value}

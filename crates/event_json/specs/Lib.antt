@@ -7,3 +7,9 @@ pub mod NumberGrammar
 pub mod LeastForms
 pub mod Gathered
 pub mod TextLaws
+pub mod Characters
+pub mod Numbers
+pub mod Strings
+pub mod Grammar
+pub mod JsonValues
+pub mod Reading

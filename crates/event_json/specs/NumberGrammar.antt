@@ -3,7 +3,7 @@ use Rattle.std.specs.Prelude.{◌≡◌, ℕ, ◌==◌, ◌||◌, List, [], ◌�
 use Rattle.event_tree.specs.Characters.{minus, plus}
 use Rattle.event_tree.specs.Number.{Num, IsLeast}
 use Rattle.event_tree.specs.NumberTexts.{Decimal, StandsFor, IsI64}
-use Rattle.event_json_laws.specs.Grammar.{Number, IsNumber, number_bytes}
+use Rattle.event_json.specs.Grammar.{Number, IsNumber, number_bytes}
 
 -- what stands behind the first byte
 abbrev pub behind_first : List ℕ → List ℕ

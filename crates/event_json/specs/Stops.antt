@@ -4,8 +4,8 @@ use Rattle.std.specs.Str.{IsAscii}
 use Rattle.event_tree.specs.Characters.{closing_bracket, closing_brace}
 use Rattle.event_tree.specs.Values.{Members}
 use Rattle.event_tree.specs.declared.value.Value.{Value}
-use Rattle.event_json_laws.specs.Strings.{is_plain, is_high, hex_of}
-use Rattle.event_json_laws.specs.Reading.{Fault, At, Deep, ◌>>=◌, Inside, plainly, inside_at, elements_at, item_at, member_at, node_at}
+use Rattle.event_json.specs.Strings.{is_plain, is_high, hex_of}
+use Rattle.event_json.specs.Reading.{Fault, At, Deep, ◌>>=◌, Inside, plainly, inside_at, elements_at, item_at, member_at, node_at}
 use Rattle.event_json.specs.declared.fault.JsonFault.{JsonFault}
 use Rattle.event_json.specs.declared.fault.JsonFault.TheVariants as faults
 use Rattle.event_json.specs.declared.fault.JsonStop.{JsonStop}

@@ -2,8 +2,8 @@
 use Rattle.std.specs.Prelude.{◌≡◌, ◌≢◌, ◌↔◌, ℕ, List, Ok}
 use Rattle.std.specs.Str.{IsUtf8}
 use Rattle.event_tree.specs.declared.value.Value.{Value}
-use Rattle.event_json_laws.specs.Json.{JsonWithin}
-use Rattle.event_json_laws.specs.Reading.{read}
+use Rattle.event_json.specs.JsonValues.{JsonWithin}
+use Rattle.event_json.specs.Reading.{read}
 use Rattle.event_json.specs.declared.fault.JsonFault.{JsonFault}
 use Rattle.event_json.specs.declared.fault.JsonFault.TheVariants.{Memory}
 use Rattle.event_json.specs.Faults.{IsFault}

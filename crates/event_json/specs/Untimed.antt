@@ -2,7 +2,7 @@
 use Rattle.std.specs.Prelude.{ℕ, ◌≤◌, List, [], ◌∷◌, Bool, true, false, ◌&&◌}
 use Rattle.event_tree.specs.Values.{depth}
 use Rattle.event_tree.specs.Sound.{all_true}
-use Rattle.event_json_laws.specs.Json.{JsonWithin}
+use Rattle.event_json.specs.JsonValues.{JsonWithin}
 use Rattle.event_json.specs.TimeText.{time_text_of}
 use Rattle.event_json.specs.Json.{json}
 use Rattle.event_tree.specs.declared.value.Value.{Value}

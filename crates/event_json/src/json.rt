@@ -1,6 +1,6 @@
 // Writing a value as compact JSON.
 ghost use Rattle.std.specs.Prelude.{◌≡◌, ◌<◌, ◌≤◌, length, ◌++◌, OnOk, OnErr, IsUtf8, true};
-ghost use Rattle.time_instant.specs.Calendar.{IsMoment};
+ghost use Rattle.plain_data.specs.Calendar.{IsMoment};
 ghost use Rattle.event_tree.specs.Sound.{is_number, sound, items_sound, members_sound};
 ghost use Rattle.event_json.specs.Untimed.{ReadsBack};
 ghost use Rattle.event_json.specs.Json.{json, quoted, quoted_time, escaped, items_text, members_text, comma_if, number_text, sign_of, pointed_digits, zeros, hex_digit};
@@ -10,8 +10,8 @@ use crate::string::run_length;
 use crate::time::time_text;
 use event_tree::{Number, Text, Value};
 use itoa::Buffer;
+use plain_data::Instant;
 use std::alloc::AllocError;
-use time_instant::Instant;
 
 /// Appends the one compact JSON text of a value (RFC 8259): no blanks, keys in byte order, a time
 /// as its text in quotes, a number as its decimal text.

@@ -1,10 +1,10 @@
 // From bytes to a value.
 ghost use Rattle.std.specs.Prelude.{◌≡◌, [], ◌∷◌, ◌++◌, length, OnOk, IfOk, IfErr};
 ghost use Rattle.std.specs.Str.{IsAscii};
-ghost use Rattle.event_json_laws.specs.Numbers.{number_of as computed_number, number_value as value_of_number};
-ghost use Rattle.event_json_laws.specs.Reading.{skip as skipped, number_at, scalar_at, after_word as behind_word, key_at, after_colon as behind_colon, entry_at, spaced_at, item_at, member_at, elements_at, list_at, object_at, node_at, read as read_all};
+ghost use Rattle.event_json.specs.Numbers.{number_of as computed_number, number_value as value_of_number};
+ghost use Rattle.event_json.specs.Reading.{skip as skipped, number_at, scalar_at, after_word as behind_word, key_at, after_colon as behind_colon, entry_at, spaced_at, item_at, member_at, elements_at, list_at, object_at, node_at, read as read_all};
 ghost use Rattle.plain_data.specs.Members.{insert_member};
-ghost use Rattle.event_json_laws.specs.Json.{JsonWithin};
+ghost use Rattle.event_json.specs.JsonValues.{JsonWithin};
 ghost use Rattle.event_tree.specs.declared.value.Value.{Value};
 ghost use Rattle.event_json.specs.Stops.{Gives, items_at, members_at, fault_at};
 ghost use Rattle.event_json.specs.Faults.{IsFault, IsOnly};
@@ -48,7 +48,7 @@ fn number_value(alloc: Global, spelling: &str) -> Result<Value, AllocError>
     }
 }
 
-#[tactic(auto, unfolding(event_json_laws::specs::Reading::number_at))]
+#[tactic(auto, unfolding(crate::specs::Reading::number_at))]
 fn number(alloc: Global, text: &str) -> Result<(Value, &str), JsonStop>
     ensures { Gives (λ x. (x.0, x.1.now)) result (number_at text.now) }
 {
@@ -242,7 +242,7 @@ fn entry(alloc: Global, text: &str, levels: usize) -> Result<(Text, Value, &str)
     Ok((key, value, rest))
 }
 
-#[tactic(auto, unfolding(event_json_laws::specs::Reading::read))]
+#[tactic(auto, unfolding(crate::specs::Reading::read))]
 fn read_text(alloc: Global, text: &str, levels: usize) -> Result<Value, JsonStop>
     ensures { Gives (λ value. value) result (read_all levels text.now) }
 {

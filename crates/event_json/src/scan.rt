@@ -1,6 +1,6 @@
 // Blanks, numbers and literals, on bytes: what follows them, or where they stop.
 ghost use Rattle.std.specs.Prelude.{◌≡◌, length};
-ghost use Rattle.event_json_laws.specs.Reading.{skip as skipped, skip_digits as skipped_digits, digits as some_digits, after_minus as unsigned, after_sign as unsigned_exponent, whole as whole_part, fraction as fraction_part, exponent as exponent_part, after_number, after_word as behind_word};
+ghost use Rattle.event_json.specs.Reading.{skip as skipped, skip_digits as skipped_digits, digits as some_digits, after_minus as unsigned, after_sign as unsigned_exponent, whole as whole_part, fraction as fraction_part, exponent as exponent_part, after_number, after_word as behind_word};
 ghost use Rattle.event_json.specs.Stops.{Gives};
 
 use crate::fault::JsonStop;
@@ -85,7 +85,7 @@ fn exponent(bytes: &[u8]) -> Result<&[u8], JsonStop>
     }
 }
 
-#[tactic(auto, unfolding(event_json_laws::specs::Reading::after_number))]
+#[tactic(auto, unfolding(crate::specs::Reading::after_number))]
 pub(crate) fn number_end(bytes: &[u8]) -> Result<&[u8], JsonStop>
     ensures { Gives (λ x. x.now) result (after_number bytes.now) }
 {

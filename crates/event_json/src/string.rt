@@ -1,14 +1,14 @@
 // The content of strings, up to the quote.
 ghost use Rattle.std.specs.Prelude.{◌≡◌, ◌≤◌, ◌<◌, ◌++◌, ℕ, slice_index, length, take, drop, string_bytes, OnOk, IfOk, IfErr, IfSome, encode_utf8};
 ghost use Rattle.std.specs.Char.{IsScalar};
-ghost use Rattle.event_json_laws.specs.Strings.{is_plain, is_high, is_low, alone, joined, lone, held as held_unit, replacement};
-ghost use Rattle.event_json_laws.specs.Reading.{plainly, escaped, inside_at, string_at};
+ghost use Rattle.event_json.specs.Strings.{is_plain, is_high, is_low, alone, joined, lone, held as held_unit, replacement};
+ghost use Rattle.event_json.specs.Reading.{plainly, escaped, inside_at, string_at};
 ghost use Rattle.event_json.specs.Stops.{Gives, FailsInside, GoesOn, Passes, IsHeld, IsSpecial, plain_run, after_plain_run, hex_at, unit_at};
 
 use crate::fault::JsonStop;
 use crate::front::{after_byte, rest_of};
 use crate::scan::stopped;
-use event_json_laws::{hex, short};
+use crate::{hex, short};
 use event_tree::Text;
 use std::alloc::{AllocError, Global};
 

@@ -1,10 +1,10 @@
 // The text of a moment by RFC 3339.
 ghost use Rattle.std.specs.Prelude.{◌≡◌, ◌+◌, ◌/◌, ◌%◌, ◌<◌, ◌≤◌, ◌≤ℤ◌, pos, unsigned_abs, take};
-ghost use Rattle.time_instant.specs.Calendar.{IsMoment};
+ghost use Rattle.plain_data.specs.Calendar.{IsMoment};
 ghost use Rattle.event_json.specs.TimeText.{digit, date_text, clock_text, nine_digits, decimals_of, time_text_of, moment_in};
 
 use jiff_core::civil::{Date, DateTime, Time};
-use time_instant::Instant;
+use plain_data::Instant;
 
 /// The text of an instant: a date-time of RFC 3339, section 5.6, in UTC, as
 /// `2024-01-01T00:00:00.000Z`, with three, six or nine decimals, the least that hold its

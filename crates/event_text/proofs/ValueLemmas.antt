@@ -2,7 +2,7 @@
 use Rattle.std.proofs.Common.{◌≡◌, ◌↔◌, ℕ, ℤ, zero, suc, List, [], ◌∷◌, Bool, true, false, Option, Some, None, option_and_then, sym, ap, subst, ◌∙◌, rules, slice_get}
 use Rattle.std.proofs.lemmas.Option.{same_Some}
 use Rattle.std.specs.Str.{IsUtf8}
-use Rattle.time_instant.specs.Calendar.{IsMoment}
+use Rattle.plain_data.specs.Calendar.{IsMoment}
 use Rattle.event_tree.specs.Number.{Num}
 use Rattle.event_tree.specs.Values.{Members}
 use Rattle.event_tree.specs.Sound.{sound, members_sound}

@@ -5,9 +5,8 @@ ghost use Rattle.event_text.specs.Adds.{AddsText};
 ghost use Rattle.event_text.specs.DateFormats.{kind, is_of_day, IsRun, IsCut, part_of, letters_part, format_of, part_in, date_text_of};
 
 use event_json::time_text;
-use plain_data::{Items, Text};
+use plain_data::{Instant, Items, Text};
 use std::alloc::{AllocError, Global};
-use time_instant::Instant;
 
 /// A part of the format of a date, as in `%{+yyyy.MM}`.
 #[derive(Drop)]

@@ -7,10 +7,9 @@ ghost use Rattle.event_text.specs.Shown.{shown, items_shown};
 
 use event_json::{time_text, write_json};
 use event_tree::Value;
-use plain_data::Text;
+use plain_data::{Instant, Text};
 use std::alloc::{AllocError, Global};
 use std::mem;
-use time_instant::Instant;
 
 /// The text that a value is shown by, where a text is wanted: null is the empty text, a text itself,
 /// a time its text, a list its items' texts with a comma between, and a truth value, a number and an

@@ -9,10 +9,9 @@ use crate::date_format::{DatePart, add_date, are_of_day, read_format};
 use crate::path_text::path_in;
 use crate::shown::add_shown;
 use event_tree::{Event, Path, Value};
-use plain_data::{Items, Text};
+use plain_data::{Instant, Items, Text};
 use std::alloc::{AllocError, Global};
 use std::marker::Model;
-use time_instant::Instant;
 
 /// A part of a template.
 #[derive(Drop)]

@@ -3,7 +3,7 @@
 ghost use Rattle.std.specs.Prelude.{◌≡◌, ◌↔◌, ℕ, ℤ, List, [], Bool, true, false, Some, map, slice_get};
 ghost use Rattle.std.specs.Str.{IsUtf8};
 ghost use Rattle.plain_data.specs.Members.{Rises};
-ghost use Rattle.time_instant.specs.Calendar.{IsMoment};
+ghost use Rattle.plain_data.specs.Calendar.{IsMoment};
 ghost use Rattle.event_tree.specs.Number.{Num};
 ghost use Rattle.event_tree.specs.Values.{Members};
 ghost use Rattle.event_tree.specs.Sound.{sound};

@@ -4,7 +4,7 @@ use Rattle.std.specs.Prelude.{int_le, SomeIff}
 use Rattle.std.proofs.lemmas.Int.{ints}
 use Rattle.std.specs.Int.{w128}
 use Rattle.jiff_core.proofs.SignedLemmas.{signed_arith, fits_between}
-use Rattle.time_instant.specs.Calendar.{IsMoment, first_moment, last_moment}
+use Rattle.plain_data.specs.Calendar.{IsMoment, first_moment, last_moment}
 use Rattle.event_times.specs.Moments.{moment_in_years, IsShown}
 
 le_is : (a b : ℤ) → a ≤ℤ b → int_le a b ≡ true

@@ -3,3 +3,4 @@ pub mod DigitSteps
 pub mod MonthNames
 pub mod InYears
 pub mod ItemSteps
+pub mod Unread

@@ -3,3 +3,4 @@ pub mod Zones
 pub mod Reading
 pub mod Moments
 pub mod Iso8601
+pub mod Decoded

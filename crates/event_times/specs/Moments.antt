@@ -1,7 +1,7 @@
 -- The moment that the parts of a time mean: a civil date and a time of day of ISO 8601, on a clock with an offset from UTC.
 use Rattle.std.specs.Prelude.{ℕ, ◌+◌, ◌*◌, ◌^◌, ◌&&◌, nat_le, nat_lt, Bool, if◌then◌else◌, Option, Some, None, option_map, option_and_then, ℤ, pos, neg_ℤ, int_le, ◌≤ℤ◌, ◌+ℤ◌, ◌-ℤ◌, ◌*ℤ◌}
 use Rattle.jiff_core.specs.Calendar.{days_from_civil, days_in_month}
-use Rattle.time_instant.specs.Calendar.{first_moment, last_moment}
+use Rattle.plain_data.specs.Calendar.{first_moment, last_moment}
 use Rattle.event_json.specs.TimeText.{day_nanos}
 use Rattle.event_times.specs.declared.moment.TimeParts.{TimeParts}
 pub use Rattle.event_json.specs.TimeText.{year_of}

@@ -5,7 +5,7 @@ ghost use Rattle.event_times.specs.Iso8601 as spec;
 use crate::item::{TimeField, TimeItem};
 use crate::moment::TimeParts;
 use crate::reading::read_time;
-use time_instant::Instant;
+use plain_data::Instant;
 
 /// The moment that a text of ISO 8601 names, at this offset from UTC, in seconds, where it has none of its own. It is none
 /// exactly where [`iso8601_parts`] reads none of the text, or they mean no moment.

@@ -6,7 +6,7 @@ ghost use Rattle.event_times.specs.Reading as read;
 
 use crate::item::TimeField;
 use jiff_core::civil::{Date, DateTime};
-use time_instant::Instant;
+use plain_data::Instant;
 
 /// The parts of a time, as a text writes them: a civil date and a time of day, and the offset from UTC at which a clock
 /// shows them.

@@ -2,7 +2,7 @@
 use Rattle.std.proofs.Common.{◌≡◌, ℕ, ℤ, zero, suc, ◌≤◌, List, [], ◌∷◌, Bool, true, sym, ap, subst, ◌∙◌, arith}
 use Rattle.std.specs.Bool.{⊤}
 use Rattle.std.specs.Str.{IsUtf8}
-use Rattle.time_instant.specs.Calendar.{IsMoment}
+use Rattle.plain_data.specs.Calendar.{IsMoment}
 use Rattle.plain_data.specs.Members.{Rises}
 use Rattle.event_tree.specs.Number.{Num, IsLeast}
 use Rattle.event_tree.specs.NumberTexts.{IsI64}

@@ -12,7 +12,7 @@ use Rattle.plain_data.specs.Keys.{text_cmp, Below, Ascends}
 use Rattle.plain_data.specs.Members.{Rises, get_member, set_member, insert_member, remove_member}
 use Rattle.plain_data.proofs.KeyLemmas.{order_cases, Less-from_is_lt}
 use Rattle.plain_data.proofs.MemberLemmas.{Rises-insert_member, Rises-set_member, Rises-remove_member}
-use Rattle.time_instant.specs.Calendar.{IsMoment, first_moment, last_moment}
+use Rattle.plain_data.specs.Calendar.{IsMoment, first_moment, last_moment}
 use Rattle.event_tree.specs.Number.{Num, IsLeast}
 use Rattle.event_tree.specs.NumberTexts.{IsI64}
 use Rattle.event_tree.specs.Values.{Members, on_values}

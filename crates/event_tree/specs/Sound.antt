@@ -4,7 +4,7 @@ use Rattle.std.specs.Ordering.{is_lt, int_eq}
 use Rattle.std.specs.Str.{is_utf8}
 use Rattle.std.specs.Map.{keys_of}
 use Rattle.plain_data.specs.Keys.{text_cmp}
-use Rattle.time_instant.specs.Calendar.{first_moment, last_moment}
+use Rattle.plain_data.specs.Calendar.{first_moment, last_moment}
 use Rattle.event_tree.specs.Number.{Num}
 use Rattle.event_tree.specs.Values.{Members, on_values}
 use Rattle.event_tree.specs.declared.value.Value.{Value}

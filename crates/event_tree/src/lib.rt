@@ -36,6 +36,5 @@ pub use fault::{PathFault, PutFault};
 pub use lists::{DeadList, DeadPart, Events, Pairs};
 pub use number::Number;
 pub use path::Path;
-pub use plain_data::{Fields, Items, Names, Text};
-pub use time_instant::Instant;
+pub use plain_data::{Fields, Instant, Items, Names, Text};
 pub use value::Value;

@@ -1,7 +1,7 @@
 // How deep and how large values are, as far as a limit.
 ghost use Rattle.std.specs.Prelude.{◌≡◌, ◌<◌, ◌≤◌, ◌+◌, ◌^◌, length, nat_le, nat_lt, true, IfSome};
 ghost use Rattle.plain_data.specs.Members.{Rises};
-ghost use Rattle.time_instant.specs.Calendar.{IsMoment};
+ghost use Rattle.plain_data.specs.Calendar.{IsMoment};
 ghost use Rattle.event_tree.specs.Values.{depth, items_depth, members_depth};
 ghost use Rattle.event_tree.specs.Sound.{are_texts, is_number, sound, items_sound, members_sound};
 ghost use Rattle.event_tree.specs.Sizes.{size, items_size, members_size, less};
@@ -11,8 +11,7 @@ ghost use Rattle.event_tree.specs.Growth.{room_at_end, TextsWhereRoom};
 use crate::number::Number;
 use crate::place::place_in;
 use crate::value::Value;
-use plain_data::Text;
-use time_instant::Instant;
+use plain_data::{Instant, Text};
 
 fn take_room(room: u64, bytes: u64) -> Option<u64>
     ensures { result ≡ less room bytes }

@@ -3,9 +3,8 @@ ghost use Rattle.std.specs.Prelude.{◌≡◌, ◌↔◌, [], IfOk, IsTrue};
 ghost use Rattle.plain_data.specs.Members.{Rises};
 
 use crate::number::Number;
-use plain_data::{Fields, Items, Text};
+use plain_data::{Fields, Instant, Items, Text};
 use std::alloc::AllocError;
-use time_instant::Instant;
 
 /// A value of an event.
 ///

@@ -7,7 +7,7 @@ use Rattle.event_tree.specs.Paths.{over}
 use Rattle.event_tree.specs.declared.value.Value.{Value, out-Value}
 use Rattle.event_tree.specs.declared.value.Value.TheOpen.{Value-F}
 use Rattle.event_tree.specs.declared.value.Value.TheVariants as v
-use Rattle.event_json_laws.specs.Numbers.{number_of}
+use Rattle.event_json.specs.Numbers.{number_of}
 use Rattle.event_text.specs.Options.{each_in, items}
 use Rattle.event_text.specs.Shown.{shown}
 use Rattle.filter_settings.specs.declared.conversion.Conversion.{Conversion}

@@ -6,7 +6,7 @@ use Rattle.event_tree.specs.Number.{Num}
 use Rattle.event_tree.specs.declared.value.Value.{Value, out-Value}
 use Rattle.event_tree.specs.declared.value.Value.TheOpen.{Value-F}
 use Rattle.event_tree.specs.declared.value.Value.TheVariants as v
-use Rattle.event_json_laws.specs.Numbers.{number_of}
+use Rattle.event_json.specs.Numbers.{number_of}
 use Rattle.event_text.specs.Options.{no_options, each_in}
 use Rattle.event_text.specs.PathReading.{way_in}
 use Rattle.event_text.specs.Template.{moment_of as own_moment}

@@ -16,8 +16,8 @@ use filter_settings::{
     field_named, finish, one_applied, put_at, read_path, read_settings, read_text, read_texts,
     require, set_option, wanted,
 };
+use plain_data::Instant;
 use std::alloc::{AllocError, Global};
-use time_instant::Instant;
 
 /// The filter `date`: the moment that a field writes becomes the event's time.
 pub struct DateFilter {

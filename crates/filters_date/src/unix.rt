@@ -3,7 +3,7 @@ ghost use Rattle.std.specs.Prelude.{◌≡◌, ◌≤◌, ◌^◌, ◌*ℤ◌, p
 ghost use Rattle.filters_date.specs.Dates as spec;
 
 use event_tree::Number;
-use time_instant::Instant;
+use plain_data::Instant;
 
 /// The moment so many units of time after 1970, or before it, where ten to the power `places` nanoseconds are one unit. None
 /// where the number has more decimals than `places`, and Some(None) where the moment is outside the years 0001 to 9999.

@@ -9,7 +9,7 @@ use Rattle.event_tree.specs.Number.{Num}
 use Rattle.event_tree.specs.Paths.{over}
 use Rattle.event_tree.specs.declared.value.Value.{Value}
 use Rattle.event_tree.specs.declared.value.Value.TheVariants as v
-use Rattle.event_json_laws.specs.Numbers.{number_of}
+use Rattle.event_json.specs.Numbers.{number_of}
 use Rattle.filter_settings.specs.Paths.{same_path}
 use Rattle.grok_patterns.specs.declared.expansion.Capture.{Capture}
 use Rattle.grok_patterns.specs.declared.expansion.Expanded.{Expanded}

@@ -4,7 +4,7 @@ use Rattle.std.specs.List.{filter}
 use Rattle.std.specs.List.Sorted.{IsStableBy, ties}
 use Rattle.std.specs.Ordering.{is_lt, is_eq}
 use Rattle.std.specs.declared.cmp.Ordering.TheVariants.{Less, Equal, Greater}
-use Rattle.event_json_laws.proofs.Tests.{bool_cases}
+use Rattle.event_json.proofs.Tests.{bool_cases}
 use Rattle.plain_data.specs.Keys.{text_cmp, same_key}
 use Rattle.plain_data.specs.Members.{Rises, get_member, insert_member, set_member}
 use Rattle.plain_data.proofs.KeyLemmas.{order_cases, text_cmp-self, text_cmp-flip}

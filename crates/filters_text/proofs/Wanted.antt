@@ -3,7 +3,7 @@ use Rattle.std.proofs.Common.{◌≡◌, ℕ, true, false, List, [], ◌∷◌, 
 use Rattle.std.specs.Prelude.{chars, encode_utf8_all}
 use Rattle.std.specs.Str.{IsUtf8}
 use Rattle.std.proofs.lemmas.Str.{encodes-chars}
-use Rattle.kv_text.specs.Pairs.{trimmed}
+use Rattle.filters_text.specs.Pairs.{trimmed}
 use Rattle.filters_text.specs.declared.kv_filter.Kv.{Kv}
 use Rattle.filters_text.specs.Kv.{trimmed_bytes, is_wanted, field_of}
 

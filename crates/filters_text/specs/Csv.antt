@@ -1,6 +1,6 @@
 -- The filter csv, as this project's table of plugins has it.
 use Rattle.std.specs.Prelude.{ℕ, ◌+◌, nat_lt, slice_get, List, [], ◌∷◌, ◌++◌, ◌==◌, ◌&&◌, length, map, Bool, true, false, if◌then◌else◌, codes, bytes_eq, decimal, Option, Some, None, option_and_then, Ok, Err}
-use Rattle.csv_row.specs.Rows.{one_row}
+use Rattle.filters_text.specs.Rows.{one_row}
 use Rattle.event_tree.specs.Events.{Ev, Way, event_at}
 use Rattle.event_tree.specs.Paths.{over}
 use Rattle.event_tree.specs.declared.value.Value.{Value}
@@ -9,7 +9,7 @@ use Rattle.event_text.specs.Options.{no_options}
 use Rattle.event_text.specs.declared.applied.Applied.{Applied}
 use Rattle.config_tree.specs.Joining.{Entries}
 use Rattle.config_tree.specs.declared.tree.SettingValue.{SettingValue}
-use Rattle.decoded_fields.specs.Decoded.{text_of, named}
+use Rattle.event_times.specs.Decoded.{text_of, named}
 use Rattle.filter_settings.specs.Settings.{Made, wanted, with_made, all_set}
 use Rattle.filter_settings.specs.Trying.{Tried, then_try, put_at, finished}
 use Rattle.filter_settings.specs.Convert.{converted}

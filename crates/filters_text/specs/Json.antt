@@ -9,7 +9,7 @@ use Rattle.event_text.specs.Options.{no_options, each_done, tagged}
 use Rattle.event_text.specs.declared.applied.Applied.{Applied}
 use Rattle.config_tree.specs.Joining.{Entries}
 use Rattle.config_tree.specs.declared.tree.SettingValue.{SettingValue}
-use Rattle.decoded_fields.specs.Decoded.{json_in, text_of, named, placed, failure_tags}
+use Rattle.event_times.specs.Decoded.{json_in, text_of, named, placed, failure_tags}
 use Rattle.filter_settings.specs.Settings.{Made, wanted, with_made, next, all_set, needed}
 use Rattle.filter_settings.specs.Trying.{Tried, then_try, all_tried, put_at, finished}
 use Rattle.filter_settings.specs.Readers.{text_of as setting_text, path_of}

@@ -12,13 +12,13 @@ use Rattle.event_text.specs.Options.{no_options, each_done, set_at, with_options
 use Rattle.event_text.specs.declared.applied.Applied.{Applied}
 use Rattle.config_tree.specs.Joining.{Entries}
 use Rattle.config_tree.specs.declared.tree.SettingValue.{SettingValue}
-use Rattle.decoded_fields.specs.Decoded.{text_of, named}
+use Rattle.event_times.specs.Decoded.{text_of, named}
 use Rattle.filter_settings.specs.Settings.{Made, wanted, with_made, all_set}
 use Rattle.filter_settings.specs.Readers.{text_of as setting_text, flag_of, path_of, texts_of}
 use Rattle.filter_settings.specs.Options.{option_set}
-use Rattle.kv_text.specs.Pairs.{pairs_in, trimmed}
+use Rattle.filters_text.specs.Pairs.{pairs_in, trimmed}
 use Rattle.filters_text.specs.Targets.{under}
-use Rattle.kv_text.specs.declared.Splits.{Splits}
+use Rattle.filters_text.specs.declared.kv_text.Splits.{Splits}
 use Rattle.filters_text.specs.declared.kv_filter.Kv.{Kv}
 
 -- a setting that is a set of characters

@@ -4,8 +4,8 @@ ghost use Rattle.filter_settings.specs.Settings.{Gives, Leaves, wanted};
 ghost use Rattle.filter_settings.specs.Trying.{tried};
 ghost use Rattle.filters_text.specs.Csv as spec;
 
-use csv_row::one_row;
-use decoded_fields::{field_path, text_in};
+use crate::one_row;
+use event_times::{field_path, text_in};
 use event_tree::{Event, Items, Names, Path, Text, Value};
 use filter_settings::{
     Applied, Change, Conversion, FromFault, Options, SetByName, SettingValue, Settings, assign,

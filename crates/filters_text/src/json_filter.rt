@@ -5,7 +5,7 @@ ghost use Rattle.filter_settings.specs.Settings.{Gives};
 ghost use Rattle.filter_settings.specs.Trying.{tried};
 ghost use Rattle.filters_text.specs.Json as spec;
 
-use decoded_fields::{failure_tags, json_value, place, text_in};
+use event_times::{failure_tags, json_value, place, text_in};
 use event_tree::{Event, Fields, Path, Text, Value};
 use filter_settings::{
     Applied, FromFault, Options, SetByName, SettingValue, Settings, add_tag, assign, assign_some,

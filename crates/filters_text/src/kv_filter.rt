@@ -5,20 +5,20 @@ ghost use Rattle.std.specs.Str.{chars};
 ghost use Rattle.plain_data.specs.Members.{insert_member};
 ghost use Rattle.event_tree.specs.declared.value.Value.TheVariants as v;
 ghost use Rattle.event_text.specs.Options.{each_done};
-ghost use Rattle.decoded_fields.specs.Decoded.{text_of};
+ghost use Rattle.event_times.specs.Decoded.{text_of};
 ghost use Rattle.filter_settings.specs.Settings.{Gives, Leaves, wanted};
 ghost use Rattle.filters_text.specs.Kv as spec;
-ghost use Rattle.kv_text.specs.Views.{both_chars};
+ghost use Rattle.filters_text.specs.Views.{both_chars};
 
 use crate::target::field_under;
-use decoded_fields::text_in;
+use crate::{Splits, trimmed};
+use event_times::text_in;
 use event_tree::{Event, Fields, Items, Names, Path, Text, Value};
 use filter_settings::{
     Applied, FromFault, Options, SetByName, SettingValue, Settings, assign, assign_some,
     field_named, one_applied, read_flag, read_path, read_settings, read_text, read_texts,
     set_option, try_put,
 };
-use kv_text::{Splits, trimmed};
 use std::alloc::{AllocError, Global};
 
 /// The filter `kv`: the pairs of keys and values that a text writes become fields.

@@ -5,7 +5,7 @@ ghost use Rattle.event_tree.specs.PathTexts.{way_of};
 ghost use Rattle.filter_settings.specs.Paths.{written as written_of};
 ghost use Rattle.filters_text.specs.Targets.{under};
 
-use decoded_fields::field_path;
+use event_times::field_path;
 use event_tree::{Path, Text};
 use filter_settings::written;
 use std::alloc::AllocError;

@@ -6,7 +6,7 @@ use Rattle.filter_settings.specs.Settings.{Made}
 use Rattle.plugin_settings.specs.Read.{input_of}
 use Rattle.plugin_settings.specs.declared.read.Input.{Input}
 use Rattle.plugin_settings.specs.declared.read.Input.TheVariants as i
-use Rattle.position_file.specs.declared.name.PositionOf.TheVariants as position
+use Rattle.slot_files.specs.declared.name.PositionOf.TheVariants as position
 use Rattle.graph_checks.specs.Answers.{Checked, next, of_plugin, all_checked}
 use Rattle.graph_checks.specs.Inputs.{http_address, letters_address, is_many, input_path_met, address_met, outside_met, with_outside, source_met, input_id_met, input_id_next, input_read, input_checked, inputs_checked, inputs_start}
 use Rattle.graph_checks.specs.Linked.{outside_address, outside_read, outside_of}

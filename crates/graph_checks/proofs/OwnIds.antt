@@ -8,7 +8,7 @@ use Rattle.config_tree.specs.declared.tree.Plugin.{Plugin}
 use Rattle.event_flow.specs.Parts.{parts_of}
 use Rattle.foreign_parts.specs.Stocks.{is_known}
 use Rattle.foreign_parts.specs.declared.boxes.BoxKind.TheVariants as kind
-use Rattle.position_file.specs.declared.name.PositionOf.TheVariants as position
+use Rattle.slot_files.specs.declared.name.PositionOf.TheVariants as position
 use Rattle.graph_checks.specs.Answers.{Checked, all_checked, next, of_plugin}
 use Rattle.graph_checks.specs.Boxes.{Stand, box_read, count_of}
 use Rattle.graph_checks.specs.BuiltIn.{built_in}

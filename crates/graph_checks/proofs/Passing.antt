@@ -34,7 +34,7 @@ use Rattle.graph_checks.specs.declared.built_in.BuiltIn.{BuiltIn}
 use Rattle.graph_checks.specs.declared.fault.GraphFault.TheVariants as fault
 use Rattle.graph_checks.specs.declared.walk.Walk.{Walk}
 use Rattle.graph_checks.specs.declared.want.Want.{Want}
-use Rattle.position_file.specs.declared.name.PositionOf.TheVariants as position
+use Rattle.slot_files.specs.declared.name.PositionOf.TheVariants as position
 use Rattle.graph_checks.proofs.Flattened.{plugins_in, conditions_in}
 use Rattle.graph_checks.proofs.Sparing.{counted_more, times_behind}
 

@@ -2,7 +2,7 @@
 use Rattle.std.specs.Prelude.{ℕ, ◌+◌, ◌==◌, List, [], ◌∷◌, ◌++◌, Bool, true, false, if◌then◌else◌, codes, Option, Some, None, Ok, Err}
 use Rattle.std.specs.Fmt.{decimal}
 use Rattle.config_tree.specs.declared.tree.Plugin.{Plugin}
-use Rattle.position_file.specs.declared.name.PositionOf.TheVariants as position
+use Rattle.slot_files.specs.declared.name.PositionOf.TheVariants as position
 use Rattle.plugin_settings.specs.Read.{input_of}
 use Rattle.plugin_settings.specs.declared.read.Input.{Input}
 use Rattle.plugin_settings.specs.declared.read.Input.TheVariants as i

@@ -6,9 +6,9 @@ use Rattle.config_tree.specs.declared.tree.Condition.{Condition}
 use Rattle.config_tree.specs.declared.tree.Statement.{Statement}
 use Rattle.config_tree.specs.declared.fault.FromFault.{FromFault}
 use Rattle.config_tree.specs.declared.fault.FromFault.TheVariants as from
-use Rattle.position_file.specs.Names.{position_name}
-use Rattle.position_file.specs.declared.name.PositionOf.{PositionOf}
-use Rattle.position_file.specs.declared.name.PositionOf.TheVariants as position
+use Rattle.slot_files.specs.Names.{position_name}
+use Rattle.slot_files.specs.declared.name.PositionOf.{PositionOf}
+use Rattle.slot_files.specs.declared.name.PositionOf.TheVariants as position
 use Rattle.foreign_parts.specs.Stocks.{is_known}
 use Rattle.event_flow.specs.Ids as ids
 pub use Rattle.built_plugins.specs.Conditions.{patterns_read}

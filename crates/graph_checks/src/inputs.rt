@@ -11,7 +11,7 @@ use config_tree::Plugin;
 use event_tree::Names;
 use plain_data::Text;
 use plugin_settings::{Input, read_input};
-use position_file::PositionOf;
+use slot_files::PositionOf;
 use std::alloc::{AllocError, Global};
 
 /// What was met so far of the inputs.

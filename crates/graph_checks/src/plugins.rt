@@ -14,7 +14,7 @@ use built_plugins::plugin_id;
 use config_tree::{FromFault, Plugin};
 use foreign_parts::{BoxKind, Boxes};
 use plain_data::Text;
-use position_file::{PositionOf, position_name};
+use slot_files::{PositionOf, position_name};
 use std::alloc::{AllocError, Global};
 
 // The most bytes of the last part of the name of a position file.

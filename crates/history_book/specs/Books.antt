@@ -1,7 +1,7 @@
 -- What a book keeps of what it was told.
 use Rattle.std.specs.Prelude.{◌≡◌, ℕ, List, [], ◌∷◌, ◌++◌, map, Bool, true, false, IsTrue, Option, Some, None, if◌then◌else◌}
-use Rattle.history_laws.specs.Entries.{Entry}
-use Rattle.history_book.specs.Entries.{kept_of}
+use Rattle.history_book.specs.Entries.{Entry}
+use Rattle.history_book.specs.BookEntries.{kept_of}
 use Rattle.history_book.specs.declared.full.Told.{Told}
 
 -- what a book keeps, and whether that is all that it was told

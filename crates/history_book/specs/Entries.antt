@@ -1,41 +1,42 @@
--- The entries of a history that lent entries and kept ones stand for.
-use Rattle.std.specs.Prelude.{map, Option, Some, None}
-use Rattle.persistent_queue.specs.Unread.{told}
-use Rattle.history_laws.specs.Entries.{ParcelAt, Entry, Accept, Mark, Assure, Read, Back, Shed, Deliver, Letters, Ack, Purge, Adopt, Opened}
-use Rattle.history_book.specs.declared.entry.ParcelAt.{ParcelAt as LentParcel}
-use Rattle.history_book.specs.declared.entry.Entry.{Entry as LentEntry}
-use Rattle.history_book.specs.declared.entry.Entry.TheVariants as lent
-use Rattle.history_book.specs.declared.kept.KeptEntry.{KeptEntry}
-use Rattle.history_book.specs.declared.kept.KeptEntry.TheVariants as kept
+-- What a pipeline tells of its steps: one entry for each, in their order.
+use Rattle.std.specs.Prelude.{ℕ, List, Option}
+use Rattle.event_tree.specs.Events.{Ev}
+use Rattle.event_tree.specs.declared.lists.DeadPart.{DeadPart}
+use Rattle.config_tree.specs.declared.tree.Config.{Config}
+use Rattle.settings_lines.specs.declared.settings.Policy.{Policy}
+use Rattle.foreign_parts.specs.declared.filter.Verdict.{Verdict}
+use Rattle.foreign_parts.specs.declared.output.Fate.{Fate}
+use Rattle.foreign_parts.specs.declared.place.Place.{Place}
+use Rattle.event_flow.specs.Places.{Draws}
+use Rattle.queue_files.specs.Found.{Row}
 
-abbrev pub parcel_of : Option LentParcel → Option ParcelAt
-parcel_of None = None
-parcel_of (Some p) = Some (record { place = p.place; number = p.number })
+-- a parcel: its place among those that its taker was given since the pipeline was last opened, and its number
+pub record ParcelAt : Type 0 where
+  pub place : ℕ
+  pub number : ℕ
 
-abbrev pub entry_of : LentEntry → Entry
-entry_of (lent.Accept input parcel number event) = Accept input (parcel_of parcel) number event.now
-entry_of (lent.Mark front) = Mark front
-entry_of (lent.Assure input front) = Assure input front
-entry_of (lent.Read batch generation numbers) = Read batch generation numbers.now
-entry_of (lent.Back batch verdicts) = Back batch verdicts.now
-entry_of (lent.Shed batch older newer) = Shed batch older newer.now
-entry_of (lent.Deliver batch place events fates) = Deliver batch place.now events.now fates.now
-entry_of (lent.Letters batch letters) = Letters batch letters.now
-entry_of (lent.Ack batch) = Ack batch
-entry_of (lent.Purge page) = Purge page
-entry_of (lent.Adopt generation config draws) = Adopt generation config.now draws.now
-entry_of (lent.Opened rows limit policy) = Opened (map told rows.now) limit policy
-
-abbrev pub kept_of : KeptEntry → Entry
-kept_of (kept.Accept input parcel number event) = Accept input (parcel_of parcel) number event
-kept_of (kept.Mark front) = Mark front
-kept_of (kept.Assure input front) = Assure input front
-kept_of (kept.Read batch generation numbers) = Read batch generation numbers
-kept_of (kept.Back batch verdicts) = Back batch verdicts
-kept_of (kept.Shed batch older newer) = Shed batch older newer
-kept_of (kept.Deliver batch place events fates) = Deliver batch place events fates
-kept_of (kept.Letters batch letters) = Letters batch letters
-kept_of (kept.Ack batch) = Ack batch
-kept_of (kept.Purge page) = Purge page
-kept_of (kept.Adopt generation config draws) = Adopt generation config draws
-kept_of (kept.Opened rows limit policy) = Opened (map told rows) limit policy
+pub data Entry : Type 0 where
+  -- an event came by an input, from a parcel or not, and was written to the queue as the row of this number
+  Accept : (input : ℕ) (parcel : Option ParcelAt) (number : ℕ) (event : Ev) → Entry
+  -- all rows up to this number are settled
+  Mark : (front : ℕ) → Entry
+  -- an input was told that its events up to this number are settled
+  Assure : (input front : ℕ) → Entry
+  -- a batch of these rows was read, to go by the configuration of this generation
+  Read : (batch generation : ℕ) (numbers : List ℕ) → Entry
+  -- it went through the filters, whose boxes gave these verdicts
+  Back : (batch : ℕ) (verdicts : List Verdict) → Entry
+  -- so many of the oldest segments of the dead letters leave, and of the letters that come next those at these places
+  Shed : (batch older : ℕ) (newer : List ℕ) → Entry
+  -- events were delivered to a place, which took or rejected each
+  Deliver : (batch : ℕ) (at : Place) (events : List Ev) (fates : List Fate) → Entry
+  -- letters were delivered to the dead letter queue
+  Letters : (batch : ℕ) (letters : List DeadPart) → Entry
+  -- the rows of a batch are acknowledged
+  Ack : (batch : ℕ) → Entry
+  -- a page of the queue was removed
+  Purge : (page : ℕ) → Entry
+  -- from now on batches go by this configuration
+  Adopt : (generation : ℕ) (config : Config) (draws : Draws) → Entry
+  -- the pipeline was opened: its queue held these rows, and this is what its dead letter queue may hold
+  Opened : (rows : List Row) (limit : ℕ) (policy : Policy) → Entry

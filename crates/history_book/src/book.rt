@@ -1,14 +1,14 @@
 // The trait of books that pipelines tell their steps to.
 ghost use Rattle.std.specs.Prelude.{[], ◌∷◌};
 ghost use Rattle.io_traits.specs.Telling.{Grows};
-ghost use Rattle.history_book.specs.Entries.{entry_of};
+ghost use Rattle.history_book.specs.BookEntries.{entry_of};
 
 use crate::entry::Entry;
 
 /// What pipelines tell their steps to.
 pub trait Book {
     ghost use Rattle.std.specs.Prelude.{ℕ, List, Option};
-    ghost use Rattle.history_laws.specs.Entries.{Entry as Told};
+    ghost use Rattle.history_book.specs.Entries.{Entry as Told};
 
     /// All that it was told, each with the number of the pipeline that told it, where it keeps all of it.
     ghost told: { Self → Option (List (ℕ × Told)) };

@@ -4,8 +4,8 @@ ghost use Rattle.std.specs.Prelude.{◌≡◌, IfOk};
 use element_code::Origin;
 use event_tree::{DeadPart, Event, Text};
 use foreign_parts::{Fate, Verdict};
-use persistent_queue::QueueRow;
 use plain_data::Items;
+use queue_core::QueueRow;
 use std::alloc::{AllocError, Global};
 
 /// What can be copied.

@@ -2,7 +2,7 @@
 use config_tree::Config;
 use event_tree::{DeadPart, Event, Text};
 use foreign_parts::{Fate, Place, Verdict};
-use persistent_queue::QueueRow;
+use queue_core::QueueRow;
 use settings_lines::Policy;
 
 /// A parcel of an input that listens on an address.

@@ -1,6 +1,6 @@
 // A book that keeps all entries while there is memory.
 ghost use Rattle.std.specs.Prelude.{◌≡◌, [], ◌∷◌, ◌++◌, OnOk, OnErr};
-ghost use Rattle.history_book.specs.Entries.{entry_of};
+ghost use Rattle.history_book.specs.BookEntries.{entry_of};
 ghost use Rattle.history_book.specs.Books.{blank, history, Adds};
 
 use crate::book::Book;

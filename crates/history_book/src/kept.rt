@@ -1,15 +1,15 @@
 // Entries that own what they tell, copied from those that lend it.
 ghost use Rattle.std.specs.Prelude.{◌≡◌, IfOk};
-ghost use Rattle.history_book.specs.Entries.{entry_of, kept_of};
-ghost use Rattle.history_laws.specs.Entries.{Deliver};
+ghost use Rattle.history_book.specs.BookEntries.{entry_of, kept_of};
+ghost use Rattle.history_book.specs.Entries.{Deliver};
 
 use crate::copies::copies;
 use crate::entry::{Entry, ParcelAt};
 use config_tree::Config;
 use event_tree::{DeadList, Event, Events, Text};
 use foreign_parts::{Fate, Fates, Place, Verdict};
-use persistent_queue::QueueRow;
 use plain_data::Items;
+use queue_core::QueueRow;
 use settings_lines::Policy;
 use std::alloc::{AllocError, Global};
 

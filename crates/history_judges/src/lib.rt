@@ -1,4 +1,4 @@
-//! Judges of histories, for tests: plain code that reads as the definitions of `history_laws` do. It is proved to be safe
+//! Judges of histories, for tests: plain code that reads as the definitions of `history_book` do. It is proved to be safe
 //! and to end, and it is tested; no clause ties it to the definitions.
 //!
 //! - [`State::step`] is the rule of each entry, and where a pipeline stands behind it ([`Reason`] says why one isn't legal);

@@ -6,7 +6,7 @@ use config_tree::Plugin;
 use element_code::Origin;
 use event_tree::{DeadPart, Event, Text};
 use history_book::ParcelAt;
-use persistent_queue::QueueRow;
+use queue_core::QueueRow;
 use settings_lines::Policy;
 use std::alloc::Global;
 

@@ -10,7 +10,7 @@ use config_tree::Config;
 use event_tree::{DeadPart, Event, Text};
 use foreign_parts::{Fate, Place, Verdict};
 use history_book::{KeptEntry, ParcelAt};
-use persistent_queue::QueueRow;
+use queue_core::QueueRow;
 use settings_lines::Policy;
 use std::alloc::AllocError;
 use std::mem;

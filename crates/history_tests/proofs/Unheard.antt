@@ -2,10 +2,10 @@
 use Rattle.std.proofs.Common.{◌≡◌, List, [], ◌∷◌, refl, subst}
 use Rattle.pipeline_bus.specs.declared.parcel.Answer.{Answer}
 use Rattle.pipeline_bus.specs.declared.parcel.Heard.TheVariants.{Assured}
-use Rattle.history_laws.proofs.Mailing.{deliveries_are_answered}
-use Rattle.history_laws.specs.Deeds.{Deed, Tell, Send, Hear, HeardFrom, Mail, no_mail, mail_told, mail_next, mail_after, heard_on}
-use Rattle.history_laws.specs.Entries.{Entry, Accept, Mark, Assure, Read, Back, Shed, Deliver, Letters, Ack, Purge, Adopt, Opened}
-use Rattle.history_laws.specs.Lists.{IsIn}
+use Rattle.history_book.proofs.Mailing.{deliveries_are_answered}
+use Rattle.history_book.specs.Deeds.{Deed, Tell, Send, Hear, HeardFrom, Mail, no_mail, mail_told, mail_next, mail_after, heard_on}
+use Rattle.history_book.specs.Entries.{Entry, Accept, Mark, Assure, Read, Back, Shed, Deliver, Letters, Ack, Purge, Adopt, Opened}
+use Rattle.history_book.specs.Lists.{IsIn}
 use Rattle.history_tests.specs.Unanswered.{HearsNone, UnansweredIsNotLegal}
 
 told_none : (m : Mail) (entry : Entry) → m.heard ≡ [] → (mail_told m entry).heard ≡ []

@@ -4,9 +4,9 @@ use Rattle.event_flow.specs.Meaning.{Makes}
 use Rattle.event_tree.specs.Events.{Ev}
 use Rattle.foreign_parts.specs.declared.output.Fate.{Fate}
 use Rattle.foreign_parts.specs.declared.place.Place.TheVariants as place
-use Rattle.history_laws.specs.Deeds.{Deed, Tell, Send, Hear, LegalDeeds, told_of}
-use Rattle.history_laws.specs.Entries.{Entry, Deliver}
-use Rattle.history_laws.specs.Steps.{NoOpening}
+use Rattle.history_book.specs.Deeds.{Deed, Tell, Send, Hear, LegalDeeds, told_of}
+use Rattle.history_book.specs.Entries.{Entry, Deliver}
+use Rattle.history_book.specs.Steps.{NoOpening}
 
 -- no answer is heard
 abbrev pub HearsNone : List Deed → Type 0

@@ -3,7 +3,7 @@
 ghost use Rattle.std.specs.Prelude.{IsTrue};
 ghost use Rattle.io_traits.specs.Folders.{Content};
 ghost use Rattle.dead_letters.specs.Appends.{AllFit};
-ghost use Rattle.persistent_queue.specs.Opens.{IsSlotted};
+ghost use Rattle.queue_core.specs.Opens.{IsSlotted};
 
 use crate::configs::FILE;
 use crate::judged::{LIMIT, event_of, events_of, first_number, first_word};
@@ -11,11 +11,11 @@ use crate::letters::letters_of;
 use crate::meaning::spelling_of;
 use crate::scene::{DEAD, QUEUE, SLOT};
 use dead_letters::{DeadLetter, DeadLetters};
-use out_files::OutFile;
-use persistent_queue::{Limits, Numbers, Queue};
+use io_traits::{QueueFault, Store};
+use queue_core::{Limits, Numbers, Queue};
 use settings_lines::Policy;
+use slot_files::OutFile;
 use std::alloc::Global;
-use store_disk::{QueueFault, Store};
 
 // What the queue may hold.
 const LIMITS: Limits = Limits {

@@ -8,8 +8,8 @@ use event_tree::{DeadList, DeadPart, Event, Events, Number, Path, Text, Value};
 use foreign_parts::{Fate, Fates, Place, Verdict};
 use history_book::{KeptEntry, ParcelAt, Told};
 use history_judges::{Judged, history_of, state_after};
-use persistent_queue::QueueRow;
 use plain_data::Items;
+use queue_core::QueueRow;
 use settings_lines::Policy;
 use std::alloc::{AllocError, Global};
 

@@ -20,7 +20,7 @@ use in_lines::{Piece, Poll};
 use pipeline_bus::{Answer, Heard, Parcel};
 use run_judges::{Deed, InputLooks, LinkTraffic, Run};
 use std::alloc::{AllocError, Global};
-use store_disk::FileTable;
+use store_memory::FileTable;
 
 #[derive(Drop)]
 enum Item {

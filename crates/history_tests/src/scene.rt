@@ -13,10 +13,11 @@ use crate::letters::letters_of;
 use crate::meaning::OneOutput;
 use event_tree::Text;
 use history_book::Told;
+use io_memory::Script;
 use plain_data::Items;
 use run_judges::{AppendedLetters, FilePlace, HeldLetters, Judge, Places, Witnesses};
 use std::alloc::{AllocError, Global};
-use store_disk::{FileTable, MemoryStore, Script, StoreCall};
+use store_memory::{FileTable, MemoryStore, StoreCall};
 
 /// The folders of the queue and of the dead letters, and the position file of the output file.
 pub const QUEUE: &str = "q/";

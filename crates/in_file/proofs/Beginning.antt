@@ -2,12 +2,12 @@
 use Rattle.std.proofs.Common.{◌≡◌, ℕ, IsTrue, List, [], refl, sym, ◌∙◌, arith, subst, pos, Result, Ok, Err, IfOk}
 use Rattle.io_traits.specs.Reads.{bytes_of}
 use Rattle.io_traits.specs.declared.files.Files.{Ghosts as FilesWords}
-use Rattle.store_trait.specs.declared.stores.Store.{Ghosts as StoreWords}
-use Rattle.store_disk.specs.declared.faults.Damage.{Damage as Damages}
-use Rattle.position_file.specs.Positions.{recorded_in}
-use Rattle.position_file.specs.declared.recorded.Recorded.{Recorded}
-use Rattle.position_file.specs.declared.recorded.Recorded.TheVariants.{Damaged}
-use Rattle.position_file.proofs.FileReads.{damages_differ}
+use Rattle.io_traits.specs.declared.stores.Store.{Ghosts as StoreWords}
+use Rattle.io_traits.specs.declared.queue_faults.Damage.{Damage as Damages}
+use Rattle.slot_files.specs.Positions.{recorded_in}
+use Rattle.slot_files.specs.declared.recorded.Recorded.{Recorded}
+use Rattle.slot_files.specs.declared.recorded.Recorded.TheVariants.{Damaged}
+use Rattle.slot_files.proofs.PositionReads.{damages_differ}
 use Rattle.in_lines.proofs.Reading.{begun}
 use Rattle.in_file.specs.Views.{Watched}
 use Rattle.in_file.specs.Looks.{HasRead}

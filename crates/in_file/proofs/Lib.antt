@@ -6,3 +6,4 @@ pub mod Giving
 pub mod Staying
 pub mod NamedPaths
 pub mod GrownFiles
+pub mod Ends

@@ -5,7 +5,7 @@ use Rattle.std.specs.Str.{IsCharBoundary, IsUtf8}
 use Rattle.std.proofs.lemmas.List.{take-append-drop, take_more, map-append}
 use Rattle.std.proofs.lemmas.List.Elements.{filter-append}
 use Rattle.std.specs.List.{list_any, filter}
-use Rattle.path_pattern.specs.Matching.{stands_for}
+use Rattle.in_file.specs.Matching.{stands_for}
 use Rattle.io_traits.specs.Folders.{IsOneCall, Lists}
 use Rattle.io_traits.specs.declared.files.Files.{Ghosts as FilesWords}
 use Rattle.in_file.specs.Watching.{IsSplit, AreWatched, has_star, is_free, free_of, paths_of, watched_of}

@@ -2,14 +2,14 @@
 use Rattle.std.proofs.Common.{◌≡◌, inl, inr, ◌≤◌, ℕ, IsTrue, List, length, refl, sym, ap, ◌∙◌, arith, subst}
 use Rattle.io_traits.specs.Reads.{bytes_of, file_length}
 use Rattle.crc_frame.specs.Slots.{place_of}
-use Rattle.store_trait.specs.Images.{Image, FileImage, at_rest}
-use Rattle.store_trait.specs.Moments.{MayLeaveNow, NowOrSynced, LeavesBeside, ReadsBeside, ImagesTell}
-use Rattle.store_trait.specs.declared.stores.Store.{Ghosts as StoreWords}
-use Rattle.position_file.specs.Positions.{recorded_in}
-use Rattle.position_file.specs.Writes.{IsNextTurn}
-use Rattle.position_file.specs.declared.recorded.Recorded.{Recorded}
-use Rattle.position_file.specs.declared.recorded.Recorded.TheVariants.{Nothing, Position, Damaged}
-use Rattle.position_file.proofs.FileReads.{positions_have_room}
+use Rattle.io_traits.specs.Images.{Image, FileImage, at_rest}
+use Rattle.io_traits.specs.Moments.{MayLeaveNow, NowOrSynced, LeavesBeside, ReadsBeside, ImagesTell}
+use Rattle.io_traits.specs.declared.stores.Store.{Ghosts as StoreWords}
+use Rattle.slot_files.specs.Positions.{recorded_in}
+use Rattle.slot_files.specs.PositionWrites.{IsNextTurn}
+use Rattle.slot_files.specs.declared.recorded.Recorded.{Recorded}
+use Rattle.slot_files.specs.declared.recorded.Recorded.TheVariants.{Nothing, Position, Damaged}
+use Rattle.slot_files.proofs.PositionReads.{positions_have_room}
 use Rattle.in_file.specs.Looks.{Keeps}
 use Rattle.in_file.specs.Openings.{position_by}
 use Rattle.in_file.specs.Positions.{IsOwn, IsReady, recorded_left, recorded_now}

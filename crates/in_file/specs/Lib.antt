@@ -5,3 +5,4 @@ pub mod Openings
 pub mod Positions
 pub mod Watching
 pub mod Growing
+pub mod Matching

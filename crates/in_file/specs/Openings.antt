@@ -4,11 +4,11 @@ use Rattle.io_traits.specs.Reads.{bytes_of, file_length}
 use Rattle.io_traits.specs.declared.files.Files.{Ghosts as FilesWords}
 use Rattle.byte_lines.specs.Unread.{unread}
 use Rattle.crc_frame.specs.Slots.{next_turn}
-use Rattle.store_trait.specs.declared.stores.Store.{Ghosts as StoreWords}
-use Rattle.store_disk.specs.declared.faults.Damage.{Damage}
-use Rattle.position_file.specs.Positions.{recorded_in}
-use Rattle.position_file.specs.declared.recorded.Recorded.{Recorded}
-use Rattle.position_file.specs.declared.recorded.Recorded.TheVariants.{Nothing, Position, Damaged}
+use Rattle.io_traits.specs.declared.stores.Store.{Ghosts as StoreWords}
+use Rattle.io_traits.specs.declared.queue_faults.Damage.{Damage}
+use Rattle.slot_files.specs.Positions.{recorded_in}
+use Rattle.slot_files.specs.declared.recorded.Recorded.{Recorded}
+use Rattle.slot_files.specs.declared.recorded.Recorded.TheVariants.{Nothing, Position, Damaged}
 use Rattle.in_file.specs.Looks.{HasRead}
 use Rattle.in_file.specs.Views.{Watched}
 use Rattle.in_file.specs.declared.plan.FilePlan.{FilePlan}

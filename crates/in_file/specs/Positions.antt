@@ -2,15 +2,15 @@
 use Rattle.std.specs.Prelude.{◌≡◌, ◌⊎◌, ◌≤◌, ℕ, Bool, IsTrue, List}
 use Rattle.io_traits.specs.Reads.{bytes_of, file_length}
 use Rattle.crc_frame.specs.Slots.{place_of, is_slot}
-use Rattle.store_trait.specs.Images.{Image, at_rest}
-use Rattle.store_trait.specs.Chance.{NoChance}
-use Rattle.store_trait.specs.Tails.{passes}
-use Rattle.store_trait.specs.Moments.{MayLeaveNow, EachMoment, LeavesBeside, ReadsBeside}
-use Rattle.store_trait.specs.declared.stores.Store.{Ghosts as StoreWords}
-use Rattle.position_file.specs.Positions.{recorded_in}
-use Rattle.position_file.specs.Writes.{IsNextTurn}
-use Rattle.position_file.specs.declared.recorded.Recorded.{Recorded}
-use Rattle.position_file.specs.declared.recorded.Recorded.TheVariants.{Position}
+use Rattle.io_traits.specs.Images.{Image, at_rest}
+use Rattle.io_traits.specs.Chance.{NoChance}
+use Rattle.io_traits.specs.Tails.{passes}
+use Rattle.io_traits.specs.Moments.{MayLeaveNow, EachMoment, LeavesBeside, ReadsBeside}
+use Rattle.io_traits.specs.declared.stores.Store.{Ghosts as StoreWords}
+use Rattle.slot_files.specs.Positions.{recorded_in}
+use Rattle.slot_files.specs.PositionWrites.{IsNextTurn}
+use Rattle.slot_files.specs.declared.recorded.Recorded.{Recorded}
+use Rattle.slot_files.specs.declared.recorded.Recorded.TheVariants.{Position}
 use Rattle.in_file.specs.Looks.{Keeps}
 use Rattle.in_file.specs.Openings.{position_by}
 use Rattle.in_file.specs.Views.{Watched}

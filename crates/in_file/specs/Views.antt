@@ -1,7 +1,7 @@
 -- An input that watches a file, as contracts see it.
 use Rattle.std.specs.Prelude.{ℕ, ◌+◌, ℤ, Bool, List, length}
 use Rattle.byte_lines.specs.Unread.{Unread}
-use Rattle.line_codecs.specs.declared.codec.Codec.{Codec}
+use Rattle.in_lines.specs.declared.codec.Codec.{Codec}
 
 pub record Watched : Type 0 where
   -- the names of the file and of its position file

@@ -4,9 +4,9 @@ use Rattle.std.specs.List.{filter, list_any}
 use Rattle.std.specs.Str.{bytes_eq}
 use Rattle.io_traits.specs.Folders.{IsOneCall, Lists}
 use Rattle.io_traits.specs.declared.files.Files.{Ghosts as FilesWords}
-use Rattle.path_pattern.specs.Matching.{stands_for}
-use Rattle.position_file.specs.Names.{position_name}
-use Rattle.position_file.specs.declared.name.PositionOf.TheVariants.{Input}
+use Rattle.in_file.specs.Matching.{stands_for}
+use Rattle.slot_files.specs.Names.{position_name}
+use Rattle.slot_files.specs.declared.name.PositionOf.TheVariants.{Input}
 
 -- a path as what stands up to its last slash, and its last part
 pub record IsSplit (path folder last : List ℕ) : Type 0 where

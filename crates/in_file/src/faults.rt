@@ -1,6 +1,6 @@
 //! Why an input of files was not opened.
 
-use store_disk::Damage;
+use io_traits::Damage;
 
 /// Why an input was not opened.
 #[derive(Drop)]

@@ -2,7 +2,7 @@
 ghost use Rattle.in_file.specs.Growing.{GrowthStands, LookStands};
 ghost use Rattle.in_file.specs.Positions.{KeptReady, ReadyHasRoom, StandsBeside, StaysReady};
 
-use store_disk::Store;
+use io_traits::Store;
 
 /// An input that is ready has room in its position file for its next slot.
 pub fn what_is_ready_has_room<S: Store>()

@@ -2,18 +2,21 @@
 //! of the file was taken, in a position file.
 //!
 //! `specs/Looks` has what a poll and a line are of a reading, `specs/Openings` where a reading begins, `specs/Positions`
-//! what a stop leaves recorded, and `specs/Watching` which files a path stands for.
+//! what a stop leaves recorded, and `specs/Watching` which files a path stands for. In a path `*` stands for any bytes
+//! ([`is_match`]).
 #![tactic(auto)]
 
 mod faults;
 mod input;
 pub mod laws;
 mod line_buffer;
+mod matching;
 mod opening;
 mod plan;
 mod watching;
 
 pub use faults::OpenFault;
 pub use input::FileInput;
+pub use matching::is_match;
 pub use plan::FilePlan;
 pub use watching::watched_paths;

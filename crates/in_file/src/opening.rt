@@ -3,10 +3,10 @@ ghost use Rattle.std.specs.Prelude.{◌≡◌, ◌≢◌, ℕ, IsTrue, Err, IfOk
 ghost use Rattle.io_traits.specs.Counts.{HasCause};
 ghost use Rattle.io_traits.specs.Folders.{IsOneCall};
 ghost use Rattle.io_traits.specs.Reads.{bytes_of, file_length};
-ghost use Rattle.store_trait.specs.Moments.{EachMoment, NowOrSynced};
-ghost use Rattle.store_disk.specs.declared.faults.Damage.{Damage as DamageValue};
-ghost use Rattle.position_file.specs.Positions.{recorded_in};
-ghost use Rattle.position_file.specs.declared.recorded.Recorded.TheVariants as r;
+ghost use Rattle.io_traits.specs.Moments.{EachMoment, NowOrSynced};
+ghost use Rattle.io_traits.specs.declared.queue_faults.Damage.{Damage as DamageValue};
+ghost use Rattle.slot_files.specs.Positions.{recorded_in};
+ghost use Rattle.slot_files.specs.declared.recorded.Recorded.TheVariants as r;
 ghost use Rattle.in_file.specs.Openings.{IsOpened, IsDamaged, IsWhole, IsBegun, begins_at, opened, position_by, turn_by};
 ghost use Rattle.in_file.specs.Positions.{IsReady};
 ghost use Rattle.in_file.specs.declared.faults.OpenFault.TheVariants as o;
@@ -14,11 +14,10 @@ ghost use Rattle.in_file.specs.declared.faults.OpenFault.TheVariants as o;
 use crate::faults::OpenFault;
 use crate::input::FileInput;
 use crate::plan::FilePlan;
-use io_traits::Files;
+use io_traits::{Damage, Files, Store};
 use plain_data::Text;
-use position_file::{Recorded, settle_and_read};
+use slot_files::{Recorded, settle_and_read};
 use std::alloc::Global;
-use store_disk::{Damage, Store};
 
 /// Opens the input of a path, with the position file of the name `slot`.
 pub(crate) fn opened<S: Store, F: Files>(

@@ -1,5 +1,5 @@
 // How a file is watched: from where, up to where, and by which codec.
-use line_codecs::Codec;
+use in_lines::Codec;
 
 /// How a file is watched.
 #[derive(Clone, Copy)]

@@ -7,10 +7,10 @@ ghost use Rattle.io_traits.specs.Folders.{IsOneCall, Lists};
 ghost use Rattle.io_traits.specs.declared.faults.ListFault.TheVariants as l;
 ghost use Rattle.in_file.specs.Watching as spec;
 
+use crate::is_match;
 use io_traits::{Files, ListFault};
-use path_pattern::is_match;
 use plain_data::{Names, Text};
-use position_file::{PositionOf, position_name};
+use slot_files::{PositionOf, position_name};
 use std::alloc::{AllocError, Global};
 
 /// How many bytes the name of a position file has at most.

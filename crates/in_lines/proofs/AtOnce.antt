@@ -23,7 +23,7 @@ use Rattle.event_tree.proofs.Depths.{depth-Object}
 use Rattle.event_tree.proofs.Sizes.{size-Object, members_size-insert}
 use Rattle.event_text.specs.Options.{each_done, set_at, after_put}
 use Rattle.event_text.proofs.Levels.{step-Object}
-use Rattle.decoded_fields.specs.Decoded.{named, placed}
+use Rattle.event_times.specs.Decoded.{named, placed}
 use Rattle.in_lines.specs.Decoding.{with_member, set_missing}
 use Rattle.in_lines.specs.Plain.{missing}
 

@@ -16,7 +16,7 @@ use Rattle.event_tree.specs.declared.value.Value.{Value, out-Value, roll-Value, 
 use Rattle.event_tree.specs.declared.value.Value.TheOpen.{Value-F}
 use Rattle.event_tree.specs.declared.value.Value.TheVariants as v
 use Rattle.event_text.specs.Options.{each_done, set_at, tagged}
-use Rattle.decoded_fields.specs.Decoded.{failure_tags, are_tags, is_other, moment_in, named, placed, placed_tags, placed_time}
+use Rattle.event_times.specs.Decoded.{failure_tags, are_tags, is_other, moment_in, named, placed, placed_tags, placed_time}
 use Rattle.in_lines.specs.Decoding.{with_member, set_missing, object_event, original}
 use Rattle.in_lines.specs.Plain.{IsPlain, completed, is_text_list, is_text_list_in, missing, named_time, timed}
 use Rattle.in_lines.specs.Polls.{Received}

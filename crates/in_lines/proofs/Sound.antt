@@ -1,7 +1,7 @@
 -- The event of a line is one that keeps what each event keeps.
 use Rattle.std.proofs.Common.{rules, ◌≡◌, ℕ, suc, ◌+◌, ◌*◌, ◌≤◌, List, [], ◌∷◌, length, max, true, ◌&&◌, codes, refl, ap, ◌∙◌, arith}
 use Rattle.std.specs.Str.{IsUtf8}
-use Rattle.time_instant.specs.Calendar.{IsMoment}
+use Rattle.plain_data.specs.Calendar.{IsMoment}
 use Rattle.event_tree.specs.Events.{IsEvent, both, event_depth, event_size}
 use Rattle.event_tree.specs.Sizes.{size}
 use Rattle.event_tree.specs.Sound.{is_text, members_sound, sound}

@@ -7,9 +7,9 @@ use Rattle.event_tree.specs.declared.value.Value.{Value, out-Value}
 use Rattle.event_tree.specs.declared.value.Value.TheOpen.{Value-F}
 use Rattle.event_tree.specs.declared.value.Value.TheVariants as v
 use Rattle.event_text.specs.Options.{each_done, set_at, tagged}
-use Rattle.decoded_fields.specs.Decoded.{failure_tags, json_in, named, placed}
-use Rattle.line_codecs.specs.declared.codec.Codec.{Codec}
-use Rattle.line_codecs.specs.declared.codec.Codec.TheVariants as codec
+use Rattle.event_times.specs.Decoded.{failure_tags, json_in, named, placed}
+use Rattle.in_lines.specs.declared.codec.Codec.{Codec}
+use Rattle.in_lines.specs.declared.codec.Codec.TheVariants as codec
 use Rattle.in_lines.specs.Events.{event_of}
 use Rattle.in_lines.specs.Polls.{Received}
 

@@ -10,3 +10,5 @@ pub mod Samples
 pub mod Settings
 pub mod Generators
 pub mod Inputs
+pub mod Codecs
+pub mod Written

@@ -7,7 +7,7 @@ use Rattle.event_tree.specs.Paths.{over}
 use Rattle.event_tree.specs.declared.value.Value.{Value, out-Value}
 use Rattle.event_tree.specs.declared.value.Value.TheOpen.{Value-F}
 use Rattle.event_tree.specs.declared.value.Value.TheVariants as v
-use Rattle.decoded_fields.specs.Decoded.{is_other, moment_in}
+use Rattle.event_times.specs.Decoded.{is_other, moment_in}
 use Rattle.in_lines.specs.Polls.{Received}
 
 abbrev pub is_text_list_in : Value-F Value → Bool

@@ -3,7 +3,7 @@ use Rattle.std.specs.Prelude.{ℕ, List, codes, Option, Some, None}
 use Rattle.event_tree.specs.Events.{Ev}
 use Rattle.event_tree.specs.declared.value.Value.TheVariants as v
 use Rattle.event_text.specs.Options.{with_options}
-use Rattle.decoded_fields.specs.Decoded.{named}
+use Rattle.event_times.specs.Decoded.{named}
 use Rattle.in_lines.specs.Polls.{Received}
 use Rattle.in_lines.specs.Decoding.{event_by, set_missing}
 use Rattle.in_lines.specs.declared.settings.EventSettings.{EventSettings}

@@ -9,8 +9,8 @@ use crate::event::line_event;
 use crate::poll::{Piece, Poll};
 use byte_lines::lines_of_bytes;
 use event_tree::Value;
+use plain_data::Instant;
 use std::alloc::{AllocError, Global};
-use time_instant::Instant;
 
 /// The events of the lines that some polls made whole, of at most `limit` bytes each, as the definition says it:
 /// after each poll, the lines of all bytes so far that were no lines of those before it.

@@ -2,20 +2,20 @@
 
 ghost use Rattle.std.specs.Prelude.{◌≡◌, ◌≤◌, ◌∷◌, [], codes, length, Some, IfOk, OnOk};
 ghost use Rattle.byte_lines.specs.Text.{text_of};
-ghost use Rattle.decoded_fields.specs.Decoded.{json_in, named};
+ghost use Rattle.event_times.specs.Decoded.{json_in, named};
 ghost use Rattle.event_text.specs.Options.{each_done, set_at, tagged};
 ghost use Rattle.event_tree.specs.declared.value.Value.TheVariants as v;
 ghost use Rattle.in_lines.specs.Decoding as spec;
 
+use crate::Codec;
 use crate::event::event_of_line;
 use crate::plain::{plain_event, read_plain};
 use byte_lines::text_of_bytes;
-use decoded_fields::{failure_tags, field_path, json_value, place};
 use event_text::{add_tag, try_put};
+use event_times::{failure_tags, field_path, json_value, place};
 use event_tree::{Event, Fields, Names, Path, Text, Value};
-use line_codecs::Codec;
+use plain_data::Instant;
 use std::alloc::{AllocError, Global};
-use time_instant::Instant;
 
 /// The event of a line that a poll at `moment` made whole.
 ///

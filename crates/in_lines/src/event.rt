@@ -6,8 +6,8 @@ ghost use Rattle.event_tree.specs.Events.{both};
 ghost use Rattle.in_lines.specs.Events.{event_of, members_of};
 
 use event_tree::{Event, Fields, Text, Value};
+use plain_data::Instant;
 use std::alloc::{AllocError, Global};
-use time_instant::Instant;
 
 /// How many bytes a line may have: a longer one is cut there.
 pub const LINE_LIMIT: usize = 1_048_576;

@@ -9,8 +9,8 @@ use crate::sample::{next_number, sample_line};
 use crate::settings::EventSettings;
 use event_text::try_put;
 use event_tree::{Event, Names, Number, Text, Value};
+use plain_data::Instant;
 use std::alloc::{AllocError, Global};
-use time_instant::Instant;
 
 /// How many bytes a line has at most of which an event can be made.
 const LONGEST: usize = 8_388_558;

@@ -5,9 +5,11 @@
 //!   made, and what the read gave. A line has the moment of the poll that made it whole.
 //! - An event holds the line as `message` and as `[event][original]`, that moment as `@timestamp`, and `@version`.
 //! - A row is the JSON text of an event and a line feed.
+//! - [`Codec`] and [`OutCodec`] say how inputs read lines as events, and how outputs write events.
 #![tactic(auto)]
 
 mod by_poll;
+mod codec;
 mod decoding;
 mod event;
 mod generator;
@@ -19,8 +21,10 @@ mod poll_outcome;
 mod row;
 mod sample;
 mod settings;
+mod writing;
 
 pub use by_poll::events_of_polls;
+pub use codec::{Codec, OutCodec};
 pub use decoding::{event_by_codec, event_of_bytes};
 pub use event::{LINE_LIMIT, event_of_line, line_event};
 pub use event_text::Options;

@@ -3,18 +3,17 @@
 ghost use Rattle.std.specs.Prelude.{◌≡◌, ◌∷◌, [], codes, true, Some, IfOk, IfSome, OnOk};
 ghost use Rattle.std.specs.List.{list_any};
 ghost use Rattle.plain_data.specs.Members.{get_member, insert_member};
-ghost use Rattle.decoded_fields.specs.Decoded.{is_other, moment_in};
+ghost use Rattle.event_times.specs.Decoded.{is_other, moment_in};
 ghost use Rattle.event_tree.specs.Events.{both, limited};
 ghost use Rattle.event_tree.specs.Paths.{over};
 ghost use Rattle.event_tree.specs.declared.value.Value.TheVariants as v;
 ghost use Rattle.in_lines.specs.Decoding.{object_event};
 ghost use Rattle.in_lines.specs.Plain.{IsPlain, completed, is_text_list, missing};
 
-use decoded_fields::{field_path, text_in};
-use event_times::read_iso8601;
+use event_times::{field_path, read_iso8601, text_in};
 use event_tree::{Event, Fields, PutFault, Text, Value};
+use plain_data::Instant;
 use std::alloc::{AllocError, Global};
-use time_instant::Instant;
 
 /// What an object says of its event's time, where each of its members is the field of its name.
 #[derive(Clone, Copy)]

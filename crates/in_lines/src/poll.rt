@@ -1,5 +1,5 @@
 // A look at a source: what came, and when.
-use time_instant::Instant;
+use plain_data::Instant;
 
 /// What a look at a source found.
 #[derive(Drop)]

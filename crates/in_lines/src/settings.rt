@@ -3,12 +3,12 @@
 ghost use Rattle.std.specs.Prelude.{◌≡◌, ◌≤◌, IfOk, OnOk, length};
 ghost use Rattle.in_lines.specs.Settings as spec;
 
+use crate::Codec;
 use crate::decoding::{event_by_codec, put_missing};
 use event_text::Options;
 use event_tree::{Event, Text, Value};
-use line_codecs::Codec;
+use plain_data::Instant;
 use std::alloc::{AllocError, Global};
-use time_instant::Instant;
 
 /// How an input makes events of its lines.
 pub struct EventSettings {

@@ -3,7 +3,7 @@ use Rattle.std.proofs.Common.{◌≡◌, ◌≤◌, ◌⊎◌, true, Some, None,
 use Rattle.std.proofs.lemmas.Bool.{false≢true}
 use Rattle.std.specs.declared.alloc.AllocError.{AllocError}
 use Rattle.event_tree.specs.Events.{Ev}
-use Rattle.line_codecs.specs.declared.codec.Codec.{Codec}
+use Rattle.in_lines.specs.declared.codec.Codec.{Codec}
 use Rattle.in_lines.specs.Decoding.{event_by}
 use Rattle.in_lines.proofs.Short.{content_short}
 use Rattle.in_tcp.specs.Given.{GaveHeld}

@@ -7,7 +7,7 @@ use Rattle.io_traits.specs.Counts.{HasCause}
 use Rattle.io_traits.specs.declared.faults.Failed.{Failed}
 use Rattle.io_traits.specs.declared.links.Come.{Come}
 use Rattle.io_traits.specs.declared.links.Links.{Ghosts as LinksWords}
-use Rattle.line_codecs.specs.declared.codec.Codec.{Codec}
+use Rattle.in_lines.specs.declared.codec.Codec.{Codec}
 use Rattle.event_tree.specs.Events.{Ev}
 use Rattle.in_lines.specs.Decoding.{event_by}
 use Rattle.in_lines.specs.Polls.{Received}

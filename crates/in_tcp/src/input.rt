@@ -5,13 +5,11 @@ ghost use Rattle.in_tcp.specs.Reads.{AllCame};
 
 use crate::polling::Connected;
 use event_tree::Event;
-use in_lines::{Got, PollFault};
+use in_lines::{Codec, Got, PollFault};
 use io_traits::Links;
-use line_codecs::Codec;
-use plain_data::Text;
+use plain_data::{Instant, Text};
 use std::alloc::{AllocError, Global};
 use std::marker::Model;
-use time_instant::Instant;
 
 /// An input of the lines that come over TCP connections, up to 64 of them beside each other.
 ///

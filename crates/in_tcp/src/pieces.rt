@@ -6,10 +6,10 @@ ghost use Rattle.in_tcp.specs.Reads.{TookRead};
 use crate::reading::read_behind;
 use byte_lines::remove_front;
 use io_traits::{Links, Step};
+use plain_data::Instant;
 use std::alloc::{AllocError, Global};
 use std::collections::VecDeque;
 use std::marker::Model;
-use time_instant::Instant;
 
 /// How many bytes a read asks for at least.
 const READ_LEN: usize = 65_536;

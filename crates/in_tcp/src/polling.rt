@@ -8,8 +8,8 @@ ghost use Rattle.in_tcp.specs.Took.{Took, is_none};
 use crate::receive_buffer::ReceiveBuffer;
 use in_lines::PollFault;
 use io_traits::{Come, Links};
+use plain_data::Instant;
 use std::alloc::{AllocError, Global};
-use time_instant::Instant;
 
 /// How many connections of an input may be open.
 pub const CONNECTION_LIMIT: usize = 64;

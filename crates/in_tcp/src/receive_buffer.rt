@@ -9,8 +9,7 @@ use crate::partial_lines::PartialLines;
 use crate::pieces::{PieceRecord, Pieces};
 use byte_lines::find_line;
 use event_tree::Event;
-use in_lines::{LINE_LIMIT, event_of_bytes};
-use line_codecs::Codec;
+use in_lines::{Codec, LINE_LIMIT, event_of_bytes};
 use memchr::memchr;
 use std::alloc::{AllocError, Global};
 

@@ -6,6 +6,8 @@ joined, the slots of position files with the CRC-32 of `zlib`, and what a stop l
 
 from zlib import crc32
 
+import polls
+
 TABLES = ["reads", "stops", "paths"]
 ROWS = {name: [] for name in TABLES}
 LIMIT = 1048576
@@ -346,6 +348,9 @@ for size in (240, 241):
     paths("logs/" + "a" * size, [], [])
     paths("logs/*", [], ["logs/" + "a" * size, "logs/b"])
 paths("logs/*", [], ["logs/" + "\u00e9" * 40, "logs/" + "\u00e9" * 41])
+
+TABLES.append("polls")
+ROWS["polls"] = [(row, polls.answers(row)) for row in polls.ROWS]
 
 for name in TABLES:
     with open(name, "w") as file:

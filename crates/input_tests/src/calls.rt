@@ -7,10 +7,9 @@ use crate::events::add_event;
 use crate::words::number;
 use in_file::{FileInput, FilePlan, OpenFault};
 use in_lines::{Got, PollFault};
-use io_traits::Files;
+use io_traits::{Files, Store};
+use plain_data::Instant;
 use std::alloc::AllocError;
-use store_disk::Store;
-use time_instant::Instant;
 
 /// The name of the watched file.
 pub const PATH: &str = "logs/a.log";

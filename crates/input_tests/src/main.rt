@@ -1,4 +1,4 @@
-//! Prints what inputs take of files that change, and what a stop leaves recorded of it, table by table.
+//! Prints what inputs take of files that change and of connections, and what a stop leaves recorded, table by table.
 //!
 //! A table is a file of `data/`, and each of its lines is a row, whose parts stand between bars. Bytes are written in base 16,
 //! where `COUNT*DIGITS` stands for so many times these, and `-` for no file.
@@ -13,12 +13,19 @@
 //! - `stops`: such a row. The answer is what the position file may record where a stop comes, for each moment of the store.
 //! - `paths`: a path, the files that earlier inputs watch, those that are there, and the number of the call that fails. The
 //!   answer is the files that are watched.
+//! - `polls`: how many connections come, one at each look; the numbers of the calls of the connections that fail; the pieces
+//!   that they give, each with the number of its connection, where `+` joins two such and `end` ends it; and calls of an input
+//!   of connections: `p` polls, with the number of the poll as the seconds of its moment, `P` with a number polls so often, and
+//!   shows the last answer, `n` gives the next event, `c` tells how many connections came, and `s` with a number whether that
+//!   connection is open.
 //!
-//! `data/rows.py` made the tables and `stdout`: the lines by their definition, on all bytes joined, and the slots with the
-//! CRC-32 of Python's `zlib`.
+//! `data/rows.py`, over `data/polls.py`, made the tables and `stdout`: the lines by their definition, on all bytes joined, and
+//! the slots with the CRC-32 of Python's `zlib`.
 #![tactic(auto)]
 
 mod calls;
+mod connection_calls;
+mod connection_rows;
 mod events;
 mod paths;
 mod reads;
@@ -33,12 +40,14 @@ enum InputTable {
     Reads,
     Stops,
     Paths,
+    Polls,
 }
 
-const TABLES: [(&str, InputTable); 3] = [
+const TABLES: [(&str, InputTable); 4] = [
     ("reads", InputTable::Reads),
     ("stops", InputTable::Stops),
     ("paths", InputTable::Paths),
+    ("polls", InputTable::Polls),
 ];
 
 fn main(rt: HostRuntime) -> io::Result<()> {
@@ -59,5 +68,6 @@ fn add_answer(to: &mut String, table: InputTable, row: &str) -> Result<(), Alloc
         InputTable::Reads => reads::add_read(to, row),
         InputTable::Stops => reads::add_stops(to, row),
         InputTable::Paths => paths::add_watched(to, row),
+        InputTable::Polls => connection_rows::add_case(to, row),
     }
 }

@@ -2,10 +2,12 @@
 use crate::calls::{PATH, SLOT, add_runs};
 use crate::words::{bytes_of, files_with, first_word, number, part};
 use in_file::FilePlan;
-use line_codecs::Codec;
-use position_file::{Recorded, read_position};
+use in_lines::Codec;
+use io_memory::{MemoryFiles, Script, Showing};
+use io_traits::{Failed, Store};
+use slot_files::{Recorded, read_position};
 use std::alloc::{AllocError, Global};
-use store_disk::{Failed, MemoryFiles, MemoryStore, Script, Showing, Store};
+use store_memory::MemoryStore;
 
 /// What a row is tried on.
 struct ReadCase {

@@ -2,7 +2,7 @@
 use hex;
 use plain_data::{Items, Text};
 use std::alloc::{AllocError, Global};
-use store_disk::FileTable;
+use store_memory::FileTable;
 
 /// What stands before the first bar, and what stands behind it.
 pub fn part(row: &str) -> (&str, &str) {
@@ -20,12 +20,17 @@ pub fn number(word: &str) -> u64 {
     word.parse().unwrap_or(u64::MAX)
 }
 
+/// A number, and 0 for a word that is none.
+pub fn small_number(word: &str) -> u32 {
+    word.parse().unwrap_or(0)
+}
+
 /// The bytes that a word has in base 16. `COUNT*DIGITS` stands for so many times these, and `+` joins two such.
 pub fn bytes_of(alloc: Global, word: &str) -> Result<Vec<u8>, AllocError> {
     let mut bytes = Vec::new(alloc);
     for piece in word.split('+') {
         let (count, digits) = piece.split_once('*').unwrap_or(("1", piece));
-        add_times(&mut bytes, count.parse::<u32>().unwrap_or(0), digits)?;
+        add_times(&mut bytes, small_number(count), digits)?;
     }
     Ok(bytes)
 }

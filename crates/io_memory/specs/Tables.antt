@@ -4,7 +4,7 @@ use Rattle.plain_data.specs.Keys.{same_key}
 use Rattle.plain_data.specs.Members.{get_member}
 use Rattle.io_traits.specs.Folders.{Content}
 use Rattle.io_traits.specs.Reads.{bytes_of}
-use Rattle.store_trait.specs.Images.{overlaid}
+use Rattle.io_traits.specs.Images.{overlaid}
 
 abbrev pub Table : Type 0
 Table = List (List ℕ × List ℕ)

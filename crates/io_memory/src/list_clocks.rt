@@ -3,9 +3,9 @@ ghost use Rattle.std.specs.Prelude.{◌≡◌, ◌⊎◌, Some, None, [], IfOk, 
 ghost use Rattle.std.specs.Option.{option_map};
 
 use io_traits::Clock;
+use plain_data::Instant;
 use std::alloc::{AllocError, Global};
 use std::marker::Model;
-use time_instant::Instant;
 
 /// A clock that gives the moments of a list, and past the list its last moment again. It tells the
 /// moments that it gave, until it finds no memory to keep one.

@@ -1,7 +1,7 @@
 // Files by their names, in memory.
 ghost use Rattle.std.specs.Prelude.{◌≡◌, Some, None, OnOk, OnErr, ◌≤◌, IfOk, length, take, option_map};
 ghost use Rattle.io_traits.specs.Reads.{Gives};
-ghost use Rattle.store_trait.specs.Images.{overlaid};
+ghost use Rattle.io_traits.specs.Images.{overlaid};
 ghost use Rattle.io_memory.specs.Tables.{content_of, Changed, IsSame, lengthened, overwritten};
 
 use plain_data::{Fields, Items, Text};

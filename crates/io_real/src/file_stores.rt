@@ -6,14 +6,13 @@ ghost use Rattle.io_real.specs.Adapters.{store_called, store_listed, store_synce
 
 use crate::fault_counts::{counted, counted_list};
 use crate::opened_files::OpenedFiles;
-use io_traits::{Failed, ListFault};
+use io_traits::{Failed, ListFault, Store};
 use plain_data::Names;
 use std::alloc::Global;
 use std::fs::File;
 use std::io::{self, ErrorKind};
 use std::marker::Model;
 use std::rt::Files;
-use store_trait::Store;
 
 /// A store over the files of the machine. A contract sees its count of faults, and
 /// whether a sync failed.

@@ -2,11 +2,11 @@
 ghost use Rattle.std.specs.Prelude.{◌≡◌, None, pos};
 
 use io_traits::Clock;
+use plain_data::Instant;
 use std::marker::Model;
 use std::rt::Clock as RuntimeClock;
 use std::thread;
 use std::time::{Duration, SystemTime, UNIX_EPOCH};
-use time_instant::Instant;
 
 // How long a pause of the system's clock is.
 const PAUSE_MILLIS: u64 = 10;

@@ -1,8 +1,8 @@
 // What calls answer.
+use io_traits::{Failed, ListFault};
 use plain_data::Names;
 use std::fmt::{self, Display, Formatter, Write};
 use std::io;
-use store_disk::{Failed, ListFault};
 
 /// What a call answered.
 #[derive(Drop)]

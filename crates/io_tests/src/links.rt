@@ -1,12 +1,13 @@
 // Calls of connections, and what those do that make them.
 use crate::answers::CallAnswer;
 use crate::words::{first_word, number};
+use io_real::TcpLinks;
+use io_traits::{Come, Failed, Step};
 use std::alloc::Global;
 use std::io::{self, Write};
 use std::net::{Net, TcpListener, TcpStream};
 use std::thread;
 use std::time::Duration;
-use store_disk::{Come, Failed, Step, TcpLinks};
 
 // How long a read waits for bytes that were sent, in milliseconds.
 const PATIENCE: u32 = 2_000;

@@ -16,12 +16,13 @@ mod stores;
 mod words;
 
 use answers::CallAnswer;
+use io_real::{FileStore, RealFiles, TcpLinks};
 use links::{Peers, links_answer, peers_answer};
 use machine::machine_answer;
 use memory::{empty_store, memory_answer};
 use std::io::{self, ErrorKind};
 use std::{env, fs, process};
-use store_disk::{FileStore, MemoryStore, RealFiles, TcpLinks};
+use store_memory::MemoryStore;
 use stores::{files_answer, store_answer};
 use words::{first_word, with_marks};
 

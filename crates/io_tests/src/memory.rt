@@ -5,10 +5,12 @@ ghost use Rattle.store_memory.specs.Keeping.{reads_of};
 
 use crate::answers::CallAnswer;
 use crate::words::{first_word, number};
+use io_memory::Script;
+use io_traits::Failed;
 use plain_data::{Items, Text};
 use std::alloc::{AllocError, Global};
 use std::io;
-use store_disk::{Failed, FileTable, MemoryStore, Script};
+use store_memory::{FileTable, MemoryStore};
 
 // What a stop leaves of a file that is missing.
 const NO_FILE: &str = "no file";

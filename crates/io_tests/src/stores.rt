@@ -2,12 +2,10 @@
 use crate::answers::CallAnswer;
 use crate::machine::greatest_length;
 use crate::words::{first_word, number};
+use io_real::{FileStore, RealFiles};
+use io_traits::{Files, Store, append_and_settle, append_to_tail, cut_and_settle, settle_and_mark};
 use std::alloc::Global;
 use std::io;
-use store_disk::{
-    FileStore, Files, RealFiles, Store, append_and_settle, append_to_tail, cut_and_settle,
-    settle_and_mark,
-};
 
 /// What a call of a store answers.
 pub fn store_answer<'a>(

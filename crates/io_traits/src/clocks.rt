@@ -2,7 +2,7 @@
 ghost use Rattle.std.specs.Prelude.{List, [], ◌∷◌, ℤ, Option};
 ghost use Rattle.io_traits.specs.Telling.{Grows};
 
-use time_instant::Instant;
+use plain_data::Instant;
 
 /// Where moments come from. No call fails: a real clock gives some moment where the system has none.
 pub trait Clock {

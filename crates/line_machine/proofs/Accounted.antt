@@ -4,11 +4,11 @@ use Rattle.std.proofs.lemmas.List.{length-map, take-append-le, take_all}
 use Rattle.event_tree.specs.declared.lists.DeadPart.{DeadPart}
 use Rattle.event_flow.specs.Meaning.{Makes, Due}
 use Rattle.event_flow.specs.Meaning as due
-use Rattle.history_laws.specs.Entries.{Entry, Accept, Mark, Assure, Read, Back, Shed, Deliver, Letters, Ack, Purge, Adopt, Opened}
-use Rattle.history_laws.specs.Legal.{Legal_at, Legal}
-use Rattle.history_laws.specs.Lists.{IsIn}
-use Rattle.history_laws.specs.States.{Plan, Written, Out, State, start, newest, unread, numbers_of, numbers_out, out_of, change, without, fresh, brought_back, told_from, told_next, reads, left_of, tells_letters, next, after}
-use Rattle.history_laws.proofs.Lists.{in_front, in_behind, in_either}
+use Rattle.history_book.specs.Entries.{Entry, Accept, Mark, Assure, Read, Back, Shed, Deliver, Letters, Ack, Purge, Adopt, Opened}
+use Rattle.history_book.specs.Legal.{Legal_at, Legal}
+use Rattle.history_book.specs.Lists.{IsIn}
+use Rattle.history_book.specs.States.{Plan, Written, Out, State, start, newest, unread, numbers_of, numbers_out, out_of, change, without, fresh, brought_back, told_from, told_next, reads, left_of, tells_letters, next, after}
+use Rattle.history_book.proofs.Lists.{in_front, in_behind, in_either}
 
 -- it is in one of these batches
 pub record IsOut (n : ℕ) (os : List Out) : Type 0 where

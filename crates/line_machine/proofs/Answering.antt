@@ -9,16 +9,16 @@ use Rattle.pipeline_bus.specs.declared.parcel.Parcel.{Parcel}
 use Rattle.event_flow.specs.Meaning.{Makes}
 use Rattle.dead_letters.specs.Appends.{kept_from}
 use Rattle.foreign_parts.specs.declared.place.Place.TheVariants as place
-use Rattle.history_laws.specs.Contents.{Bytes}
-use Rattle.history_laws.specs.Entries.{Entry, ParcelAt, Accept, Mark, Deliver, Letters}
-use Rattle.history_laws.specs.Inputs.{Input}
-use Rattle.history_laws.specs.Links.{Listening, IsMadeOf, MayAnswer, rows_of}
-use Rattle.history_laws.specs.Legal.{rejections}
-use Rattle.history_laws.specs.Lists.{IsIn, Rise}
-use Rattle.history_laws.specs.Sound.{Places}
-use Rattle.history_laws.specs.States.{Written, State, start, written, after}
-use Rattle.history_laws.proofs.Histories.{after_both}
-use Rattle.history_laws.proofs.Lists.{in_either}
+use Rattle.history_book.specs.Contents.{Bytes}
+use Rattle.history_book.specs.Entries.{Entry, ParcelAt, Accept, Mark, Deliver, Letters}
+use Rattle.history_book.specs.Inputs.{Input}
+use Rattle.history_book.specs.Links.{Listening, IsMadeOf, MayAnswer, rows_of}
+use Rattle.history_book.specs.Legal.{rejections}
+use Rattle.history_book.specs.Lists.{IsIn, Rise}
+use Rattle.history_book.specs.Sound.{Places}
+use Rattle.history_book.specs.States.{Written, State, start, written, after}
+use Rattle.history_book.proofs.Histories.{after_both}
+use Rattle.history_book.proofs.Lists.{in_either}
 use Rattle.line_machine.specs.Answering.{own_link, rows_at, TakerStands, LinksStand, AnswersStand, OpenedLinksStand}
 use Rattle.line_machine.specs.Ends.{Waiting, TakerView, AreApart, Taken, Takes, taker_at, change_taker, without_taker, took, row_made, assured, refused}
 use Rattle.line_machine.specs.Openings.{opening}

@@ -1,18 +1,18 @@
 -- A line that stands where its history does, behind one entry, and behind a call.
 use Rattle.std.proofs.Common.{◌≡◌, ◌⊎◌, inl, inr, List, [], ◌∷◌, ◌++◌, refl, sym, ap, ◌∙◌, subst, append-nil}
-use Rattle.store_trait.specs.Images.{Image}
+use Rattle.io_traits.specs.Images.{Image}
 use Rattle.event_flow.specs.Meaning.{Makes}
-use Rattle.queue_laws.specs.Kept.{Queue}
-use Rattle.history_laws.specs.Contents.{Bytes, FileAfter, DeadAfter, FileHolds, DeadHolds}
-use Rattle.history_laws.specs.Entries.{Entry}
-use Rattle.history_laws.specs.Holdings.{Holdings, HoldsTold, Follows}
-use Rattle.history_laws.specs.Legal.{Legal, Legal_at}
-use Rattle.history_laws.specs.Lists.{IsIn}
-use Rattle.history_laws.specs.Queues.{IsQueueAt}
-use Rattle.history_laws.specs.Sound.{FilePlace, Places, LineSound}
-use Rattle.history_laws.specs.States.{start, next, after}
-use Rattle.history_laws.proofs.Histories.{after_both}
-use Rattle.history_laws.proofs.Moments.{left_is_sound, following_stands}
+use Rattle.queue_files.specs.Kept.{Queue}
+use Rattle.history_book.specs.Contents.{Bytes, FileAfter, DeadAfter, FileHolds, DeadHolds}
+use Rattle.history_book.specs.Entries.{Entry}
+use Rattle.history_book.specs.Holdings.{Holdings, HoldsTold, Follows}
+use Rattle.history_book.specs.Legal.{Legal, Legal_at}
+use Rattle.history_book.specs.Lists.{IsIn}
+use Rattle.history_book.specs.Queues.{IsQueueAt}
+use Rattle.history_book.specs.Sound.{FilePlace, Places, LineSound}
+use Rattle.history_book.specs.States.{start, next, after}
+use Rattle.history_book.proofs.Histories.{after_both}
+use Rattle.history_book.proofs.Moments.{left_is_sound, following_stands}
 use Rattle.line_machine.specs.Effects.{Effect, MayLeave, Before, On_the_way, Behind, with_queue}
 use Rattle.line_machine.specs.Laws.{FollowsAs}
 use Rattle.line_machine.specs.Stands.{Knows, Stands}

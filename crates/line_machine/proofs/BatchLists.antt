@@ -2,8 +2,8 @@
 use Rattle.std.proofs.Common.{◌≡◌, ◌⊎◌, inl, inr, ⊎_elim, ℕ, ◌==◌, Bool, true, false, List, [], ◌∷◌, ◌++◌, map, Some, None, if◌then◌else◌, refl, sym, ap, ◌∙◌, subst}
 use Rattle.std.proofs.lemmas.Bool.{eqb-true, eq-eqb}
 use Rattle.std.proofs.lemmas.Option.{same_Some}
-use Rattle.history_laws.specs.Lists.{IsIn}
-use Rattle.history_laws.proofs.Lists.{in_either}
+use Rattle.history_book.specs.Lists.{IsIn}
+use Rattle.history_book.proofs.Lists.{in_either}
 use Rattle.line_machine.specs.Doing.{AllDiffer}
 use Rattle.line_machine.specs.Views.{Batch, batch_of, change_batch, without_batch}
 use Rattle.line_machine.proofs.Boxes.{without_has}

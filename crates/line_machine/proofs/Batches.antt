@@ -2,10 +2,10 @@
 use Rattle.std.proofs.Common.{◌≡◌, inl, inr, ⊎_elim, ℕ, ◌<◌, ◌==◌, arith, Bool, true, false, List, [], ◌∷◌, ◌++◌, length, take, Some, None, if◌then◌else◌, refl, sym, ap, ap₂, ◌∙◌, subst}
 use Rattle.std.proofs.lemmas.Bool.{cases_Bool, eqb-true, eq-eqb}
 use Rattle.event_tree.specs.Events.{Ev}
-use Rattle.queue_laws.specs.Found.{Row}
-use Rattle.history_laws.specs.Lists.{IsIn}
-use Rattle.history_laws.specs.Queues.{AreRowsOf}
-use Rattle.history_laws.specs.States.{Written, Out, out_of, change, without, numbers_found, events_of}
+use Rattle.queue_files.specs.Found.{Row}
+use Rattle.history_book.specs.Lists.{IsIn}
+use Rattle.history_book.specs.Queues.{AreRowsOf}
+use Rattle.history_book.specs.States.{Written, Out, out_of, change, without, numbers_found, events_of}
 use Rattle.line_machine.specs.Stands.{IsBatchOf, AreBatchesOf}
 use Rattle.line_machine.specs.Views.{Batch, batch_of, change_batch, without_batch, events_in}
 

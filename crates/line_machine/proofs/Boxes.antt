@@ -4,13 +4,13 @@ use Rattle.std.specs.Prelude.{not}
 use Rattle.std.specs.List.{filter, list_any}
 use Rattle.std.proofs.lemmas.Bool.{eq-eqb}
 use Rattle.event_flow.specs.Meaning.{Makes}
-use Rattle.history_laws.specs.Contents.{Bytes}
-use Rattle.history_laws.specs.Links.{Listening}
-use Rattle.history_laws.specs.Lists.{IsIn}
-use Rattle.history_laws.specs.Sound.{Places}
-use Rattle.history_laws.specs.States.{Plan}
-use Rattle.history_laws.proofs.Lists.{in_front, in_behind, in_either, filter_keeps, filter_passes}
-use Rattle.history_laws.proofs.Opening.{or_second}
+use Rattle.history_book.specs.Contents.{Bytes}
+use Rattle.history_book.specs.Links.{Listening}
+use Rattle.history_book.specs.Lists.{IsIn}
+use Rattle.history_book.specs.Sound.{Places}
+use Rattle.history_book.specs.States.{Plan}
+use Rattle.history_book.proofs.Lists.{in_front, in_behind, in_either, filter_keeps, filter_passes}
+use Rattle.history_book.proofs.Opening.{or_second}
 use Rattle.line_machine.specs.Boxes.{BoxesStand, BoxesStay, ClosedAreUnwanted, OpenedBoxesStand, BoxesStandStill}
 use Rattle.line_machine.specs.Effects.{boxes_of, is_wanted, wanted, one_less, in_parcel, without_kit, back_with, new_batch}
 use Rattle.line_machine.specs.Kits.{weigh}

@@ -9,18 +9,18 @@ use Rattle.event_tree.specs.Events.{Ev}
 use Rattle.config_tree.specs.declared.tree.Plugin.{Plugin}
 use Rattle.event_flow.specs.Meaning.{Makes}
 use Rattle.foreign_parts.specs.declared.place.Place.TheVariants as place
-use Rattle.history_laws.specs.Contents.{Bytes}
-use Rattle.history_laws.specs.Entries.{Entry, Accept, Assure, Deliver, Adopt}
-use Rattle.history_laws.specs.Inputs.{Input, named_from}
-use Rattle.history_laws.specs.Legal.{rejections}
-use Rattle.history_laws.specs.Links.{Listening}
-use Rattle.history_laws.specs.Lists.{IsIn, Rise}
-use Rattle.history_laws.specs.Queues.{next_in}
-use Rattle.history_laws.specs.Sound.{Places}
-use Rattle.history_laws.specs.States.{start, after}
-use Rattle.history_laws.specs.Steps.{NoOpening}
-use Rattle.history_laws.proofs.Lists.{in_behind, in_either, filter_has, filter_passes}
-use Rattle.history_laws.proofs.Unread.{rise_end}
+use Rattle.history_book.specs.Contents.{Bytes}
+use Rattle.history_book.specs.Entries.{Entry, Accept, Assure, Deliver, Adopt}
+use Rattle.history_book.specs.Inputs.{Input, named_from}
+use Rattle.history_book.specs.Legal.{rejections}
+use Rattle.history_book.specs.Links.{Listening}
+use Rattle.history_book.specs.Lists.{IsIn, Rise}
+use Rattle.history_book.specs.Queues.{next_in}
+use Rattle.history_book.specs.Sound.{Places}
+use Rattle.history_book.specs.States.{start, after}
+use Rattle.history_book.specs.Steps.{NoOpening}
+use Rattle.history_book.proofs.Lists.{in_behind, in_either, filter_has, filter_passes}
+use Rattle.history_book.proofs.Unread.{rise_end}
 use Rattle.line_machine.specs.Coming.{RowIn, row_accepted, rows_by, WasAssured, came_in, and_came, AreRowsFor, IsPlaced, InputStands, InputsStand, IsSettledUpTo, OpenedInputsStand, InputsStandStill, RecordedAreSettled}
 use Rattle.line_machine.specs.Effects.{Came, accepted_now, held_now, ended_now, assured_now, rows_above, rows_up_to, is_of_file, unless_later, last_places, begun, gone_on, view_of, carried}
 use Rattle.line_machine.specs.Finds.{HasInput, Comes, IsRowFor, Changes}

@@ -7,18 +7,18 @@ use Rattle.pipeline_bus.specs.declared.parcel.Parcel.{Parcel}
 use Rattle.foreign_parts.specs.declared.place.Place.TheVariants as place
 use Rattle.event_flow.specs.Meaning.{Makes}
 use Rattle.queue_page.specs.declared.row.PageRow.{PageRow}
-use Rattle.queue_laws.specs.Kept.{Queue}
-use Rattle.queue_laws.specs.Steps.{marked, rolled, with_row}
-use Rattle.history_laws.specs.Contents.{Bytes}
-use Rattle.history_laws.specs.Entries.{Entry, Accept, Deliver, Adopt}
-use Rattle.history_laws.specs.Inputs.{Input}
-use Rattle.history_laws.specs.Legal.{rejections}
-use Rattle.history_laws.specs.Steps.{NoOpening}
-use Rattle.history_laws.specs.Links.{Listening}
-use Rattle.history_laws.specs.Lists.{IsIn}
-use Rattle.history_laws.specs.Queues.{next_in}
-use Rattle.history_laws.specs.Sound.{Places}
-use Rattle.history_laws.proofs.Lists.{in_either, filter_has}
+use Rattle.queue_files.specs.Kept.{Queue}
+use Rattle.queue_files.specs.Steps.{marked, rolled, with_row}
+use Rattle.history_book.specs.Contents.{Bytes}
+use Rattle.history_book.specs.Entries.{Entry, Accept, Deliver, Adopt}
+use Rattle.history_book.specs.Inputs.{Input}
+use Rattle.history_book.specs.Legal.{rejections}
+use Rattle.history_book.specs.Steps.{NoOpening}
+use Rattle.history_book.specs.Links.{Listening}
+use Rattle.history_book.specs.Lists.{IsIn}
+use Rattle.history_book.specs.Queues.{next_in}
+use Rattle.history_book.specs.Sound.{Places}
+use Rattle.history_book.proofs.Lists.{in_either, filter_has}
 use Rattle.line_machine.specs.Covering.{IsCovered, MarksCover, number_accepted, RowsAreCovered, OpenedMarksCover, MarksCoverStill, OpenedRowsAreCovered, RowsAreCoveredStill}
 use Rattle.line_machine.specs.Effects.{accepted_now, ended_now, assured_now, held_now, begun, view_of, carried}
 use Rattle.line_machine.specs.Ends.{Waiting, TakerView, Taken, Takes, took, waits_for, with_row_of, row_made, change_taker, change_waiting, without_taker, assured, refused}

@@ -12,16 +12,16 @@ use Rattle.dead_letters.specs.Appends.{kept_from}
 use Rattle.dead_letters.specs.Found.{Held}
 use Rattle.dead_letters.specs.Shedding.{shedding}
 use Rattle.dead_letters.specs.declared.shedding.Shedding.{Shedding}
-use Rattle.history_laws.specs.Contents.{Bytes, Appended, AppendsTold, AppendsOf, FileHolds, next_bytes, bytes_at, is_file}
-use Rattle.history_laws.specs.Entries.{Entry, Shed, Deliver, Letters}
-use Rattle.history_laws.specs.Legal.{rejections, FatesFit, WereTold, IsBack, IsShed, AreNextLetters, ArePlaces, Legal_at, Legal}
-use Rattle.history_laws.specs.Links.{Listening}
-use Rattle.history_laws.specs.Lists.{IsIn, AreBelow}
-use Rattle.history_laws.specs.Queues.{IsQueueAt, AreRowsOf}
-use Rattle.history_laws.specs.Sound.{FilePlace, Places}
-use Rattle.history_laws.specs.States.{Plan, Out, State, Between, Nothing, Shed_of, Rejecting, start, change, told_from, told_next, out_of, left_of, shed_in, tells_letters, next, after}
-use Rattle.history_laws.proofs.Following.{others_leave_it}
-use Rattle.history_laws.proofs.Unread.{others_leave_unread}
+use Rattle.history_book.specs.Contents.{Bytes, Appended, AppendsTold, AppendsOf, FileHolds, next_bytes, bytes_at, is_file}
+use Rattle.history_book.specs.Entries.{Entry, Shed, Deliver, Letters}
+use Rattle.history_book.specs.Legal.{rejections, FatesFit, WereTold, IsBack, IsShed, AreNextLetters, ArePlaces, Legal_at, Legal}
+use Rattle.history_book.specs.Links.{Listening}
+use Rattle.history_book.specs.Lists.{IsIn, AreBelow}
+use Rattle.history_book.specs.Queues.{IsQueueAt, AreRowsOf}
+use Rattle.history_book.specs.Sound.{FilePlace, Places}
+use Rattle.history_book.specs.States.{Plan, Out, State, Between, Nothing, Shed_of, Rejecting, start, change, told_from, told_next, out_of, left_of, shed_in, tells_letters, next, after}
+use Rattle.history_book.proofs.Following.{others_leave_it}
+use Rattle.history_book.proofs.Unread.{others_leave_unread}
 use Rattle.line_machine.specs.Effects.{one_less, delivered, with_dead, letters_told}
 use Rattle.line_machine.specs.Stands.{IsBatchOf, AreBatchesOf, Knows, Stands}
 use Rattle.line_machine.specs.Finds.{IsHome}

@@ -15,19 +15,19 @@ use Rattle.pipeline_bus.proofs.Numbers.{counted_more}
 use Rattle.event_flow.specs.Meaning.{Makes, Due}
 use Rattle.event_flow.specs.Meaning as due
 use Rattle.dead_letters.specs.Appends.{kept_from}
-use Rattle.history_laws.specs.Contents.{Bytes}
-use Rattle.history_laws.specs.Deeds.{Deed, Tell, Send, Hear, told_of, tell_all, Mail, no_mail, mail_next, mail_after, sent_on, heard_on, Assurance, assured_by, IsNextFor, Leaves}
-use Rattle.history_laws.specs.Entries.{Entry, Deliver, Letters, Opened}
-use Rattle.history_laws.specs.Legal.{rejections, Legal_at, Legal}
-use Rattle.history_laws.specs.Links.{Listening}
-use Rattle.history_laws.specs.Lists.{IsIn}
-use Rattle.history_laws.specs.Sound.{Places}
-use Rattle.history_laws.specs.States.{State, start, next, after}
-use Rattle.history_laws.specs.Steps.{NoOpening}
-use Rattle.history_laws.proofs.Histories.{legal_rest}
-use Rattle.history_laws.proofs.Lists.{in_front, in_behind, in_either}
-use Rattle.history_laws.proofs.Mailing.{leaves_both}
-use Rattle.history_laws.proofs.Outs.{out_in}
+use Rattle.history_book.specs.Contents.{Bytes}
+use Rattle.history_book.specs.Deeds.{Deed, Tell, Send, Hear, told_of, tell_all, Mail, no_mail, mail_next, mail_after, sent_on, heard_on, Assurance, assured_by, IsNextFor, Leaves}
+use Rattle.history_book.specs.Entries.{Entry, Deliver, Letters, Opened}
+use Rattle.history_book.specs.Legal.{rejections, Legal_at, Legal}
+use Rattle.history_book.specs.Links.{Listening}
+use Rattle.history_book.specs.Lists.{IsIn}
+use Rattle.history_book.specs.Sound.{Places}
+use Rattle.history_book.specs.States.{State, start, next, after}
+use Rattle.history_book.specs.Steps.{NoOpening}
+use Rattle.history_book.proofs.Histories.{legal_rest}
+use Rattle.history_book.proofs.Lists.{in_front, in_behind, in_either}
+use Rattle.history_book.proofs.Mailing.{leaves_both}
+use Rattle.history_book.proofs.Outs.{out_in}
 use Rattle.line_machine.specs.Doing.{WasSent, IsAssured, AllDiffer, IsSent, IsOnItsWay, IsHeardOf, IsMail, DoesLegally, deeds_of, OpenedDoesLegally, DoesLegallyStill}
 use Rattle.line_machine.specs.Effects.{shed_told, one_less, in_parcel, without_kit, back_with, new_batch}
 use Rattle.line_machine.specs.Ends.{SenderView, MaySend, sender_at, change_sender, with_sent, with_heard}

@@ -5,9 +5,9 @@ use Rattle.std.proofs.lemmas.Bool.{eqb-true, eq-eqb}
 use Rattle.std.proofs.lemmas.List.{length-map}
 use Rattle.config_tree.specs.declared.tree.Plugin.{Plugin}
 use Rattle.std.proofs.lemmas.Option.{same_Some}
-use Rattle.history_laws.specs.Inputs.{Input, IsInput, AreInputs, Renumbered, Continues, IsNew, closed, named_from}
-use Rattle.history_laws.specs.Lists.{IsIn}
-use Rattle.history_laws.specs.States.{Plan}
+use Rattle.history_book.specs.Inputs.{Input, IsInput, AreInputs, Renumbered, Continues, IsNew, closed, named_from}
+use Rattle.history_book.specs.Lists.{IsIn}
+use Rattle.history_book.specs.States.{Plan}
 use Rattle.line_machine.specs.Effects.{begun, view_of, carried}
 use Rattle.line_machine.specs.Views.{InputView, input_of, inputs_of, input_at, change_input}
 

@@ -3,12 +3,12 @@ use Rattle.std.proofs.Common.{◌≡◌, inl, inr, ⊎_elim, ℕ, ◌+◌, ◌==
 use Rattle.std.proofs.lemmas.Bool.{eqb-true}
 use Rattle.std.proofs.lemmas.Option.{same_Some}
 use Rattle.event_flow.specs.Meaning.{Makes, Due}
-use Rattle.history_laws.specs.Contents.{Bytes}
-use Rattle.history_laws.specs.Links.{Listening}
-use Rattle.history_laws.specs.Lists.{IsIn}
-use Rattle.history_laws.specs.Sound.{Places}
-use Rattle.history_laws.specs.States.{Plan}
-use Rattle.history_laws.proofs.Lists.{in_front, in_behind, in_either}
+use Rattle.history_book.specs.Contents.{Bytes}
+use Rattle.history_book.specs.Links.{Listening}
+use Rattle.history_book.specs.Lists.{IsIn}
+use Rattle.history_book.specs.Sound.{Places}
+use Rattle.history_book.specs.States.{Plan}
+use Rattle.history_book.proofs.Lists.{in_front, in_behind, in_either}
 use Rattle.line_machine.specs.Kits.{weigh, kit_out, kits_out, kits_of, AreOfTheirs, KitsStay, KitsAreTheirs, OpenedKitsAreTheirs}
 use Rattle.line_machine.specs.Steps as m
 use Rattle.line_machine.specs.Effects.{home_with, closed_of, one_less, in_parcel, without_kit, back_with, new_batch}

@@ -25,3 +25,10 @@ pub mod Doing
 pub mod Settling
 pub mod Sending
 pub mod Lines
+pub mod Least
+pub mod Choosing
+pub mod Turning
+pub mod Resting
+pub mod Finding
+pub mod Ending
+pub mod Staying

@@ -2,15 +2,15 @@
 use Rattle.std.proofs.Common.{◌≡◌, inl, inr, ⊎_elim, ℕ, ◌<◌, suc, List, [], ◌∷◌, ◌++◌, refl, sym, ap, ◌∙◌, subst, arith}
 use Rattle.event_flow.specs.Meaning.{Makes}
 use Rattle.foreign_parts.specs.declared.place.Place.TheVariants as place
-use Rattle.history_laws.specs.Contents.{Bytes}
-use Rattle.history_laws.specs.Entries.{Entry, Deliver, Adopt}
-use Rattle.history_laws.specs.Legal.{rejections}
-use Rattle.history_laws.specs.Links.{Listening}
-use Rattle.history_laws.specs.Lists.{IsIn, Rise}
-use Rattle.history_laws.specs.Sound.{Places}
-use Rattle.history_laws.specs.Steps.{NoOpening}
-use Rattle.history_laws.proofs.Lists.{in_either}
-use Rattle.history_laws.proofs.Unread.{rise_end}
+use Rattle.history_book.specs.Contents.{Bytes}
+use Rattle.history_book.specs.Entries.{Entry, Deliver, Adopt}
+use Rattle.history_book.specs.Legal.{rejections}
+use Rattle.history_book.specs.Links.{Listening}
+use Rattle.history_book.specs.Lists.{IsIn, Rise}
+use Rattle.history_book.specs.Sound.{Places}
+use Rattle.history_book.specs.Steps.{NoOpening}
+use Rattle.history_book.proofs.Lists.{in_either}
+use Rattle.history_book.proofs.Unread.{rise_end}
 use Rattle.line_machine.specs.Numbering.{batch_read, BatchesRise, OpenedBatchesRise, BatchesRiseStill}
 use Rattle.line_machine.specs.Since.{since, of_each}
 use Rattle.line_machine.specs.Steps as m

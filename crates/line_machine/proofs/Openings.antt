@@ -1,22 +1,22 @@
 -- A line that was opened stands where its history does, and so behind any steps.
 use Rattle.std.proofs.Common.{◌≡◌, inl, ℕ, ◌<◌, List, [], ◌∷◌, ◌++◌, Some, None, refl, sym, ap, ap₂, ◌∙◌, subst, append-nil, append_assoc}
-use Rattle.store_trait.specs.Images.{Image}
+use Rattle.io_traits.specs.Images.{Image}
 use Rattle.event_flow.specs.Meaning.{Makes}
-use Rattle.queue_laws.specs.Found.{Row}
-use Rattle.history_laws.specs.Contents.{Bytes}
-use Rattle.history_laws.specs.Entries.{Entry, Adopt, Opened}
-use Rattle.history_laws.specs.Holdings.{Follows, HoldsTold}
-use Rattle.history_laws.specs.Inputs.{Renumbered, named_from}
-use Rattle.history_laws.specs.Legal.{Legal_at}
-use Rattle.history_laws.specs.Links.{Listening}
-use Rattle.history_laws.specs.Lists.{IsIn}
-use Rattle.history_laws.specs.Queues.{AreRowsOf}
-use Rattle.history_laws.specs.Sound.{Places, LineSound}
-use Rattle.history_laws.specs.States.{State, start, opens, unread, next, after}
-use Rattle.history_laws.proofs.Following.{others_leave_it}
-use Rattle.history_laws.proofs.Histories.{after_both}
-use Rattle.history_laws.proofs.Moments.{following_stands, opening_stands}
-use Rattle.history_laws.proofs.Unread.{found_come_next}
+use Rattle.queue_files.specs.Found.{Row}
+use Rattle.history_book.specs.Contents.{Bytes}
+use Rattle.history_book.specs.Entries.{Entry, Adopt, Opened}
+use Rattle.history_book.specs.Holdings.{Follows, HoldsTold}
+use Rattle.history_book.specs.Inputs.{Renumbered, named_from}
+use Rattle.history_book.specs.Legal.{Legal_at}
+use Rattle.history_book.specs.Links.{Listening}
+use Rattle.history_book.specs.Lists.{IsIn}
+use Rattle.history_book.specs.Queues.{AreRowsOf}
+use Rattle.history_book.specs.Sound.{Places, LineSound}
+use Rattle.history_book.specs.States.{State, start, opens, unread, next, after}
+use Rattle.history_book.proofs.Following.{others_leave_it}
+use Rattle.history_book.proofs.Histories.{after_both}
+use Rattle.history_book.proofs.Moments.{following_stands, opening_stands}
+use Rattle.history_book.proofs.Unread.{found_come_next}
 use Rattle.line_machine.specs.Openings.{IsOpenedLine, opening, OpenedLineStands, Stays, Goes, RunsStand}
 use Rattle.line_machine.specs.Stands.{AreBatchesOf, Knows, Stands}
 use Rattle.line_machine.proofs.Inputs.{begun_are}

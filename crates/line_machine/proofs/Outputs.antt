@@ -12,16 +12,16 @@ use Rattle.event_flow.specs.Meaning as due
 use Rattle.dead_letters.specs.Appends.{kept_from}
 use Rattle.dead_letters.specs.declared.shedding.Shedding.{Shedding}
 use Rattle.settings_lines.specs.declared.settings.Policy.{Policy}
-use Rattle.queue_laws.specs.Found.{Row}
-use Rattle.history_laws.specs.Contents.{Bytes, bytes_at, next_bytes, is_stdout}
-use Rattle.history_laws.specs.Entries.{Entry, Shed, Deliver, Letters, Opened}
-use Rattle.history_laws.specs.Legal.{rejections}
-use Rattle.history_laws.specs.Links.{Listening}
-use Rattle.history_laws.specs.Sound.{Places}
-use Rattle.history_laws.specs.States.{Plan, Out, State, start, out_of, left_of, tells_letters, next, after}
-use Rattle.history_laws.specs.Steps.{NoOpening, one_more, steps, steps_of, printed_in, given_in, printed, given}
-use Rattle.history_laws.specs.Steps as h
-use Rattle.history_laws.proofs.Steps.{steps_both}
+use Rattle.queue_files.specs.Found.{Row}
+use Rattle.history_book.specs.Contents.{Bytes, bytes_at, next_bytes, is_stdout}
+use Rattle.history_book.specs.Entries.{Entry, Shed, Deliver, Letters, Opened}
+use Rattle.history_book.specs.Legal.{rejections}
+use Rattle.history_book.specs.Links.{Listening}
+use Rattle.history_book.specs.Sound.{Places}
+use Rattle.history_book.specs.States.{Plan, Out, State, start, out_of, left_of, tells_letters, next, after}
+use Rattle.history_book.specs.Steps.{NoOpening, one_more, steps, steps_of, printed_in, given_in, printed, given}
+use Rattle.history_book.specs.Steps as h
+use Rattle.history_book.proofs.Steps.{steps_both}
 use Rattle.line_machine.specs.Effects.{shed_told, letters_told}
 use Rattle.line_machine.specs.Finds.{IsHome}
 use Rattle.line_machine.specs.Outputs.{took_by, OutputsTookWhatWasTold}

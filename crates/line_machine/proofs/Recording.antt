@@ -2,14 +2,14 @@
 use Rattle.std.proofs.Common.{◌≡◌, inl, inr, ⊎_elim, ℕ, zero, suc, ◌≤◌, ◌<◌, ◌+◌, nat_le, Bool, true, false, List, [], ◌∷◌, ◌++◌, length, take, refl, sym, ap, ap₂, ◌∙◌, subst, arith}
 use Rattle.std.proofs.lemmas.Bool.{cases_Bool, leb-true, leb-false}
 use Rattle.queue_page.specs.declared.row.PageRow.{PageRow}
-use Rattle.queue_laws.specs.Found.{Row, row_of, since}
-use Rattle.queue_laws.specs.Kept.{Page, Queue, all_rows, leading, first_open_of, IsSince, RowsKept, AreNumbered, IsSound, Rising}
-use Rattle.queue_laws.specs.Steps.{marked_pages}
-use Rattle.history_laws.specs.Lists.{IsIn}
-use Rattle.history_laws.specs.Queues.{numbers_at, acknowledged_in}
-use Rattle.history_laws.proofs.Following.{numbers_below}
-use Rattle.history_laws.proofs.Holding.{since_row, since_has, numbered_in}
-use Rattle.history_laws.proofs.Lists.{in_front, in_behind, in_either}
+use Rattle.queue_files.specs.Found.{Row, row_of, since}
+use Rattle.queue_files.specs.Kept.{Page, Queue, all_rows, leading, first_open_of, IsSince, RowsKept, AreNumbered, IsSound, Rising}
+use Rattle.queue_files.specs.Steps.{marked_pages}
+use Rattle.history_book.specs.Lists.{IsIn}
+use Rattle.history_book.specs.Queues.{numbers_at, acknowledged_in}
+use Rattle.history_book.proofs.Following.{numbers_below}
+use Rattle.history_book.proofs.Holding.{since_row, since_has, numbered_in}
+use Rattle.history_book.proofs.Lists.{in_front, in_behind, in_either}
 use Rattle.line_machine.specs.Recorded.{AreRecorded}
 
 -- ---- numbers of pages

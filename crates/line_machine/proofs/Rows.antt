@@ -8,15 +8,15 @@ use Rattle.event_tree.specs.declared.lists.DeadPart.{DeadPart}
 use Rattle.config_tree.specs.declared.tree.Config.{Config}
 use Rattle.settings_lines.specs.declared.settings.Policy.{Policy}
 use Rattle.event_flow.specs.Places.{Draws}
-use Rattle.queue_laws.specs.Found.{Row}
+use Rattle.queue_files.specs.Found.{Row}
 use Rattle.event_flow.specs.Meaning.{Makes, Due}
 use Rattle.event_flow.specs.Meaning as due
-use Rattle.history_laws.specs.Entries.{Entry, ParcelAt, Accept, Mark, Assure, Read, Back, Shed, Deliver, Letters, Ack, Purge, Adopt, Opened}
-use Rattle.history_laws.specs.Links.{Listening, row_of, rows_of, IsMadeOf, AreMadeOf, AreSettled}
-use Rattle.history_laws.specs.States.{Plan, Written, State, start, newest, reads, left_of, out_of, tells_letters, next, after}
-use Rattle.history_laws.specs.Steps.{Step, one_more, steps_of}
-use Rattle.history_laws.proofs.Histories.{after_both}
-use Rattle.history_laws.proofs.Steps.{steps_both}
+use Rattle.history_book.specs.Entries.{Entry, ParcelAt, Accept, Mark, Assure, Read, Back, Shed, Deliver, Letters, Ack, Purge, Adopt, Opened}
+use Rattle.history_book.specs.Links.{Listening, row_of, rows_of, IsMadeOf, AreMadeOf, AreSettled}
+use Rattle.history_book.specs.States.{Plan, Written, State, start, newest, reads, left_of, out_of, tells_letters, next, after}
+use Rattle.history_book.specs.Steps.{Step, one_more, steps_of}
+use Rattle.history_book.proofs.Histories.{after_both}
+use Rattle.history_book.proofs.Steps.{steps_both}
 
 -- no entry is of a parcel, or an opening
 abbrev pub NoRows : List Entry → Type 0

@@ -15,12 +15,12 @@ use Rattle.pipeline_bus.specs.declared.parcel.Parcel.{Parcel}
 use Rattle.pipeline_bus.proofs.Numbers.{counted_more}
 use Rattle.event_flow.specs.Meaning.{Due}
 use Rattle.event_flow.specs.Meaning as due
-use Rattle.history_laws.specs.Deeds.{Deed, tell_all, SentTo, HeardFrom, Mail, mail_next, mail_after, sent_on, heard_on, Assurance, assured_by}
-use Rattle.history_laws.specs.Entries.{Entry, Opened}
-use Rattle.history_laws.specs.Lists.{IsIn}
-use Rattle.history_laws.specs.Steps.{NoOpening}
-use Rattle.history_laws.proofs.Lists.{in_front, in_behind, in_either}
-use Rattle.history_laws.proofs.Mailing.{sent_both, heard_both}
+use Rattle.history_book.specs.Deeds.{Deed, tell_all, SentTo, HeardFrom, Mail, mail_next, mail_after, sent_on, heard_on, Assurance, assured_by}
+use Rattle.history_book.specs.Entries.{Entry, Opened}
+use Rattle.history_book.specs.Lists.{IsIn}
+use Rattle.history_book.specs.Steps.{NoOpening}
+use Rattle.history_book.proofs.Lists.{in_front, in_behind, in_either}
+use Rattle.history_book.proofs.Mailing.{sent_both, heard_both}
 use Rattle.line_machine.specs.Doing.{WasSent, IsSent}
 use Rattle.line_machine.specs.Ends.{SenderView, sender_at, change_sender, with_sent, with_heard}
 use Rattle.line_machine.specs.Finds.{IsPlain}

@@ -11,16 +11,16 @@ use Rattle.pipeline_bus.proofs.Numbers.{numbered_more}
 use Rattle.foreign_parts.specs.declared.place.Place.TheVariants as place
 use Rattle.event_flow.specs.Meaning.{Makes, Due}
 use Rattle.event_flow.specs.Meaning as due
-use Rattle.history_laws.specs.Contents.{Bytes}
-use Rattle.history_laws.specs.Entries.{Entry, Deliver}
-use Rattle.history_laws.specs.Legal.{rejections}
-use Rattle.history_laws.specs.Links.{Listening, WasNext}
-use Rattle.history_laws.specs.Lists.{IsIn}
-use Rattle.history_laws.specs.Sound.{Places}
-use Rattle.history_laws.specs.States.{start, after}
-use Rattle.history_laws.specs.Steps.{NoOpening}
-use Rattle.history_laws.proofs.Lists.{in_either}
-use Rattle.history_laws.proofs.Outs.{out_in}
+use Rattle.history_book.specs.Contents.{Bytes}
+use Rattle.history_book.specs.Entries.{Entry, Deliver}
+use Rattle.history_book.specs.Legal.{rejections}
+use Rattle.history_book.specs.Links.{Listening, WasNext}
+use Rattle.history_book.specs.Lists.{IsIn}
+use Rattle.history_book.specs.Sound.{Places}
+use Rattle.history_book.specs.States.{start, after}
+use Rattle.history_book.specs.Steps.{NoOpening}
+use Rattle.history_book.proofs.Lists.{in_either}
+use Rattle.history_book.proofs.Outs.{out_in}
 use Rattle.line_machine.specs.Effects.{letters_told}
 use Rattle.line_machine.specs.Ends.{SenderView, MaySend, sender_at, change_sender, with_sent, with_heard}
 use Rattle.line_machine.specs.Finds.{AreUnused, IsHome}

@@ -4,14 +4,14 @@ use Rattle.std.proofs.lemmas.Option.{same_Some}
 use Rattle.config_tree.specs.declared.tree.Plugin.{Plugin}
 use Rattle.pipeline_bus.specs.declared.parcel.Parcel.{Parcel}
 use Rattle.event_flow.specs.Meaning.{Makes}
-use Rattle.history_laws.specs.Contents.{Bytes}
-use Rattle.history_laws.specs.Entries.{Entry}
-use Rattle.history_laws.specs.Inputs.{Input, AreInputs, named_from}
-use Rattle.history_laws.specs.Links.{Listening}
-use Rattle.history_laws.specs.Lists.{IsIn}
-use Rattle.history_laws.specs.Sound.{Places}
-use Rattle.history_laws.specs.States.{Plan, start, after}
-use Rattle.history_laws.proofs.Lists.{in_either}
+use Rattle.history_book.specs.Contents.{Bytes}
+use Rattle.history_book.specs.Entries.{Entry}
+use Rattle.history_book.specs.Inputs.{Input, AreInputs, named_from}
+use Rattle.history_book.specs.Links.{Listening}
+use Rattle.history_book.specs.Lists.{IsIn}
+use Rattle.history_book.specs.Sound.{Places}
+use Rattle.history_book.specs.States.{Plan, start, after}
+use Rattle.history_book.proofs.Lists.{in_either}
 use Rattle.line_machine.specs.Effects.{accepted_now, held_now, ended_now, assured_now, carried}
 use Rattle.line_machine.specs.Ends.{TakerView, Taken, Takes, took, row_made, taker_at, change_taker, without_taker, assured, refused}
 use Rattle.line_machine.specs.Finds.{AreNextParcels, IsOpenAmong, IsEndBehind, AreEndsBehind, IsEndOf, AreEndsOf, Changes, ends_served}

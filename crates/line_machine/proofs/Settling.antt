@@ -8,29 +8,29 @@ use Rattle.event_tree.specs.Events.{Ev}
 use Rattle.pipeline_bus.specs.declared.parcel.Answer.{Answer}
 use Rattle.pipeline_bus.specs.declared.parcel.Parcel.{Parcel}
 use Rattle.foreign_parts.specs.declared.place.Place.TheVariants as place
-use Rattle.store_trait.specs.Images.{Image}
+use Rattle.io_traits.specs.Images.{Image}
 use Rattle.event_flow.specs.Meaning.{Makes, Due}
 use Rattle.event_flow.specs.Meaning as due
 use Rattle.dead_letters.specs.Appends.{kept_from}
-use Rattle.queue_laws.specs.Found.{Row, row_of}
-use Rattle.queue_laws.specs.Kept.{Queue, all_rows, Rising}
-use Rattle.queue_laws.specs.Steps.{marked, with_row, rolled}
-use Rattle.history_laws.specs.Contents.{Bytes}
-use Rattle.history_laws.specs.Deeds.{Deed, told_of}
-use Rattle.history_laws.specs.Entries.{Entry, ParcelAt, Accept, Mark, Assure, Read, Back, Shed, Deliver, Letters, Ack, Purge, Adopt, Opened}
-use Rattle.history_laws.specs.Holdings.{StopLeaves}
-use Rattle.history_laws.specs.Legal.{rejections}
-use Rattle.history_laws.specs.Links.{Listening}
-use Rattle.history_laws.specs.Lists.{IsIn}
-use Rattle.history_laws.specs.Queues.{acknowledged_in, next_in, AreRowsOf}
-use Rattle.history_laws.specs.Sound.{Places}
-use Rattle.history_laws.specs.States.{Plan, Written, Out, State, start, newest, unread, is_unread, is_among, reads, left_of, out_of, tells_letters, opens, numbers_out, numbers_found, top_of, next, after}
-use Rattle.history_laws.proofs.Following.{row_known, acknowledged_same, marked_open, marked_numbers, rolled_rows, rolled_numbers, less_open}
-use Rattle.history_laws.proofs.Histories.{after_both}
-use Rattle.history_laws.proofs.Lists.{in_either, filter_keeps, filter_passes}
-use Rattle.history_laws.proofs.Numbers.{and_second, start_sane, all_sane}
-use Rattle.history_laws.proofs.Opening.{among_in, in_among}
-use Rattle.history_laws.proofs.Unread.{numbers_same}
+use Rattle.queue_files.specs.Found.{Row, row_of}
+use Rattle.queue_files.specs.Kept.{Queue, all_rows, Rising}
+use Rattle.queue_files.specs.Steps.{marked, with_row, rolled}
+use Rattle.history_book.specs.Contents.{Bytes}
+use Rattle.history_book.specs.Deeds.{Deed, told_of}
+use Rattle.history_book.specs.Entries.{Entry, ParcelAt, Accept, Mark, Assure, Read, Back, Shed, Deliver, Letters, Ack, Purge, Adopt, Opened}
+use Rattle.history_book.specs.Holdings.{StopLeaves}
+use Rattle.history_book.specs.Legal.{rejections}
+use Rattle.history_book.specs.Links.{Listening}
+use Rattle.history_book.specs.Lists.{IsIn}
+use Rattle.history_book.specs.Queues.{acknowledged_in, next_in, AreRowsOf}
+use Rattle.history_book.specs.Sound.{Places}
+use Rattle.history_book.specs.States.{Plan, Written, Out, State, start, newest, unread, is_unread, is_among, reads, left_of, out_of, tells_letters, opens, numbers_out, numbers_found, top_of, next, after}
+use Rattle.history_book.proofs.Following.{row_known, acknowledged_same, marked_open, marked_numbers, rolled_rows, rolled_numbers, less_open}
+use Rattle.history_book.proofs.Histories.{after_both}
+use Rattle.history_book.proofs.Lists.{in_either, filter_keeps, filter_passes}
+use Rattle.history_book.proofs.Numbers.{and_second, start_sane, all_sane}
+use Rattle.history_book.proofs.Opening.{among_in, in_among}
+use Rattle.history_book.proofs.Unread.{numbers_same}
 use Rattle.line_machine.specs.Answering.{LinksStand}
 use Rattle.line_machine.specs.Effects.{shed_told, letters_told}
 use Rattle.line_machine.specs.Doing.{IsSent, DoesLegally}

@@ -15,10 +15,10 @@ use Rattle.dead_letters.specs.Found.{Held}
 use Rattle.dead_letters.specs.Shedding.{shedding, older, not_kept, shed}
 use Rattle.dead_letters.specs.declared.shedding.Shedding.{Shedding}
 use Rattle.dead_letters.proofs.Sheds.{sheds_none, sheds}
-use Rattle.history_laws.specs.Contents.{Appended, part_of}
-use Rattle.history_laws.specs.Legal.{rejections, AreRejections, AreStatuses, MayShedBy}
-use Rattle.history_laws.specs.Lists.{Rise, AreBelow}
-use Rattle.history_laws.specs.States.{Limits}
+use Rattle.history_book.specs.Contents.{Appended, part_of}
+use Rattle.history_book.specs.Legal.{rejections, AreRejections, AreStatuses, MayShedBy}
+use Rattle.history_book.specs.Lists.{Rise, AreBelow}
+use Rattle.history_book.specs.States.{Limits}
 
 rise_from : (a b : ℕ) → a ≤ b → (ns : List ℕ) → Rise b ns → Rise a ns
 rise_from a b less [] rise = tt

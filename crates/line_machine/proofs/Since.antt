@@ -6,15 +6,15 @@ use Rattle.event_flow.specs.Meaning.{Makes}
 use Rattle.dead_letters.specs.Appends.{kept_from}
 use Rattle.dead_letters.specs.declared.shedding.Shedding.{Shedding}
 use Rattle.foreign_parts.specs.declared.place.Place.TheVariants as place
-use Rattle.queue_laws.specs.Found.{Row}
-use Rattle.history_laws.specs.Contents.{Bytes}
-use Rattle.history_laws.specs.Entries.{Entry, Shed, Deliver, Letters, Opened}
-use Rattle.history_laws.specs.Legal.{rejections}
-use Rattle.history_laws.specs.Links.{Listening}
-use Rattle.history_laws.specs.Lists.{IsIn}
-use Rattle.history_laws.specs.Sound.{Places}
-use Rattle.history_laws.specs.Steps.{NoOpening}
-use Rattle.history_laws.proofs.Lists.{in_front}
+use Rattle.queue_files.specs.Found.{Row}
+use Rattle.history_book.specs.Contents.{Bytes}
+use Rattle.history_book.specs.Entries.{Entry, Shed, Deliver, Letters, Opened}
+use Rattle.history_book.specs.Legal.{rejections}
+use Rattle.history_book.specs.Links.{Listening}
+use Rattle.history_book.specs.Lists.{IsIn}
+use Rattle.history_book.specs.Sound.{Places}
+use Rattle.history_book.specs.Steps.{NoOpening}
+use Rattle.history_book.proofs.Lists.{in_front}
 use Rattle.line_machine.specs.Effects.{shed_told, letters_told}
 use Rattle.line_machine.specs.Since.{since_behind, since, of_each}
 use Rattle.line_machine.specs.Steps as m

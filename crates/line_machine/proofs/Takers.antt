@@ -10,12 +10,12 @@ use Rattle.pipeline_bus.specs.declared.parcel.Heard.{Heard}
 use Rattle.pipeline_bus.specs.declared.parcel.Heard.TheVariants.{Assured, NotListening}
 use Rattle.pipeline_bus.specs.declared.parcel.Parcel.{Parcel}
 use Rattle.event_flow.specs.Meaning.{Makes}
-use Rattle.history_laws.specs.Entries.{Entry, ParcelAt}
-use Rattle.history_laws.specs.Links.{Listening, IsMadeOf, AreMadeOf, AreSettled, IsSettled, MayAnswer, TakerSound}
-use Rattle.history_laws.specs.Lists.{IsIn, Rise}
-use Rattle.history_laws.specs.States.{Written, start, numbers_of, after}
-use Rattle.history_laws.proofs.Lists.{in_front, in_behind, in_either}
-use Rattle.history_laws.proofs.Unread.{numbers_more, rise_end}
+use Rattle.history_book.specs.Entries.{Entry, ParcelAt}
+use Rattle.history_book.specs.Links.{Listening, IsMadeOf, AreMadeOf, AreSettled, IsSettled, MayAnswer, TakerSound}
+use Rattle.history_book.specs.Lists.{IsIn, Rise}
+use Rattle.history_book.specs.States.{Written, start, numbers_of, after}
+use Rattle.history_book.proofs.Lists.{in_front, in_behind, in_either}
+use Rattle.history_book.proofs.Unread.{numbers_more, rise_end}
 use Rattle.line_machine.specs.Answering.{own_link, rows_at, IsWaiting, TakerStands}
 use Rattle.line_machine.specs.Ends.{Waiting, TakerView, AreApart, MayAssure, AreUpTo, taker_at, change_taker, waiting_at, change_waiting, waits_for, took, with_row_of, row_made, assured, refused}
 use Rattle.line_machine.proofs.Rows.{made_more, settled_up}

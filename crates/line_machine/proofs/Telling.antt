@@ -7,21 +7,21 @@ use Rattle.element_code.specs.declared.row.Origin.{Origin}
 use Rattle.foreign_parts.specs.declared.filter.Verdict.{Verdict}
 use Rattle.event_flow.specs.Meaning.{Makes, Due, UsesExactly}
 use Rattle.event_flow.specs.Meaning as due
-use Rattle.queue_laws.specs.Found.{row_of}
-use Rattle.queue_laws.specs.Kept.{Queue, IsQueue}
-use Rattle.queue_laws.specs.Steps.{marked, with_row}
-use Rattle.history_laws.specs.Contents.{Bytes}
-use Rattle.history_laws.specs.Entries.{Entry, ParcelAt, Accept, Mark, Assure, Read, Back, Ack, Purge, Adopt}
-use Rattle.history_laws.specs.Inputs.{AreInputs, Renumbered, named_from}
-use Rattle.history_laws.specs.Legal.{Names, IsRunning, IsBack, MayAdopt, WasOpened, Legal_at}
-use Rattle.history_laws.specs.Links.{Listening}
-use Rattle.history_laws.specs.Lists.{IsIn}
-use Rattle.history_laws.specs.Queues.{IsQueueAt, AreRowsOf, AcknowledgesMore, next_in}
-use Rattle.history_laws.specs.Sound.{Places}
-use Rattle.history_laws.specs.States.{Plan, Out, State, Limits, start, newest, unread, reads, fresh, brought_back, numbers_found, events_of, numbers_out, out_of, written, next, after}
-use Rattle.history_laws.proofs.Following.{accepted_is_written, marked_is_settled, rolled_is_of, acknowledged_is_of, purged_is_of, others_leave_it}
-use Rattle.history_laws.proofs.Lists.{in_either}
-use Rattle.history_laws.proofs.Unread.{accepted_comes_last, first_are_read, others_leave_unread, numbers_same}
+use Rattle.queue_files.specs.Found.{row_of}
+use Rattle.queue_files.specs.Kept.{Queue, IsQueue}
+use Rattle.queue_files.specs.Steps.{marked, with_row}
+use Rattle.history_book.specs.Contents.{Bytes}
+use Rattle.history_book.specs.Entries.{Entry, ParcelAt, Accept, Mark, Assure, Read, Back, Ack, Purge, Adopt}
+use Rattle.history_book.specs.Inputs.{AreInputs, Renumbered, named_from}
+use Rattle.history_book.specs.Legal.{Names, IsRunning, IsBack, MayAdopt, WasOpened, Legal_at}
+use Rattle.history_book.specs.Links.{Listening}
+use Rattle.history_book.specs.Lists.{IsIn}
+use Rattle.history_book.specs.Queues.{IsQueueAt, AreRowsOf, AcknowledgesMore, next_in}
+use Rattle.history_book.specs.Sound.{Places}
+use Rattle.history_book.specs.States.{Plan, Out, State, Limits, start, newest, unread, reads, fresh, brought_back, numbers_found, events_of, numbers_out, out_of, written, next, after}
+use Rattle.history_book.proofs.Following.{accepted_is_written, marked_is_settled, rolled_is_of, acknowledged_is_of, purged_is_of, others_leave_it}
+use Rattle.history_book.proofs.Lists.{in_either}
+use Rattle.history_book.proofs.Unread.{accepted_comes_last, first_are_read, others_leave_unread, numbers_same}
 use Rattle.line_machine.specs.Effects.{with_queue, with_written, with_batch, new_batch, back_with, assured_now, with_mark, adopted, acknowledging}
 use Rattle.line_machine.specs.Ends.{TakerView}
 use Rattle.line_machine.specs.Finds.{IsHome, TakesRows, Rolls, IsRowFor, Acknowledges, HasSpent, Changes, Uses, without_page}

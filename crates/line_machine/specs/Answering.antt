@@ -4,14 +4,14 @@ use Rattle.pipeline_bus.specs.Ends.{no_taking}
 use Rattle.pipeline_bus.specs.Parcels.{is_last}
 use Rattle.pipeline_bus.specs.declared.parcel.Answer.{Answer}
 use Rattle.pipeline_bus.specs.declared.parcel.Parcel.{Parcel}
-use Rattle.store_trait.specs.Images.{Image}
+use Rattle.io_traits.specs.Images.{Image}
 use Rattle.event_flow.specs.Meaning.{Makes}
-use Rattle.history_laws.specs.Contents.{Bytes}
-use Rattle.history_laws.specs.Entries.{Entry, ParcelAt}
-use Rattle.history_laws.specs.Links.{Listening, Link, TakerSound, rows_of}
-use Rattle.history_laws.specs.Lists.{IsIn, Rise}
-use Rattle.history_laws.specs.Sound.{Places, LineSound}
-use Rattle.history_laws.specs.States.{Written, numbers_of}
+use Rattle.history_book.specs.Contents.{Bytes}
+use Rattle.history_book.specs.Entries.{Entry, ParcelAt}
+use Rattle.history_book.specs.Links.{Listening, Link, TakerSound, rows_of}
+use Rattle.history_book.specs.Lists.{IsIn, Rise}
+use Rattle.history_book.specs.Sound.{Places, LineSound}
+use Rattle.history_book.specs.States.{Written, numbers_of}
 use Rattle.line_machine.specs.Ends.{Waiting, TakerView, AreApart}
 use Rattle.line_machine.specs.Openings.{IsOpenedLine, opening}
 use Rattle.line_machine.specs.Stands.{Stands}

@@ -2,9 +2,9 @@
 use Rattle.std.specs.Prelude.{◌≡◌, ◌⊎◌, ℕ, Bool, true, false, List, Option, Some, Result, Ok, Err}
 use Rattle.pipeline_bus.specs.declared.parcel.Heard.TheVariants.{Assured, NotListening}
 use Rattle.event_flow.specs.Meaning.{Makes}
-use Rattle.history_laws.specs.Contents.{Bytes}
-use Rattle.history_laws.specs.Links.{Listening}
-use Rattle.history_laws.specs.Sound.{Places}
+use Rattle.history_book.specs.Contents.{Bytes}
+use Rattle.history_book.specs.Links.{Listening}
+use Rattle.history_book.specs.Sound.{Places}
 use Rattle.line_machine.specs.declared.calls.Accepted.TheVariants as accepted
 use Rattle.line_machine.specs.declared.calls.Call.{Call}
 use Rattle.line_machine.specs.declared.calls.Call.TheVariants as call

@@ -1,15 +1,15 @@
 -- What came to the inputs of a line that listen on no address, against what it told: what it accepted of it, what it holds, of what it was told, and which places of watched files it recorded.
 use Rattle.std.specs.Prelude.{◌≡◌, ◌⊎◌, ◌≤◌, ◌<◌, ◌==◌, ℕ, suc, true, List, [], ◌∷◌, ◌++◌, length, map, Some, None, if◌then◌else◌, ⊤}
-use Rattle.store_trait.specs.Images.{Image}
+use Rattle.io_traits.specs.Images.{Image}
 use Rattle.event_tree.specs.Events.{Ev}
 use Rattle.event_flow.specs.Meaning.{Makes}
-use Rattle.history_laws.specs.Contents.{Bytes}
-use Rattle.history_laws.specs.Entries.{Entry, Accept, Assure}
-use Rattle.history_laws.specs.Links.{Listening}
-use Rattle.history_laws.specs.Lists.{IsIn, Rise}
-use Rattle.history_laws.specs.Queues.{next_in}
-use Rattle.history_laws.specs.Sound.{Places, LineSound}
-use Rattle.history_laws.specs.States.{start, after}
+use Rattle.history_book.specs.Contents.{Bytes}
+use Rattle.history_book.specs.Entries.{Entry, Accept, Assure}
+use Rattle.history_book.specs.Links.{Listening}
+use Rattle.history_book.specs.Lists.{IsIn, Rise}
+use Rattle.history_book.specs.Queues.{next_in}
+use Rattle.history_book.specs.Sound.{Places, LineSound}
+use Rattle.history_book.specs.States.{start, after}
 use Rattle.line_machine.specs.Effects.{Came}
 use Rattle.line_machine.specs.Openings.{IsOpenedLine, opening}
 use Rattle.line_machine.specs.Since.{since, of_each}

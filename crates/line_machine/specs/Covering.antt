@@ -1,13 +1,13 @@
 -- What a mark covers.
 use Rattle.std.specs.Prelude.{◌≡◌, ◌≤◌, ◌<◌, ℕ, false, List, [], ◌∷◌, ◌++◌, Some}
-use Rattle.store_trait.specs.Images.{Image}
+use Rattle.io_traits.specs.Images.{Image}
 use Rattle.event_flow.specs.Meaning.{Makes}
-use Rattle.history_laws.specs.Contents.{Bytes}
-use Rattle.history_laws.specs.Entries.{Entry, Accept}
-use Rattle.history_laws.specs.Links.{Listening}
-use Rattle.history_laws.specs.Lists.{IsIn}
-use Rattle.history_laws.specs.Queues.{next_in}
-use Rattle.history_laws.specs.Sound.{Places, LineSound}
+use Rattle.history_book.specs.Contents.{Bytes}
+use Rattle.history_book.specs.Entries.{Entry, Accept}
+use Rattle.history_book.specs.Links.{Listening}
+use Rattle.history_book.specs.Lists.{IsIn}
+use Rattle.history_book.specs.Queues.{next_in}
+use Rattle.history_book.specs.Sound.{Places, LineSound}
 use Rattle.line_machine.specs.Ends.{Waiting, TakerView}
 use Rattle.line_machine.specs.Openings.{IsOpenedLine, opening}
 use Rattle.line_machine.specs.Since.{since, of_each}

@@ -1,6 +1,6 @@
 -- What a line does that others can know of is legal: each delivery to an address that it tells is backed by an answer of its own.
 use Rattle.std.specs.Prelude.{◌≡◌, ◌≢◌, ◌⊎◌, ℕ, ◌≤◌, false, List, [], ◌∷◌, ◌++◌, map, Some, None, ⊤}
-use Rattle.store_trait.specs.Images.{Image}
+use Rattle.io_traits.specs.Images.{Image}
 use Rattle.event_tree.specs.Events.{Ev}
 use Rattle.foreign_parts.specs.declared.place.Place.TheVariants as place
 use Rattle.pipeline_bus.specs.Ends.{Sending}
@@ -10,12 +10,12 @@ use Rattle.pipeline_bus.specs.declared.parcel.Heard.TheVariants.{Assured}
 use Rattle.pipeline_bus.specs.declared.parcel.Parcel.{Parcel}
 use Rattle.event_flow.specs.Meaning.{Makes, Due}
 use Rattle.event_flow.specs.Meaning as due
-use Rattle.history_laws.specs.Contents.{Bytes}
-use Rattle.history_laws.specs.Deeds.{Deed, Send, Hear, told_of, tell_all, no_mail, mail_after, sent_on, heard_on, Assurance, Leaves, LegalDeeds}
-use Rattle.history_laws.specs.Links.{Listening}
-use Rattle.history_laws.specs.Lists.{IsIn}
-use Rattle.history_laws.specs.Sound.{Places, LineSound}
-use Rattle.history_laws.specs.States.{start}
+use Rattle.history_book.specs.Contents.{Bytes}
+use Rattle.history_book.specs.Deeds.{Deed, Send, Hear, told_of, tell_all, no_mail, mail_after, sent_on, heard_on, Assurance, Leaves, LegalDeeds}
+use Rattle.history_book.specs.Links.{Listening}
+use Rattle.history_book.specs.Lists.{IsIn}
+use Rattle.history_book.specs.Sound.{Places, LineSound}
+use Rattle.history_book.specs.States.{start}
 use Rattle.line_machine.specs.Ends.{SenderView, sender_at}
 use Rattle.line_machine.specs.Openings.{IsOpenedLine, opening}
 use Rattle.line_machine.specs.Stands.{Stands}

@@ -4,7 +4,7 @@ use Rattle.std.specs.List.{filter, list_any}
 use Rattle.event_tree.specs.Events.{Ev}
 use Rattle.event_tree.specs.declared.lists.DeadPart.{DeadPart}
 use Rattle.config_tree.specs.declared.tree.Config.{Config}
-use Rattle.store_trait.specs.Images.{Image}
+use Rattle.io_traits.specs.Images.{Image}
 use Rattle.foreign_parts.specs.Delivering.{taken}
 use Rattle.foreign_parts.specs.declared.filter.Verdict.{Verdict}
 use Rattle.foreign_parts.specs.declared.output.Fate.{Fate}
@@ -16,17 +16,17 @@ use Rattle.dead_letters.specs.Appends.{kept_from}
 use Rattle.dead_letters.specs.Found.{Held}
 use Rattle.dead_letters.specs.declared.shedding.Shedding.{Shedding}
 use Rattle.queue_page.specs.declared.row.PageRow.{PageRow}
-use Rattle.queue_laws.specs.Found.{Row, row_of}
-use Rattle.queue_laws.specs.Kept.{Queue}
-use Rattle.queue_laws.specs.Steps.{marked, with_row}
-use Rattle.history_laws.specs.Contents.{Bytes, bytes_at, is_file, is_stdout}
-use Rattle.history_laws.specs.Entries.{Entry, ParcelAt, Accept, Mark, Assure, Read, Back, Shed, Deliver, Letters, Ack, Purge, Adopt}
-use Rattle.history_laws.specs.Holdings.{Holdings, StopLeaves}
-use Rattle.history_laws.specs.Inputs.{Input}
-use Rattle.history_laws.specs.Links.{Listening}
-use Rattle.history_laws.specs.Lists.{IsIn}
-use Rattle.history_laws.specs.Sound.{Places}
-use Rattle.history_laws.specs.States.{Plan, numbers_found}
+use Rattle.queue_files.specs.Found.{Row, row_of}
+use Rattle.queue_files.specs.Kept.{Queue}
+use Rattle.queue_files.specs.Steps.{marked, with_row}
+use Rattle.history_book.specs.Contents.{Bytes, bytes_at, is_file, is_stdout}
+use Rattle.history_book.specs.Entries.{Entry, ParcelAt, Accept, Mark, Assure, Read, Back, Shed, Deliver, Letters, Ack, Purge, Adopt}
+use Rattle.history_book.specs.Holdings.{Holdings, StopLeaves}
+use Rattle.history_book.specs.Inputs.{Input}
+use Rattle.history_book.specs.Links.{Listening}
+use Rattle.history_book.specs.Lists.{IsIn}
+use Rattle.history_book.specs.Sound.{Places}
+use Rattle.history_book.specs.States.{Plan, numbers_found}
 use Rattle.line_machine.specs.Ends.{TakerView, change_taker, row_made}
 use Rattle.line_machine.specs.Finds.{HasInput, Comes, IsAway, TakesKit, TakesRows, AppendsNow, Changes, HasSpent, without_page, IsRowFor, Arrives}
 use Rattle.line_machine.specs.Views.{Kit, Box, FileAt, Incoming, RowAt, Given, InputView, Batch, LineView, input_at, change_input, change_batch, without_batch, events_in}

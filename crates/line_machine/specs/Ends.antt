@@ -7,8 +7,8 @@ use Rattle.pipeline_bus.specs.declared.parcel.Heard.{Heard}
 use Rattle.pipeline_bus.specs.declared.parcel.Answer.{Answer}
 use Rattle.pipeline_bus.specs.declared.parcel.Heard.TheVariants.{Assured, NotListening}
 use Rattle.pipeline_bus.specs.declared.parcel.Parcel.{Parcel}
-use Rattle.history_laws.specs.Entries.{ParcelAt}
-use Rattle.history_laws.specs.Lists.{IsIn}
+use Rattle.history_book.specs.Entries.{ParcelAt}
+use Rattle.history_book.specs.Lists.{IsIn}
 
 -- A parcel that was taken and isn't answered: its number, its events, and the numbers of the rows of the first of them.
 pub record Waiting : Type 0 where

@@ -19,20 +19,20 @@ use Rattle.dead_letters.specs.Found.{Held}
 use Rattle.dead_letters.specs.declared.letter.DeadLetter.{DeadLetter}
 use Rattle.dead_letters.specs.declared.shedding.Shedding.{Shedding}
 use Rattle.queue_page.specs.declared.row.PageRow.{PageRow}
-use Rattle.queue_laws.specs.Found.{Row}
-use Rattle.queue_laws.specs.Kept.{Page, Queue, IsQueue}
-use Rattle.queue_laws.specs.Steps.{marked, with_row, rolled, CanRoll, IsSpent, with_tails}
-use Rattle.persistent_queue.specs.Taking.{batch_bytes}
-use Rattle.persistent_queue.specs.Unread.{taken}
-use Rattle.history_laws.specs.Contents.{Bytes, Appended, part_of, bytes_at, is_stdout}
-use Rattle.history_laws.specs.Entries.{ParcelAt}
-use Rattle.history_laws.specs.Inputs.{Input, Renumbered, named_from}
-use Rattle.history_laws.specs.Legal.{rejections, FatesFit}
-use Rattle.history_laws.specs.Links.{Listening}
-use Rattle.history_laws.specs.Lists.{IsIn}
-use Rattle.history_laws.specs.Queues.{acknowledged_in, next_in, AcknowledgesMore}
-use Rattle.history_laws.specs.Sound.{Places}
-use Rattle.history_laws.specs.States.{Plan}
+use Rattle.queue_files.specs.Found.{Row}
+use Rattle.queue_files.specs.Kept.{Page, Queue, IsQueue}
+use Rattle.queue_files.specs.Steps.{marked, with_row, rolled, CanRoll, IsSpent, with_tails}
+use Rattle.queue_core.specs.Taking.{batch_bytes}
+use Rattle.queue_core.specs.Unread.{taken}
+use Rattle.history_book.specs.Contents.{Bytes, Appended, part_of, bytes_at, is_stdout}
+use Rattle.history_book.specs.Entries.{ParcelAt}
+use Rattle.history_book.specs.Inputs.{Input, Renumbered, named_from}
+use Rattle.history_book.specs.Legal.{rejections, FatesFit}
+use Rattle.history_book.specs.Links.{Listening}
+use Rattle.history_book.specs.Lists.{IsIn}
+use Rattle.history_book.specs.Queues.{acknowledged_in, next_in, AcknowledgesMore}
+use Rattle.history_book.specs.Sound.{Places}
+use Rattle.history_book.specs.States.{Plan}
 use Rattle.line_machine.specs.declared.calls.LineFault.{LineFault}
 use Rattle.line_machine.specs.declared.calls.LineFault.TheVariants as fault
 use Rattle.line_machine.specs.Ends.{TakerView, SenderView, AreApart, IsUnused, Taken, Takes, HasNext, IsServed, IsPartlyAccepted, AreEnded}

@@ -1,14 +1,14 @@
 -- What holds of whatever the machine allows.
 use Rattle.std.specs.Prelude.{◌⊎◌, List, ◌++◌}
-use Rattle.store_trait.specs.Images.{Image}
+use Rattle.io_traits.specs.Images.{Image}
 use Rattle.event_flow.specs.Meaning.{Makes}
-use Rattle.history_laws.specs.Contents.{Bytes}
-use Rattle.history_laws.specs.Entries.{Entry}
-use Rattle.history_laws.specs.Holdings.{HoldsTold}
-use Rattle.history_laws.specs.Legal.{Legal}
-use Rattle.history_laws.specs.Links.{Listening}
-use Rattle.history_laws.specs.Sound.{Places, LineSound}
-use Rattle.history_laws.specs.States.{start}
+use Rattle.history_book.specs.Contents.{Bytes}
+use Rattle.history_book.specs.Entries.{Entry}
+use Rattle.history_book.specs.Holdings.{HoldsTold}
+use Rattle.history_book.specs.Legal.{Legal}
+use Rattle.history_book.specs.Links.{Listening}
+use Rattle.history_book.specs.Sound.{Places, LineSound}
+use Rattle.history_book.specs.States.{start}
 use Rattle.line_machine.specs.declared.calls.Call.{Call}
 use Rattle.line_machine.specs.Answers.{Did}
 use Rattle.line_machine.specs.Effects.{Effect, MayLeave}

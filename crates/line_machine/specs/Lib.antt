@@ -23,3 +23,6 @@ pub mod Outputs
 pub mod Settling
 pub mod Lines
 pub mod Resting
+pub mod Turns
+pub mod Summaries
+pub mod Choices

@@ -1,12 +1,12 @@
 -- All that holds of a line, from its opening on.
 use Rattle.std.specs.Prelude.{List, [], ◌++◌, ℕ}
-use Rattle.store_trait.specs.Images.{Image}
+use Rattle.io_traits.specs.Images.{Image}
 use Rattle.event_flow.specs.Meaning.{Makes}
-use Rattle.history_laws.specs.Contents.{Bytes}
-use Rattle.history_laws.specs.Deeds.{Deed, told_of, tell_all, LegalDeeds}
-use Rattle.history_laws.specs.Links.{Listening}
-use Rattle.history_laws.specs.Sound.{Places, LineSound}
-use Rattle.history_laws.specs.States.{start, after}
+use Rattle.history_book.specs.Contents.{Bytes}
+use Rattle.history_book.specs.Deeds.{Deed, told_of, tell_all, LegalDeeds}
+use Rattle.history_book.specs.Links.{Listening}
+use Rattle.history_book.specs.Sound.{Places, LineSound}
+use Rattle.history_book.specs.States.{start, after}
 use Rattle.line_machine.specs.declared.calls.Call.{Call}
 use Rattle.line_machine.specs.Answering.{LinksStand}
 use Rattle.line_machine.specs.Answers.{Parts, None_before, First, Did}

@@ -1,12 +1,12 @@
 -- The numbers of batches rise.
 use Rattle.std.specs.Prelude.{ℕ, ◌<◌, List, [], ◌∷◌, ◌++◌}
-use Rattle.store_trait.specs.Images.{Image}
+use Rattle.io_traits.specs.Images.{Image}
 use Rattle.event_flow.specs.Meaning.{Makes}
-use Rattle.history_laws.specs.Contents.{Bytes}
-use Rattle.history_laws.specs.Entries.{Entry, Read}
-use Rattle.history_laws.specs.Links.{Listening}
-use Rattle.history_laws.specs.Lists.{IsIn, Rise}
-use Rattle.history_laws.specs.Sound.{Places, LineSound}
+use Rattle.history_book.specs.Contents.{Bytes}
+use Rattle.history_book.specs.Entries.{Entry, Read}
+use Rattle.history_book.specs.Links.{Listening}
+use Rattle.history_book.specs.Lists.{IsIn, Rise}
+use Rattle.history_book.specs.Sound.{Places, LineSound}
 use Rattle.line_machine.specs.Openings.{IsOpenedLine, opening}
 use Rattle.line_machine.specs.Since.{since, of_each}
 use Rattle.line_machine.specs.Steps.{Step, effect}

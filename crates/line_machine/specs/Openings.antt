@@ -1,14 +1,14 @@
 -- A line that was opened over what a stop left, and lines behind several steps.
 use Rattle.std.specs.Prelude.{◌≡◌, List, [], ◌∷◌, ◌++◌, map, None, false}
-use Rattle.store_trait.specs.Images.{Image}
+use Rattle.io_traits.specs.Images.{Image}
 use Rattle.event_flow.specs.Meaning.{Makes}
-use Rattle.history_laws.specs.Contents.{Bytes}
-use Rattle.history_laws.specs.Entries.{Entry, Adopt, Opened}
-use Rattle.history_laws.specs.Holdings.{IsOpened}
-use Rattle.history_laws.specs.Inputs.{Input, Renumbered, named_from}
-use Rattle.history_laws.specs.Links.{Listening}
-use Rattle.history_laws.specs.Lists.{IsIn}
-use Rattle.history_laws.specs.Sound.{Places, LineSound}
+use Rattle.history_book.specs.Contents.{Bytes}
+use Rattle.history_book.specs.Entries.{Entry, Adopt, Opened}
+use Rattle.history_book.specs.Holdings.{IsOpened}
+use Rattle.history_book.specs.Inputs.{Input, Renumbered, named_from}
+use Rattle.history_book.specs.Links.{Listening}
+use Rattle.history_book.specs.Lists.{IsIn}
+use Rattle.history_book.specs.Sound.{Places, LineSound}
 use Rattle.line_machine.specs.Effects.{begun, boxes_of}
 use Rattle.line_machine.specs.Finds.{AreNew, AreEndsOf, AreUnused}
 use Rattle.line_machine.specs.Recorded.{IsRecorded}

@@ -2,11 +2,11 @@
 use Rattle.std.specs.Prelude.{◌≡◌, ◌==◌, ℕ, List, [], ◌∷◌, ◌++◌, if◌then◌else◌}
 use Rattle.event_tree.specs.Events.{Ev}
 use Rattle.event_flow.specs.Meaning.{Makes}
-use Rattle.history_laws.specs.Contents.{Bytes}
-use Rattle.history_laws.specs.Entries.{Entry}
-use Rattle.history_laws.specs.Links.{Listening}
-use Rattle.history_laws.specs.Sound.{Places}
-use Rattle.history_laws.specs.Steps.{printed, given}
+use Rattle.history_book.specs.Contents.{Bytes}
+use Rattle.history_book.specs.Entries.{Entry}
+use Rattle.history_book.specs.Links.{Listening}
+use Rattle.history_book.specs.Sound.{Places}
+use Rattle.history_book.specs.Steps.{printed, given}
 use Rattle.line_machine.specs.Stands.{Stands}
 use Rattle.line_machine.specs.Steps.{Step, effect, GoesOn}
 use Rattle.line_machine.specs.Views.{Given, LineView}

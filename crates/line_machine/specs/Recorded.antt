@@ -1,6 +1,6 @@
 -- When all that is acknowledged in a queue was recorded.
 use Rattle.std.specs.Prelude.{◌≡◌, List, [], ◌∷◌, length, ⊤}
-use Rattle.queue_laws.specs.Kept.{Page, Queue, first_open_of}
+use Rattle.queue_files.specs.Kept.{Page, Queue, first_open_of}
 
 -- of each of these pages what is acknowledged now was recorded
 abbrev pub AreRecorded : List Page → Type 0

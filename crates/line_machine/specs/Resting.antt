@@ -3,16 +3,16 @@ use Rattle.std.specs.Prelude.{◌≡◌, ◌⊎◌, ◌≤◌, ℕ, true, false,
 use Rattle.pipeline_bus.specs.Parcels.{is_last}
 use Rattle.pipeline_bus.specs.declared.parcel.Answer.{Answer}
 use Rattle.pipeline_bus.specs.declared.parcel.Parcel.{Parcel}
-use Rattle.store_trait.specs.Images.{Image}
+use Rattle.io_traits.specs.Images.{Image}
 use Rattle.event_flow.specs.Meaning.{Makes}
-use Rattle.history_laws.specs.Contents.{Bytes}
-use Rattle.history_laws.specs.Deeds.{Deed, told_of}
-use Rattle.history_laws.specs.Entries.{Entry}
-use Rattle.history_laws.specs.Holdings.{StopLeaves}
-use Rattle.history_laws.specs.Links.{Listening}
-use Rattle.history_laws.specs.Lists.{IsIn}
-use Rattle.history_laws.specs.Sound.{Places}
-use Rattle.history_laws.specs.States.{Written, start, after}
+use Rattle.history_book.specs.Contents.{Bytes}
+use Rattle.history_book.specs.Deeds.{Deed, told_of}
+use Rattle.history_book.specs.Entries.{Entry}
+use Rattle.history_book.specs.Holdings.{StopLeaves}
+use Rattle.history_book.specs.Links.{Listening}
+use Rattle.history_book.specs.Lists.{IsIn}
+use Rattle.history_book.specs.Sound.{Places}
+use Rattle.history_book.specs.States.{Written, start, after}
 use Rattle.line_machine.specs.Covering.{number_accepted}
 use Rattle.line_machine.specs.Coming.{RowIn, rows_by, WasAssured}
 use Rattle.line_machine.specs.Ends.{TakerView, SenderView, taker_at, sender_at, IsServed, MayAssure, MayRefuse}

@@ -1,12 +1,12 @@
 -- The ends of links at which a line listens, and the inputs to which they belong.
 use Rattle.std.specs.Prelude.{◌≡◌, true, List, [], Some}
-use Rattle.store_trait.specs.Images.{Image}
+use Rattle.io_traits.specs.Images.{Image}
 use Rattle.event_flow.specs.Meaning.{Makes}
-use Rattle.history_laws.specs.Contents.{Bytes}
-use Rattle.history_laws.specs.Entries.{Entry}
-use Rattle.history_laws.specs.Links.{Listening}
-use Rattle.history_laws.specs.Lists.{IsIn}
-use Rattle.history_laws.specs.Sound.{Places, LineSound}
+use Rattle.history_book.specs.Contents.{Bytes}
+use Rattle.history_book.specs.Entries.{Entry}
+use Rattle.history_book.specs.Links.{Listening}
+use Rattle.history_book.specs.Lists.{IsIn}
+use Rattle.history_book.specs.Sound.{Places, LineSound}
 use Rattle.line_machine.specs.Ends.{TakerView}
 use Rattle.line_machine.specs.Finds.{AreNextParcels}
 use Rattle.line_machine.specs.Openings.{IsOpenedLine}

@@ -1,6 +1,6 @@
 -- What was told since a line was last opened.
 use Rattle.std.specs.Prelude.{List, [], ◌∷◌, ◌++◌}
-use Rattle.history_laws.specs.Entries.{Entry, Opened}
+use Rattle.history_book.specs.Entries.{Entry, Opened}
 
 -- behind these entries and further ones, those since the last opening
 abbrev pub since_behind : List Entry → List Entry → List Entry

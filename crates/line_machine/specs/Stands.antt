@@ -1,14 +1,14 @@
 -- When a line stands where its history does.
 use Rattle.std.specs.Prelude.{◌≡◌, ◌<◌, ℕ, List, [], ◌∷◌, ◌++◌, Some, ⊤}
 use Rattle.event_flow.specs.Meaning.{Makes}
-use Rattle.history_laws.specs.Contents.{Bytes}
-use Rattle.history_laws.specs.Entries.{Entry}
-use Rattle.history_laws.specs.Holdings.{HoldsTold}
-use Rattle.history_laws.specs.Inputs.{AreInputs}
-use Rattle.history_laws.specs.Lists.{IsIn}
-use Rattle.history_laws.specs.Queues.{AreRowsOf}
-use Rattle.history_laws.specs.Sound.{Places}
-use Rattle.history_laws.specs.States.{Out, State, Nothing, newest, unread, start, after}
+use Rattle.history_book.specs.Contents.{Bytes}
+use Rattle.history_book.specs.Entries.{Entry}
+use Rattle.history_book.specs.Holdings.{HoldsTold}
+use Rattle.history_book.specs.Inputs.{AreInputs}
+use Rattle.history_book.specs.Lists.{IsIn}
+use Rattle.history_book.specs.Queues.{AreRowsOf}
+use Rattle.history_book.specs.Sound.{Places}
+use Rattle.history_book.specs.States.{Out, State, Nothing, newest, unread, start, after}
 use Rattle.line_machine.specs.Views.{Batch, LineView, inputs_of}
 
 -- a batch of the line is one that the history has out

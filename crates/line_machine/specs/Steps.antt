@@ -13,14 +13,14 @@ use Rattle.pipeline_bus.specs.declared.parcel.Heard.TheVariants.{Assured, NotLis
 use Rattle.pipeline_bus.specs.declared.parcel.Parcel.{Parcel}
 use Rattle.event_flow.specs.Meaning.{Makes, Due}
 use Rattle.event_flow.specs.Meaning as due
-use Rattle.queue_laws.specs.Kept.{Queue, IsQueue}
-use Rattle.queue_laws.specs.Steps.{marked}
-use Rattle.history_laws.specs.Contents.{Bytes}
-use Rattle.history_laws.specs.Legal.{rejections, FatesFit}
-use Rattle.history_laws.specs.Links.{Listening}
-use Rattle.history_laws.specs.Queues.{next_in}
-use Rattle.history_laws.specs.Sound.{Places}
-use Rattle.history_laws.specs.States.{numbers_found}
+use Rattle.queue_files.specs.Kept.{Queue, IsQueue}
+use Rattle.queue_files.specs.Steps.{marked}
+use Rattle.history_book.specs.Contents.{Bytes}
+use Rattle.history_book.specs.Legal.{rejections, FatesFit}
+use Rattle.history_book.specs.Links.{Listening}
+use Rattle.history_book.specs.Queues.{next_in}
+use Rattle.history_book.specs.Sound.{Places}
+use Rattle.history_book.specs.States.{numbers_found}
 use Rattle.line_machine.specs.declared.calls.Call.{Call}
 use Rattle.line_machine.specs.declared.calls.LineFault.{LineFault}
 use Rattle.line_machine.specs.Effects.{Effect, quiet, nothing, in_doubt, in_part, holds_more, ended_now, in_parcel, new_batch, reading, working, collecting, losing, telling, giving, boxing, rejecting, hearing, failing, acknowledging, marking, assuring, failing_to_assure, purging, adopting, accepting_line, accepting_parcel}

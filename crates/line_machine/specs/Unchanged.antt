@@ -6,11 +6,11 @@ use Rattle.pipeline_bus.specs.declared.parcel.Heard.{Heard}
 use Rattle.pipeline_bus.specs.Parcels.{ends_with_last}
 use Rattle.event_flow.specs.Meaning.{Due}
 use Rattle.event_flow.specs.Meaning as due
-use Rattle.queue_laws.specs.Kept.{Page}
-use Rattle.queue_laws.specs.Steps.{IsSpent}
-use Rattle.history_laws.specs.Links.{Listening}
-use Rattle.history_laws.specs.Lists.{IsIn}
-use Rattle.history_laws.specs.Sound.{Places}
+use Rattle.queue_files.specs.Kept.{Page}
+use Rattle.queue_files.specs.Steps.{IsSpent}
+use Rattle.history_book.specs.Links.{Listening}
+use Rattle.history_book.specs.Lists.{IsIn}
+use Rattle.history_book.specs.Sound.{Places}
 use Rattle.line_machine.specs.declared.calls.Accepted.TheVariants as accepted
 use Rattle.line_machine.specs.declared.calls.Act.{Act}
 use Rattle.line_machine.specs.declared.calls.Act.TheVariants as act

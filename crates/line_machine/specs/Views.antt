@@ -4,11 +4,11 @@ use Rattle.event_tree.specs.Events.{Ev}
 use Rattle.config_tree.specs.declared.tree.Plugin.{Plugin}
 use Rattle.event_flow.specs.Meaning.{Due}
 use Rattle.foreign_parts.specs.declared.filter.Verdict.{Verdict}
-use Rattle.queue_laws.specs.Found.{Row}
-use Rattle.history_laws.specs.Holdings.{Holdings}
-use Rattle.history_laws.specs.Inputs.{Input}
-use Rattle.history_laws.specs.Sound.{Places}
-use Rattle.history_laws.specs.States.{Limits, Plan}
+use Rattle.queue_files.specs.Found.{Row}
+use Rattle.history_book.specs.Holdings.{Holdings}
+use Rattle.history_book.specs.Inputs.{Input}
+use Rattle.history_book.specs.Sound.{Places}
+use Rattle.history_book.specs.States.{Limits, Plan}
 use Rattle.line_machine.specs.Ends.{TakerView, SenderView}
 
 -- A kit of compiled filters: the generation whose configuration it was made of, its number there, how many of its patterns and filters were read from

@@ -1,7 +1,7 @@
 // The calls of a line with their answers and faults.
 use event_tree::Text;
+use io_traits::Damage;
 use pipeline_bus::Answer;
-use store_disk::Damage;
 
 /// Why a call of a line had to stop. Behind `Store`, `Output`, `DeadFull`, and `Memory` from a delivery, the line
 /// takes no further call and is opened again.

@@ -1,8 +1,8 @@
 //! What holds of all that the machine allows. Each function here does nothing: its clauses are theorems.
 ghost use Rattle.event_flow.specs.Meaning.{Makes};
-ghost use Rattle.history_laws.specs.Contents.{Bytes};
-ghost use Rattle.history_laws.specs.Links.{Listening};
-ghost use Rattle.history_laws.specs.Sound.{Places};
+ghost use Rattle.history_book.specs.Contents.{Bytes};
+ghost use Rattle.history_book.specs.Links.{Listening};
+ghost use Rattle.history_book.specs.Sound.{Places};
 ghost use Rattle.line_machine.specs.Answering.{AnswersStand, OpenedLinksStand};
 ghost use Rattle.line_machine.specs.Boxes.{BoxesStandStill, BoxesStay, ClosedAreUnwanted, OpenedBoxesStand};
 ghost use Rattle.line_machine.specs.Coming.{InputsStandStill, OpenedInputsStand, RecordedAreSettled};

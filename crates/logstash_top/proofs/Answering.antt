@@ -1,7 +1,7 @@
 -- What the answers of `parse` make of a text.
 use Rattle.std.proofs.Common.{◌≡◌, ◌≤◌, ◌<◌, ◌↔◌, ◌⊎◌, inl, inr, ℕ, List, length, Result, MatchResult, IfOk, Ok, Err, refl}
 use Rattle.config_tree.specs.declared.tree.Config.{Config}
-use Rattle.config_grammar.specs.Texts.{Reads, IsSyntaxAt, IsDeepAt}
+use Rattle.config_parse.specs.Texts.{Reads, IsSyntaxAt, IsDeepAt}
 use Rattle.config_parse.specs.declared.text.TheConstants.{LENGTH, LEVELS}
 use Rattle.config_parse.specs.declared.fault.ConfigFault.{ConfigFault}
 use Rattle.config_parse.specs.declared.fault.ConfigFault.TheVariants.{Long, Syntax, Deep, Memory}

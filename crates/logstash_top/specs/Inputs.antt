@@ -3,7 +3,7 @@ use Rattle.std.specs.Prelude.{ℕ, List, [], ◌∷◌, Option, Some, None, Ok, 
 use Rattle.config_tree.specs.declared.tree.Config.{Config}
 use Rattle.config_tree.specs.declared.tree.Plugin.{Plugin}
 use Rattle.filter_settings.specs.Settings.{Made}
-use Rattle.line_codecs.specs.declared.codec.Codec.TheVariants as codec
+use Rattle.in_lines.specs.declared.codec.Codec.TheVariants as codec
 use Rattle.plugin_settings.specs.Common.{common_start}
 use Rattle.plugin_settings.specs.Read as read
 use Rattle.plugin_settings.specs.declared.common.InputSettings.{InputSettings}

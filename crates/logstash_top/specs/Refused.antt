@@ -1,6 +1,6 @@
 -- What becomes of the text of a configuration, where these boxes are handed in.
 use Rattle.std.specs.Prelude.{◌≡◌, ◌≤◌, ◌<◌, ℕ, List, length, Ok, Err}
-use Rattle.config_grammar.specs.Texts.{Reads, IsSyntaxAt, IsDeepAt}
+use Rattle.config_parse.specs.Texts.{Reads, IsSyntaxAt, IsDeepAt}
 use Rattle.config_tree.specs.declared.tree.Config.{Config}
 use Rattle.config_parse.specs.declared.text.TheConstants.{LENGTH, LEVELS}
 use Rattle.config_parse.specs.declared.fault.ConfigFault.{ConfigFault}

@@ -22,9 +22,9 @@ use batch_rows::Runner;
 use foreign_parts::FilterCall;
 use in_lines::{Generator, Progress};
 use io_traits::{Clock, Sink, Source};
+use plain_data::Instant;
 use std::alloc::Global;
 use std::sync::Wait;
-use time_instant::Instant;
 
 /// How many events one poll makes at most: those of a batch.
 const POLL_LIMIT: usize = 125;

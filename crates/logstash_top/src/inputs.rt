@@ -7,8 +7,7 @@ ghost use Rattle.plugin_settings.specs.declared.read.Input.{Input as Said};
 
 use config_tree::{Config, FromFault, Plugin};
 use event_text::Options;
-use in_lines::{EventSettings, GeneratedLines, Generator, LineInput};
-use line_codecs::Codec;
+use in_lines::{Codec, EventSettings, GeneratedLines, Generator, LineInput};
 use plain_data::{Items, Names};
 use plugin_settings::{GeneratorSettings, Input, InputSettings, read_input};
 use std::alloc::{AllocError, Global};

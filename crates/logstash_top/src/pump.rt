@@ -21,9 +21,9 @@ use byte_lines::LineReader;
 use foreign_parts::FilterCall;
 use in_lines::{EventSettings, LINE_LIMIT, LineInput};
 use io_traits::{Clock, Sink, Source, Step};
+use plain_data::Instant;
 use std::alloc::Global;
 use std::sync::Wait;
-use time_instant::Instant;
 
 /// How many bytes one read asks for at most.
 const READ_LEN: usize = 65_536;

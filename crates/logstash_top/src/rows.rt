@@ -18,8 +18,8 @@ use event_tree::Event;
 use foreign_parts::FilterCall;
 use in_lines::EventSettings;
 use io_traits::Sink;
+use plain_data::Instant;
 use std::alloc::Global;
-use time_instant::Instant;
 
 /// Runs the events of the lines that the reader has left, as the settings of the input make them, in batches. No event is held before the call, and
 /// none behind it where it succeeds.

@@ -4,8 +4,7 @@ use crate::objects::new_year;
 use crate::written::{bytes_of, cut};
 use byte_lines::text_of_bytes;
 use event_tree::{Event, Value};
-use in_lines::{event_by_codec, next_number, sample_line, write_row};
-use line_codecs::Codec;
+use in_lines::{Codec, event_by_codec, next_number, sample_line, write_row};
 use std::alloc::AllocError;
 use std::str;
 

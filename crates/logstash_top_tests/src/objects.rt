@@ -3,8 +3,10 @@
 ghost use Rattle.std.specs.Prelude.{None};
 
 use crate::written::cut;
+use io_memory::{MemorySink, MemorySource, Script};
+use io_traits::Clock;
+use plain_data::Instant;
 use std::alloc::{AllocError, Global};
-use store_disk::{Clock, Instant, MemorySink, MemorySource, Script};
 
 /// 2024-01-01T00:00:00Z, in nanoseconds from 1970 on.
 const NEW_YEAR: i128 = 1_704_067_200_000_000_000;

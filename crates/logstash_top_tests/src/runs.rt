@@ -10,10 +10,11 @@ use crate::written::{bytes_of, cut, words_of};
 use batch_rows::Close;
 use foreign_parts::{BoxPool, FilterCall};
 use in_lines::{LINE_LIMIT, Piece, Poll, events_of_polls, write_row};
+use io_memory::{MemorySink, MemorySource, SourceEvent};
 use logstash_top::{ThinWorld, logstash};
+use plain_data::Instant;
 use std::alloc::{AllocError, Global};
 use std::sync::Wait;
-use store_disk::{Instant, MemorySink, MemorySource, SourceEvent};
 
 type MemoryWorld = ThinWorld<MemorySource, MemorySink, PausedClock>;
 

@@ -1,11 +1,11 @@
 //! What operators set, by command lines and by texts of `pipelines.yml`.
 
 use crate::marked::{text_in, words_of};
+use in_file::is_match;
 use logstash_settings::{
     ConfigSource, Orders, PipelineSettings, Policy, QueueTool, SettingsFault, WordsFault,
     read_pipelines, read_words,
 };
-use path_pattern::is_match;
 use std::alloc::AllocError;
 
 /// The most bytes of a value that are shown.

@@ -1,8 +1,8 @@
 //! What a sink holds, as it is told.
 
+use io_memory::MemorySink;
 use std::alloc::AllocError;
 use std::str;
-use store_disk::MemorySink;
 
 /// How often a character stands in a row where it is told by its count.
 const MANY: usize = 8;

@@ -4,9 +4,9 @@ use crate::objects::sink;
 use crate::told::add_sink;
 use crate::written::{cut, words_of};
 use foreign_parts::Boxes;
+use io_memory::MemorySink;
 use logstash_top::{test_config, which, workers_wanted};
 use std::alloc::AllocError;
-use store_disk::MemorySink;
 
 /// Adds what a test of a configuration leaves.
 pub fn add_test<B: Boxes>(to: &mut String, row: &str, rack: &mut B) -> Result<(), AllocError> {

@@ -8,9 +8,8 @@ ghost use Rattle.out_bulk.specs.Written.{IsDayOf, IsKeptLine, IsOf};
 use crate::settings::BulkSettings;
 use event_text::{event_time, write_json};
 use event_tree::{Event, Value};
-use plain_data::Text;
+use plain_data::{Instant, Text};
 use std::alloc::{AllocError, Global};
-use time_instant::Instant;
 
 /// The nanoseconds of a day.
 const DAY: i128 = 86_400_000_000_000;

@@ -6,3 +6,4 @@ pub mod ItemsLends
 pub mod FieldsLends
 pub mod MemberLends
 pub mod MemberImpls
+pub mod Calendar

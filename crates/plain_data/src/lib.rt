@@ -1,9 +1,11 @@
-//! Texts, lists, fields and boxes that contracts see as plain lists and values, so that a tree of them is plain data.
+//! Texts, lists, fields, boxes and moments that contracts see as plain lists, values and numbers, so that a tree of
+//! them is plain data.
 //!
 //! - [`Text`] is the list of its bytes in UTF-8.
 //! - [`Items`] of `T` is the list of its elements.
 //! - [`Fields`] of `V` is the list of its members, (key, value), whose keys rise strictly.
 //! - [`Boxed`] of `T` is the value in it, on the heap.
+//! - [`Instant`] is a moment of UTC in the years 0001 to 9999, as the number of its nanoseconds.
 //!
 //! `≡` compares them by those lists and values alone. A recursive enum may hold each of them, as in
 //! `enum Tree { Leaf(Text), List(Items<Tree>), Object(Fields<Tree>) }`. A recursion goes down by
@@ -17,6 +19,7 @@
 
 mod boxed;
 mod fields;
+mod instant;
 mod items;
 pub mod laws;
 mod order;
@@ -24,6 +27,7 @@ mod text;
 
 pub use boxed::Boxed;
 pub use fields::Fields;
+pub use instant::Instant;
 pub use items::Items;
 pub use order::text_order;
 pub use text::Text;

@@ -1,9 +1,9 @@
 -- The codecs of inputs and outputs, as this project's table of plugins has them.
 use Rattle.std.specs.Prelude.{ℕ, List, [], ◌∷◌, if◌then◌else◌, codes, bytes_eq, Option, Some, None, option_and_then, Ok, Err}
 use Rattle.event_text.specs.Template.{template_parts}
-use Rattle.line_codecs.specs.declared.codec.Codec.{Codec}
-use Rattle.line_codecs.specs.Codecs.{codec_named, writes_texts}
-use Rattle.line_codecs.specs.declared.codec.OutCodec.{OutCodec}
+use Rattle.in_lines.specs.declared.codec.Codec.{Codec}
+use Rattle.in_lines.specs.Codecs.{codec_named, writes_texts}
+use Rattle.in_lines.specs.declared.codec.OutCodec.{OutCodec}
 use Rattle.config_tree.specs.Joining.{Entries}
 use Rattle.config_tree.specs.Readers.{Open}
 use Rattle.config_tree.specs.declared.tree.SettingValue.{SettingValue, out-SettingValue}

@@ -1,6 +1,6 @@
 -- The settings that every input has.
 use Rattle.std.specs.Prelude.{ℕ, List, [], if◌then◌else◌, codes, bytes_eq, Some, None, Err}
-use Rattle.line_codecs.specs.declared.codec.Codec.{Codec}
+use Rattle.in_lines.specs.declared.codec.Codec.{Codec}
 use Rattle.config_tree.specs.declared.tree.SettingValue.{SettingValue}
 use Rattle.config_tree.specs.declared.fault.SettingFault.TheVariants as fault
 use Rattle.filter_settings.specs.Settings.{Made, wanted, with_made}

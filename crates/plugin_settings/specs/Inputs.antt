@@ -1,6 +1,6 @@
 -- The inputs, as this project's table of plugins has them. Of each its settings are read in the order of the text, up to the first that is at fault, and then those that it can't do without have to stand.
 use Rattle.std.specs.Prelude.{ℕ, zero, suc, List, [], ◌∷◌, Bool, true, false, if◌then◌else◌, codes, bytes_eq, Option, Some, None, option_and_then}
-use Rattle.line_codecs.specs.declared.codec.Codec.TheVariants as codec
+use Rattle.in_lines.specs.declared.codec.Codec.TheVariants as codec
 use Rattle.config_tree.specs.Joining.{Entries}
 use Rattle.config_tree.specs.declared.tree.SettingValue.{SettingValue}
 use Rattle.filter_settings.specs.Settings.{Made, wanted, with_made, next, all_set, needed}

@@ -1,7 +1,7 @@
 -- Whole numbers of settings.
 use Rattle.std.specs.Prelude.{ℕ, ◌==◌, nat_le, ◌&&◌, List, if◌then◌else◌, Option, Some, None, option_and_then, ℤ, pos, negsuc}
 use Rattle.event_tree.specs.Number.{Num}
-use Rattle.event_json_laws.specs.Numbers.{number_of as number_in}
+use Rattle.event_json.specs.Numbers.{number_of as number_in}
 use Rattle.config_tree.specs.Readers.{Open}
 use Rattle.config_tree.specs.declared.tree.SettingValue.{SettingValue, out-SettingValue}
 use Rattle.config_tree.specs.declared.tree.SettingValue.TheOpen.{SettingValue-F}

@@ -1,7 +1,7 @@
 -- The outputs, as this project's table of plugins has them. Of each its settings are read in the order of the text, up to the first that is at fault, and then those that it can't do without have to stand.
 use Rattle.std.specs.Prelude.{ℕ, List, [], ◌∷◌, Bool, true, false, if◌then◌else◌, codes, bytes_eq, Option, Some, None, option_and_then, Err}
-use Rattle.line_codecs.specs.declared.codec.Codec.TheVariants as codec
-use Rattle.line_codecs.specs.declared.codec.OutCodec.{OutCodec}
+use Rattle.in_lines.specs.declared.codec.Codec.TheVariants as codec
+use Rattle.in_lines.specs.declared.codec.OutCodec.{OutCodec}
 use Rattle.config_tree.specs.Joining.{Entries}
 use Rattle.config_tree.specs.declared.tree.SettingValue.{SettingValue}
 use Rattle.config_tree.specs.declared.fault.SettingFault.TheVariants as fault

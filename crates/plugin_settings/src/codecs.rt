@@ -7,7 +7,7 @@ use crate::faults::unknown;
 use config_tree::{FromFault, SettingValue, Settings};
 use event_text::Template;
 use filter_settings::{SetByName, assign, read_settings, read_template, wanted};
-use line_codecs::{Codec, OutCodec};
+use in_lines::{Codec, OutCodec};
 use std::alloc::{AllocError, Global};
 
 /// The format of a codec that writes texts.

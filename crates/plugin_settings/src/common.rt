@@ -12,7 +12,7 @@ use filter_settings::{
     SetByName, assign, assign_some, not_kept, read_field_templates, read_id, read_templates,
     read_text,
 };
-use line_codecs::Codec;
+use in_lines::Codec;
 use plain_data::{Items, Text};
 use std::alloc::Global;
 

@@ -11,7 +11,7 @@ use event_tree::Names;
 use filter_settings::{
     SetByName, assign, assign_some, read_settings, read_text, read_texts, require, wanted,
 };
-use line_codecs::Codec;
+use in_lines::Codec;
 use plain_data::Text;
 use std::alloc::{AllocError, Global};
 

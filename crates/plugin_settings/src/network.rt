@@ -8,7 +8,7 @@ use crate::common::InputSettings;
 use crate::numbers::read_port;
 use config_tree::{FromFault, SettingValue, Settings};
 use filter_settings::{SetByName, assign, read_settings, read_text, require, wanted};
-use line_codecs::Codec;
+use in_lines::Codec;
 use plain_data::Text;
 use std::alloc::Global;
 

@@ -10,7 +10,7 @@ use filter_settings::{
     SetByName, assign, not_kept, read_flag, read_id, read_settings, read_text, read_texts, require,
     wanted,
 };
-use line_codecs::{Codec, OutCodec};
+use in_lines::{Codec, OutCodec};
 use plain_data::Text;
 use std::alloc::Global;
 

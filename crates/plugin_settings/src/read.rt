@@ -12,7 +12,7 @@ use crate::network::{AddressSettings, DeadLetterSettings, HttpSettings, TcpSetti
 use crate::outputs::{FileOutputSettings, SendSettings, SinkSettings, StdoutSettings};
 use config_tree::{FromFault, Settings};
 use filter_settings::read_settings;
-use line_codecs::Codec;
+use in_lines::Codec;
 
 /// What an input is set to, of any kind.
 pub enum Input {

@@ -4,21 +4,22 @@ use Rattle.std.specs.Prelude.{⊤}
 use Rattle.std.proofs.lemmas.Bool.{cond-false, eq-eqb, eqb-true, false≢true}
 use Rattle.std.proofs.lemmas.Bool.Decides.{nat_tests}
 use Rattle.byteorder.specs.Numbers.{big_from-lt}
-use Rattle.crc_frame.proofs.Numbers.{IsBytes, IsBytes-drop, IsBytes-take}
+use Rattle.crc_frame.specs.Bytes.{IsBytes}
+use Rattle.crc_frame.proofs.Numbers.{IsBytes-drop, IsBytes-take}
 use Rattle.crc_frame.specs.Slots.{turn_of}
-use Rattle.byte_reader.proofs.Fronts.{chosen}
+use Rattle.crc_frame.proofs.Fronts.{chosen}
 use Rattle.io_traits.specs.Reads.{bytes_of}
-use Rattle.store_disk.specs.declared.pages.PageState.{PageState}
-use Rattle.queue_checkpoint.specs.Checkpoints.{at_first, computed_crc, newest_in, says, slots_of, stored_crc}
-use Rattle.queue_checkpoint.proofs.FileReads.{misplaced_turn_is_odd, sayer}
+use Rattle.io_traits.specs.declared.pages.PageState.{PageState}
+use Rattle.slot_files.specs.Checkpoints.{at_first, computed_crc, newest_in, says, slots_of, stored_crc}
+use Rattle.slot_files.proofs.CheckpointReads.{misplaced_turn_is_odd, sayer}
 use Rattle.queue_page.specs.Elements.{and_then}
 use Rattle.queue_page.specs.Pages.{extended, opened, recorded}
 use Rattle.queue_page.proofs.Differing.{damage_differs}
 use Rattle.queue_page.proofs.ElementReads.{and_then_ok}
-use Rattle.queue_laws.specs.Checkpoints.{Mismatch, bounded, misfit, told, told_by, no_intact_slot}
-use Rattle.queue_laws.specs.Folders.{Role, head, page, checkpoint, Folder}
-use Rattle.queue_laws.specs.Found.{Damaged, Held, falling, found, found_in, head_held, held, held_by, is_new, nothing_found, of_head, opened_page, or_damage, read_all, told_at, unless}
-use Rattle.queue_core.proofs.QueuePages.{damage_ok, in_bounds}
+use Rattle.queue_files.specs.Checkpoints.{Mismatch, bounded, misfit, told, told_by, no_intact_slot}
+use Rattle.queue_files.specs.Folders.{Role, head, page, checkpoint, Folder}
+use Rattle.queue_files.specs.Found.{Damaged, Held, falling, found, found_in, head_held, held, held_by, is_new, nothing_found, of_head, opened_page, or_damage, read_all, told_at, unless}
+use Rattle.queue_files.proofs.QueuePages.{damage_ok, in_bounds}
 use Rattle.pq_tools.specs.Damages.{HoldsBytes, OpenedDamageDiffers}
 
 abbrev Differs : Mismatch → Type 0

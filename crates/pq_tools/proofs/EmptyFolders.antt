@@ -7,28 +7,28 @@ use Rattle.std.specs.List.{list_any}
 use Rattle.std.specs.Prelude.{codes}
 use Rattle.io_traits.specs.Folders.{Content, IsPart, Lists, folder_start}
 use Rattle.io_traits.specs.Reads.{bytes_of}
-use Rattle.store_disk.specs.declared.faults.QueueFault.TheVariants as q
-use Rattle.store_disk.specs.declared.pages.PageState.{PageState}
-use Rattle.store_disk.specs.declared.faults.Damage.{Damage}
-use Rattle.queue_checkpoint.specs.Checkpoints.{newest_in, slots_of}
-use Rattle.queue_checkpoint.proofs.FileReads.{found_within, sayer}
+use Rattle.io_traits.specs.declared.queue_faults.QueueFault.TheVariants as q
+use Rattle.io_traits.specs.declared.pages.PageState.{PageState}
+use Rattle.io_traits.specs.declared.queue_faults.Damage.{Damage}
+use Rattle.slot_files.specs.Checkpoints.{newest_in, slots_of}
+use Rattle.slot_files.proofs.CheckpointReads.{found_within, sayer}
 use Rattle.queue_page.specs.Pages.{PageRows}
 use Rattle.queue_page.specs.Views.{PageView}
 use Rattle.queue_page.specs.declared.row.PageRow.{PageRow}
-use Rattle.queue_laws.specs.Folders.{Folder, Role, checkpoint, head, names_in, number_text, page}
-use Rattle.queue_laws.specs.Found.{Damaged, Found, found, has_page_0_at_most, is_new, none_of, since}
-use Rattle.queue_laws.specs.Kept.{Page, Queue, all_rows, leading}
-use Rattle.queue_laws.proofs.NewFolders.{new_is_empty}
-use Rattle.queue_core.specs.Collected.{IsLost}
-use Rattle.queue_core.specs.Known.{IsFirst, IsOfFolder}
-use Rattle.queue_core.specs.Listing.{AreNumbers}
-use Rattle.queue_core.specs.Marks.{read_in}
-use Rattle.queue_core.specs.Queues.{ArePages, IsQueueOf, below}
-use Rattle.queue_core.specs.declared.opening.OpenedQueue.{OpenedQueue}
-use Rattle.queue_core.specs.declared.sealed_pages.SealedPage.{SealedPage}
-use Rattle.queue_core.proofs.Listings.{are_numbers}
-use Rattle.queue_core.proofs.Members.{any_decides, is_first}
-use Rattle.persistent_queue.specs.Opening.{page_opened, queue_opened, queue_with, tails_opened}
+use Rattle.queue_files.specs.Folders.{Folder, Role, checkpoint, head, names_in, number_text, page}
+use Rattle.queue_files.specs.Found.{Damaged, Found, found, has_page_0_at_most, is_new, none_of, since}
+use Rattle.queue_files.specs.Kept.{Page, Queue, all_rows, leading}
+use Rattle.queue_files.proofs.NewFolders.{new_is_empty}
+use Rattle.queue_files.specs.Collected.{IsLost}
+use Rattle.queue_files.specs.Known.{IsFirst, IsOfFolder}
+use Rattle.queue_files.specs.Listing.{AreNumbers}
+use Rattle.queue_files.specs.Marks.{read_in}
+use Rattle.queue_files.specs.Queues.{ArePages, IsQueueOf, below}
+use Rattle.queue_files.specs.declared.opening.OpenedQueue.{OpenedQueue}
+use Rattle.queue_files.specs.declared.sealed_pages.SealedPage.{SealedPage}
+use Rattle.queue_files.proofs.Listings.{are_numbers}
+use Rattle.queue_files.proofs.Members.{any_decides, is_first}
+use Rattle.queue_core.specs.Opening.{page_opened, queue_opened, queue_with, tails_opened}
 use Rattle.pq_tools.specs.Numbers.{limits, new_queue, new_state}
 use Rattle.pq_tools.specs.Repairs.{AllFresh, HasFile, IsNewQueue}
 

@@ -4,13 +4,13 @@ use Rattle.io_traits.specs.declared.sinks.Sink.{Ghosts as SinkWords}
 use Rattle.io_traits.specs.Counts.{HasCause}
 use Rattle.io_traits.proofs.Causes.{cause_of}
 use Rattle.io_traits.proofs.Growth.{grows_same}
-use Rattle.store_trait.proofs.Moments.{weaker}
-use Rattle.store_trait.specs.Images.{Image}
-use Rattle.store_trait.specs.Moments.{EachMoment, ImagesTell, LeavesBeside}
-use Rattle.store_trait.specs.declared.stores.Store.{Ghosts as StoreWords}
-use Rattle.queue_laws.specs.Folders.{IsOwn, names_in}
-use Rattle.queue_core.specs.Marks.{read_in}
-use Rattle.queue_core.specs.Others.{KeepsOthers}
+use Rattle.io_traits.proofs.Moments.{weaker}
+use Rattle.io_traits.specs.Images.{Image}
+use Rattle.io_traits.specs.Moments.{EachMoment, ImagesTell, LeavesBeside}
+use Rattle.io_traits.specs.declared.stores.Store.{Ghosts as StoreWords}
+use Rattle.queue_files.specs.Folders.{IsOwn, names_in}
+use Rattle.queue_files.specs.Marks.{read_in}
+use Rattle.queue_files.specs.Others.{KeepsOthers}
 use Rattle.logstash_settings.specs.Words.{Answer}
 use Rattle.logstash_settings.specs.declared.fault.WordsFault.{WordsFault}
 use Rattle.pq_tools.specs.Checks.{ChecksAs, PrintsOr, Said, Tells, line_of, status_of}

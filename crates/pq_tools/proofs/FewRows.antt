@@ -2,11 +2,11 @@
 use Rattle.std.proofs.Common.{◌≡◌, ◌≤◌, ◌<◌, ℕ, suc, ◌+◌, ◌-◌, ◌^◌, ◌==◌, ◌||◌, nat_lt, not, Bool, true, false, List, [], ◌∷◌, length, refl, ap, arith}
 use Rattle.std.proofs.Math.Path.{ap₂}
 use Rattle.std.proofs.lemmas.Bool.Decides.{nat_tests}
-use Rattle.queue_laws.specs.Folders.{Folder}
-use Rattle.queue_laws.specs.Found.{Row}
-use Rattle.persistent_queue.specs.Calls.{end_of}
-use Rattle.persistent_queue.specs.Views.{OpenPageView, QueueView}
-use Rattle.persistent_queue.specs.Writing.{behind_append, behind_write, is_spent_with, made_ready, needs_page}
+use Rattle.queue_files.specs.Folders.{Folder}
+use Rattle.queue_files.specs.Found.{Row}
+use Rattle.queue_core.specs.Calls.{end_of}
+use Rattle.queue_core.specs.Views.{OpenPageView, QueueView}
+use Rattle.queue_core.specs.Writing.{behind_append, behind_write, is_spent_with, made_ready, needs_page}
 use Rattle.pq_tools.specs.Numbers.{new_queue, row_size, runs_out, spends_numbers}
 use Rattle.pq_tools.specs.Salvage.{salvage}
 

@@ -5,21 +5,21 @@ use Rattle.std.proofs.lemmas.Bool.{cond-false}
 use Rattle.std.proofs.lemmas.Bool.Decides.{nat_tests}
 use Rattle.std.proofs.lemmas.List.{take_all}
 use Rattle.element_code.specs.declared.row.Origin.TheVariants.{Id}
-use Rattle.store_trait.specs.declared.stores.Store.{Ghosts as StoreWords}
+use Rattle.io_traits.specs.declared.stores.Store.{Ghosts as StoreWords}
 use Rattle.queue_page.specs.Grammar.{row_framed}
 use Rattle.queue_page.specs.declared.row.PageRow.{PageRow}
-use Rattle.queue_laws.specs.Folders.{Folder, names_in}
-use Rattle.queue_laws.specs.Found.{Row, found, row_of, since}
-use Rattle.queue_laws.specs.Kept.{IsSince, Kept, Page, Queue, RowsKept, all_rows, first_open_of, leading}
-use Rattle.queue_laws.specs.Resting.{Held}
-use Rattle.queue_laws.specs.Steps.{marked, marked_page, marked_pages, next_top, page_with, recorded_page, rolled, sealed, with_row}
-use Rattle.queue_laws.proofs.Kept.{standing_is_kept}
-use Rattle.queue_laws.proofs.SameFiles.{held_stands}
-use Rattle.queue_core.specs.Marks.{read_in}
-use Rattle.persistent_queue.specs.Calls.{end_of, last_number}
-use Rattle.persistent_queue.specs.Opens.{Becomes}
-use Rattle.persistent_queue.specs.Views.{QueueView}
-use Rattle.persistent_queue.specs.Writing.{needs_page, frame_size, written}
+use Rattle.queue_files.specs.Folders.{Folder, names_in}
+use Rattle.queue_files.specs.Found.{Row, found, row_of, since}
+use Rattle.queue_files.specs.Kept.{IsSince, Kept, Page, Queue, RowsKept, all_rows, first_open_of, leading}
+use Rattle.queue_files.specs.Resting.{Held}
+use Rattle.queue_files.specs.Steps.{marked, marked_page, marked_pages, next_top, page_with, recorded_page, rolled, sealed, with_row}
+use Rattle.queue_files.proofs.Kept.{standing_is_kept}
+use Rattle.queue_files.proofs.SameFiles.{held_stands}
+use Rattle.queue_files.specs.Marks.{read_in}
+use Rattle.queue_core.specs.Calls.{end_of, last_number}
+use Rattle.queue_core.specs.Opens.{Becomes}
+use Rattle.queue_core.specs.Views.{QueueView}
+use Rattle.queue_core.specs.Writing.{needs_page, frame_size, written}
 use Rattle.pq_tools.specs.Repairs.{AllFresh, HasRows, Holds, IsFresh, IsNewQueue}
 use Rattle.pq_tools.specs.Salvage.{named, renumbered}
 

@@ -1,10 +1,10 @@
 -- Rows that take the numbers of a queue.
 use Rattle.std.proofs.Common.{◌≡◌, ◌↔◌, ◌||◌, ℕ, Bool, true, false, List, [], ◌∷◌, ◌++◌, Result, Ok, Err, refl, sym, ◌∙◌, ap}
-use Rattle.queue_laws.specs.Found.{Row}
-use Rattle.persistent_queue.specs.Views.{QueueView}
-use Rattle.persistent_queue.specs.Writing.{behind_write, numbers_spent}
-use Rattle.persistent_queue.specs.declared.writing.WriteFault.{WriteFault}
-use Rattle.persistent_queue.specs.declared.writing.WriteFault.TheVariants as w
+use Rattle.queue_files.specs.Found.{Row}
+use Rattle.queue_core.specs.Views.{QueueView}
+use Rattle.queue_core.specs.Writing.{behind_write, numbers_spent}
+use Rattle.queue_core.specs.declared.writing.WriteFault.{WriteFault}
+use Rattle.queue_core.specs.declared.writing.WriteFault.TheVariants as w
 use Rattle.pq_tools.specs.Numbers.{behind_rows, row_size, runs_out}
 
 -- ---- rows behind others

@@ -4,20 +4,20 @@ use Rattle.std.proofs.Math.Path.{ap₂}
 use Rattle.std.proofs.lemmas.Bool.{cases_lt}
 use Rattle.std.proofs.lemmas.Bool.Decides.{nat_tests}
 use Rattle.io_traits.specs.Reads.{bytes_of}
-use Rattle.store_disk.specs.declared.pages.PageState.{PageState}
+use Rattle.io_traits.specs.declared.pages.PageState.{PageState}
 use Rattle.queue_page.specs.Views.{PageView}
-use Rattle.queue_laws.specs.Folders.{Folder, page}
-use Rattle.queue_laws.specs.Found.{Damaged, Found, Held, found, is_new}
-use Rattle.queue_laws.specs.Kept.{leading}
-use Rattle.queue_laws.proofs.NewFolders.{new_is_empty}
-use Rattle.queue_core.specs.Known.{AreStated, IsFirst, IsOfFolder, IsReadOf}
-use Rattle.queue_core.specs.declared.opening.OpenedQueue.{OpenedQueue}
-use Rattle.queue_core.specs.declared.sealed_pages.SealedPage.{SealedPage}
-use Rattle.queue_core.proofs.ScanReads.{found_rows, rows_found}
-use Rattle.queue_core.proofs.StandingPages.{pages_are_found}
-use Rattle.persistent_queue.specs.Opening.{below_number, page_opened, tails_opened, unread_in, unread_of}
-use Rattle.persistent_queue.proofs.OpenedQueues.{unread_fits}
-use Rattle.persistent_queue.proofs.OpenedRows.{all_count}
+use Rattle.queue_files.specs.Folders.{Folder, page}
+use Rattle.queue_files.specs.Found.{Damaged, Found, Held, found, is_new}
+use Rattle.queue_files.specs.Kept.{leading}
+use Rattle.queue_files.proofs.NewFolders.{new_is_empty}
+use Rattle.queue_files.specs.Known.{AreStated, IsFirst, IsOfFolder, IsReadOf}
+use Rattle.queue_files.specs.declared.opening.OpenedQueue.{OpenedQueue}
+use Rattle.queue_files.specs.declared.sealed_pages.SealedPage.{SealedPage}
+use Rattle.queue_files.proofs.ScanReads.{found_rows, rows_found}
+use Rattle.queue_files.proofs.StandingPages.{pages_are_found}
+use Rattle.queue_core.specs.Opening.{below_number, page_opened, tails_opened, unread_in, unread_of}
+use Rattle.queue_core.proofs.OpenedQueues.{unread_fits}
+use Rattle.queue_core.proofs.OpenedRows.{all_count}
 use Rattle.pq_tools.specs.Counts.{open_rows, rows_from, tail_rows}
 
 -- ---- one page

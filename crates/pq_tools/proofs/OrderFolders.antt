@@ -2,7 +2,7 @@
 use Rattle.std.proofs.Common.{◌≡◌, ⊎_elim, ℕ, suc, ◌-◌, ◌++◌, nat_eq, List, [], ◌∷◌, length, get_or, slice_get, unwrap_or, Option, Some, None, Result, Ok, Err, if◌then◌else◌, refl, sym, ◌∙◌, ap, subst, arith, append_assoc, length-append}
 use Rattle.std.specs.Prelude.{codes}
 use Rattle.io_traits.specs.Folders.{folder_start}
-use Rattle.queue_laws.specs.Folders.{Role, checkpoint, head, names_in, number_text, page}
+use Rattle.queue_files.specs.Folders.{Role, checkpoint, head, names_in, number_text, page}
 use Rattle.settings_lines.specs.declared.orders.QueueTool.{QueueTool}
 use Rattle.settings_lines.specs.declared.orders.QueueTool.TheVariants as tool
 use Rattle.logstash_settings.specs.Words.{Answer}

@@ -2,11 +2,11 @@
 use Rattle.std.proofs.Common.{◌≡◌, List, ℕ, Result, Err, sym, ◌∙◌, ap, subst}
 use Rattle.std.proofs.lemmas.Result.{err_from_is_err_and}
 use Rattle.std.specs.Result.{IsErrAnd}
-use Rattle.store_disk.specs.declared.faults.QueueFault.{QueueFault}
-use Rattle.store_disk.specs.declared.faults.QueueFault.TheVariants as f
-use Rattle.queue_laws.specs.Folders.{Names}
-use Rattle.queue_laws.specs.Found.{Damaged, Found}
-use Rattle.queue_core.specs.Collected.{IsLost}
+use Rattle.io_traits.specs.declared.queue_faults.QueueFault.{QueueFault}
+use Rattle.io_traits.specs.declared.queue_faults.QueueFault.TheVariants as f
+use Rattle.queue_files.specs.Folders.{Names}
+use Rattle.queue_files.specs.Found.{Damaged, Found}
+use Rattle.queue_files.specs.Collected.{IsLost}
 use Rattle.pq_tools.specs.Checks.{Counts, Said, said_of}
 
 -- a fault that was found is said

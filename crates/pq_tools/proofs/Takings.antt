@@ -3,22 +3,22 @@ use Rattle.std.proofs.Common.{◌≡◌, ◌≢◌, ⊎_elim, ℕ, zero, suc, �
 use Rattle.std.proofs.Math.Path.{ap₂}
 use Rattle.std.proofs.lemmas.Bool.{cases_eq}
 use Rattle.io_traits.specs.Reads.{bytes_of}
-use Rattle.store_trait.specs.declared.stores.Store.{Ghosts as StoreWords}
-use Rattle.store_disk.proofs.Looking.{Nothing}
-use Rattle.store_disk.specs.declared.faults.Damage.{Damage}
-use Rattle.store_disk.specs.declared.faults.QueueFault.{QueueFault}
-use Rattle.store_disk.specs.declared.faults.QueueFault.TheVariants as q
+use Rattle.io_traits.specs.declared.stores.Store.{Ghosts as StoreWords}
+use Rattle.io_traits.proofs.Looking.{Nothing}
+use Rattle.io_traits.specs.declared.queue_faults.Damage.{Damage}
+use Rattle.io_traits.specs.declared.queue_faults.QueueFault.{QueueFault}
+use Rattle.io_traits.specs.declared.queue_faults.QueueFault.TheVariants as q
 use Rattle.queue_page.specs.declared.row.PageRow.{PageRow}
-use Rattle.queue_laws.specs.Folders.{Folder, IsOwn, names_in, page}
-use Rattle.queue_laws.specs.Found.{Row, row_of, since}
-use Rattle.queue_core.specs.Listing.{IsListed}
-use Rattle.queue_core.specs.Marks.{read_in}
-use Rattle.queue_core.specs.Others.{KeepsOthers}
-use Rattle.queue_core.specs.Reading.{AreStanding}
-use Rattle.queue_core.specs.declared.listing.Listing.{Listing}
-use Rattle.queue_core.proofs.Standings.{standing_from}
-use Rattle.persistent_queue.specs.Views.{QueueView}
-use Rattle.persistent_queue.proofs.BatchTaken.{opens_taken}
+use Rattle.queue_files.specs.Folders.{Folder, IsOwn, names_in, page}
+use Rattle.queue_files.specs.Found.{Row, row_of, since}
+use Rattle.queue_files.specs.Listing.{IsListed}
+use Rattle.queue_files.specs.Marks.{read_in}
+use Rattle.queue_files.specs.Others.{KeepsOthers}
+use Rattle.queue_files.specs.Reading.{AreStanding}
+use Rattle.queue_files.specs.declared.listing.Listing.{Listing}
+use Rattle.queue_files.proofs.Standings.{standing_from}
+use Rattle.queue_core.specs.Views.{QueueView}
+use Rattle.queue_core.proofs.BatchTaken.{opens_taken}
 use Rattle.pq_tools.specs.PageRuns.{FirstIs, IsNextRow, IsRun, rows_left}
 use Rattle.pq_tools.specs.Numbers.{behind_rows, runs_out}
 use Rattle.pq_tools.specs.Repairs.{Added, Adds, AreDifferent, Holds, OpensNew, Salvages, Spends, by_queue, Stepped, given, row_if, salvaged_of}

@@ -3,12 +3,12 @@ use Rattle.std.specs.Prelude.{◌≡◌, ◌⊎◌, ℕ, List, [], length, Resul
 use Rattle.io_traits.specs.Folders.{Content}
 use Rattle.io_traits.specs.Telling.{Grows, GrowsInPart, IsFlushed}
 use Rattle.io_traits.specs.declared.sinks.Sink.{Ghosts as SinkWords}
-use Rattle.store_disk.specs.declared.faults.Damage.{Damage}
-use Rattle.store_disk.specs.declared.faults.QueueFault.{QueueFault}
-use Rattle.store_disk.specs.declared.faults.QueueFault.TheVariants as f
-use Rattle.queue_laws.specs.Folders.{Names, names_in}
-use Rattle.queue_laws.specs.Found.{Damaged, Found, found}
-use Rattle.queue_core.specs.Marks.{read_in}
+use Rattle.io_traits.specs.declared.queue_faults.Damage.{Damage}
+use Rattle.io_traits.specs.declared.queue_faults.QueueFault.{QueueFault}
+use Rattle.io_traits.specs.declared.queue_faults.QueueFault.TheVariants as f
+use Rattle.queue_files.specs.Folders.{Names, names_in}
+use Rattle.queue_files.specs.Found.{Damaged, Found, found}
+use Rattle.queue_files.specs.Marks.{read_in}
 use Rattle.pq_tools.specs.Orders.{Ordered}
 use Rattle.pq_tools.specs.Statuses.{rows_line, status_line}
 use Rattle.pq_tools.specs.declared.orders.ToolOrder.{ToolOrder}

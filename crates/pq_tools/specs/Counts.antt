@@ -1,9 +1,9 @@
 -- How many rows a folder that was read holds.
 use Rattle.std.specs.Prelude.{ℕ, ◌+◌, ◌-◌, List, [], ◌∷◌}
-use Rattle.store_disk.specs.declared.pages.PageState.{PageState}
+use Rattle.io_traits.specs.declared.pages.PageState.{PageState}
 use Rattle.queue_page.specs.Views.{PageView}
-use Rattle.queue_core.specs.declared.opening.OpenedQueue.{OpenedQueue}
-use Rattle.queue_core.specs.declared.sealed_pages.SealedPage.{SealedPage}
+use Rattle.queue_files.specs.declared.opening.OpenedQueue.{OpenedQueue}
+use Rattle.queue_files.specs.declared.sealed_pages.SealedPage.{SealedPage}
 
 -- how many rows of a page come from this number on
 abbrev pub rows_from : ℕ → PageState → ℕ

@@ -1,12 +1,12 @@
 -- What an opening, and so a check, tells of a damage.
 use Rattle.std.specs.Prelude.{◌≢◌, List, ℕ, Err}
 use Rattle.io_traits.specs.Reads.{bytes_of}
-use Rattle.store_disk.specs.declared.faults.Damage.{Damage}
-use Rattle.store_disk.specs.declared.faults.QueueFault.TheVariants as f
+use Rattle.io_traits.specs.declared.queue_faults.Damage.{Damage}
+use Rattle.io_traits.specs.declared.queue_faults.QueueFault.TheVariants as f
 use Rattle.queue_page.specs.Laws.{AreBytes}
-use Rattle.queue_laws.specs.Folders.{Role, Folder}
-use Rattle.persistent_queue.specs.Opening.{FindsQueue}
-use Rattle.persistent_queue.specs.declared.limits.Limits.{Limits}
+use Rattle.queue_files.specs.Folders.{Role, Folder}
+use Rattle.queue_core.specs.Opening.{FindsQueue}
+use Rattle.queue_core.specs.declared.limits.Limits.{Limits}
 
 -- the files of a folder hold bytes
 abbrev pub HoldsBytes : Folder → Type 0

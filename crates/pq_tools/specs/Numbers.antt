@@ -1,12 +1,12 @@
 -- The numbers of rows and of pages that a new queue has, and the rows that take them.
 use Rattle.std.specs.Prelude.{ℕ, ◌^◌, ◌-◌, ◌||◌, Bool, false, List, [], ◌∷◌}
-use Rattle.store_disk.specs.declared.pages.PageState.{PageState}
-use Rattle.queue_laws.specs.Folders.{Folder}
-use Rattle.queue_laws.specs.Found.{Row}
-use Rattle.persistent_queue.specs.Opening.{page_opened, queue_with}
-use Rattle.persistent_queue.specs.Views.{QueueView}
-use Rattle.persistent_queue.specs.Writing.{behind_write, frame_size, numbers_spent}
-use Rattle.persistent_queue.specs.declared.limits.Limits.{Limits}
+use Rattle.io_traits.specs.declared.pages.PageState.{PageState}
+use Rattle.queue_files.specs.Folders.{Folder}
+use Rattle.queue_files.specs.Found.{Row}
+use Rattle.queue_core.specs.Opening.{page_opened, queue_with}
+use Rattle.queue_core.specs.Views.{QueueView}
+use Rattle.queue_core.specs.Writing.{behind_write, frame_size, numbers_spent}
+use Rattle.queue_core.specs.declared.limits.Limits.{Limits}
 use Rattle.pq_tools.specs.Salvage.{named, salvage}
 
 -- its pages have up to 64 MiB, and all together have no limit

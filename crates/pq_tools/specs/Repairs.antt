@@ -2,21 +2,21 @@
 use Rattle.std.specs.Prelude.{◌≡◌, ◌⊎◌, ℕ, suc, ◌+◌, ◌&&◌, nat_lt, not, if◌then◌else◌, Bool, true, false, IsTrue, IsSome, List, [], ◌∷◌, ◌++◌, length, Option, Result, Ok, Err, ⊤}
 use Rattle.io_traits.specs.Folders.{Content, IsPart}
 use Rattle.io_traits.specs.declared.sinks.Sink.{Ghosts as SinkWords}
-use Rattle.store_trait.specs.Images.{Image}
-use Rattle.store_trait.specs.Moments.{NowOrSynced}
-use Rattle.store_trait.specs.declared.stores.Store.{Ghosts as StoreWords}
-use Rattle.store_disk.specs.declared.faults.QueueFault.{QueueFault}
-use Rattle.store_disk.specs.declared.faults.QueueFault.TheVariants as q
+use Rattle.io_traits.specs.Images.{Image}
+use Rattle.io_traits.specs.Moments.{NowOrSynced}
+use Rattle.io_traits.specs.declared.stores.Store.{Ghosts as StoreWords}
+use Rattle.io_traits.specs.declared.queue_faults.QueueFault.{QueueFault}
+use Rattle.io_traits.specs.declared.queue_faults.QueueFault.TheVariants as q
 use Rattle.queue_page.specs.declared.row.PageRow.{PageRow}
 use Rattle.io_traits.specs.Reads.{bytes_of}
-use Rattle.store_disk.specs.declared.pages.PageState.{PageState}
-use Rattle.queue_checkpoint.specs.Checkpoints.{newest_in}
-use Rattle.queue_laws.specs.Folders.{Folder, IsOwn, Role, head, names_in, page}
-use Rattle.queue_laws.specs.Found.{Found, Row, found, row_of, since}
-use Rattle.queue_laws.specs.Kept.{Page, Queue, all_rows, leading}
-use Rattle.queue_core.specs.Marks.{read_in}
-use Rattle.persistent_queue.specs.Opens.{Opens}
-use Rattle.persistent_queue.specs.Views.{QueueView}
+use Rattle.io_traits.specs.declared.pages.PageState.{PageState}
+use Rattle.slot_files.specs.Checkpoints.{newest_in}
+use Rattle.queue_files.specs.Folders.{Folder, IsOwn, Role, head, names_in, page}
+use Rattle.queue_files.specs.Found.{Found, Row, found, row_of, since}
+use Rattle.queue_files.specs.Kept.{Page, Queue, all_rows, leading}
+use Rattle.queue_files.specs.Marks.{read_in}
+use Rattle.queue_core.specs.Opens.{Opens}
+use Rattle.queue_core.specs.Views.{QueueView}
 use Rattle.io_traits.specs.declared.faults.ListFault.{ListFault}
 use Rattle.io_traits.specs.declared.faults.ListFault.TheVariants as l
 use Rattle.pq_tools.specs.Checks.{Prints, PrintsNone}

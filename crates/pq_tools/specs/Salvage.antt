@@ -3,14 +3,14 @@ use Rattle.std.specs.Prelude.{ℕ, zero, suc, ◌+◌, ◌-◌, ◌^◌, ◌==�
 use Rattle.io_traits.specs.Reads.{bytes_of}
 use Rattle.element_code.specs.declared.row.Origin.{Origin}
 use Rattle.element_code.specs.declared.row.Origin.TheVariants.{Unknown, Id}
-use Rattle.store_disk.specs.declared.pages.PageState.{PageState}
-use Rattle.queue_checkpoint.specs.Checkpoints.{newest_in}
+use Rattle.io_traits.specs.declared.pages.PageState.{PageState}
+use Rattle.slot_files.specs.Checkpoints.{newest_in}
 use Rattle.queue_page.specs.Elements.{number_of}
 use Rattle.queue_page.specs.Pages.{is_version, version_of}
 use Rattle.queue_page.specs.Runs.{run}
 use Rattle.queue_page.specs.declared.row.PageRow.{PageRow}
-use Rattle.queue_laws.specs.Folders.{head, page, checkpoint, Folder}
-use Rattle.queue_laws.specs.Found.{Row, since}
+use Rattle.queue_files.specs.Folders.{head, page, checkpoint, Folder}
+use Rattle.queue_files.specs.Found.{Row, since}
 
 -- ---- one page
 

@@ -1,7 +1,7 @@
 -- The statuses of the tools: their numbers, their texts, and the lines that they print.
 use Rattle.std.specs.Prelude.{ℕ, Bool, true, false, List, [], ◌∷◌, ◌++◌, codes}
 use Rattle.std.specs.Fmt.{decimal}
-use Rattle.store_disk.specs.declared.faults.Damage.{Damage}
+use Rattle.io_traits.specs.declared.queue_faults.Damage.{Damage}
 use Rattle.logstash_settings.specs.Texts.{words_fault_text}
 use Rattle.pq_tools.specs.declared.status.ToolStatus.{ToolStatus}
 use Rattle.pq_tools.specs.declared.status.ToolStatus.TheVariants as s

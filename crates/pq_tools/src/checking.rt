@@ -2,8 +2,8 @@
 ghost use Rattle.std.specs.Prelude.{◌≡◌, ◌≢◌, IsTrue, Err, map, string_bytes, true};
 ghost use Rattle.io_traits.specs.Counts.{HasCause};
 ghost use Rattle.io_traits.specs.Folders.{folder_start};
-ghost use Rattle.store_trait.specs.Calls.{ChangesNothing};
-ghost use Rattle.store_disk.specs.declared.faults.QueueFault.TheVariants as f;
+ghost use Rattle.io_traits.specs.Calls.{ChangesNothing};
+ghost use Rattle.io_traits.specs.declared.queue_faults.QueueFault.TheVariants as f;
 ghost use Rattle.logstash_settings.specs.Words.{answer_of};
 ghost use Rattle.pq_tools.specs.Checks.{ChecksAs, Counts, Prints, PrintsOr, Tells, said_in};
 ghost use Rattle.pq_tools.specs.Orders.{checked};
@@ -15,11 +15,10 @@ use crate::counting::open_rows;
 use crate::orders::{ToolOrder, check_ordered};
 use crate::printing::{print, rows_line, status_line};
 use crate::status::ToolStatus;
-use io_traits::Sink;
+use io_traits::{Damage, QueueFault, Sink, Store};
 use plain_data::Text;
-use queue_core::read_folder;
+use queue_files::read_folder;
 use std::alloc::Global;
-use store_disk::{Damage, QueueFault, Store};
 
 /// Says how many rows the queue has that the words name by `--pqcheck`, or how it is damaged first, as an
 /// opening of the queue would find it. The queue stands in the folder `<path.data>/<id>/`.

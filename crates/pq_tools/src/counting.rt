@@ -1,11 +1,11 @@
 // How many rows a folder holds that was read.
 ghost use Rattle.std.specs.Prelude.{◌≡◌, ◌+◌, ◌<◌, ◌^◌, map};
-ghost use Rattle.queue_core.specs.Known.{AreStated};
+ghost use Rattle.queue_files.specs.Known.{AreStated};
 ghost use Rattle.queue_page.specs.Views.{PageView};
 ghost use Rattle.pq_tools.specs.Counts as spec;
 ghost use Rattle.pq_tools.specs.Counts.{tail_rows};
 
-use queue_core::{OpenedQueue, SealedPage};
+use queue_files::{OpenedQueue, SealedPage};
 use queue_page::Page;
 
 /// How many rows of a folder that was read aren't recorded as acknowledged.

@@ -1,8 +1,8 @@
 // Why a queue was not repaired.
 ghost use Rattle.std.specs.Prelude.{◌≡◌};
 
+use io_traits::{Failed, ListFault};
 use std::alloc::AllocError;
-use store_disk::{Failed, ListFault};
 
 /// Why a queue was not repaired.
 #[derive(Clone, Copy)]

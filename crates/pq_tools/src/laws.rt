@@ -1,6 +1,6 @@
 //! Laws of tools: what follows of any queue that is checked or repaired.
 ghost use Rattle.std.specs.Prelude.{◌≡◌, ◌<◌, ◌-◌, ◌^◌, ℕ, List, length, false};
-ghost use Rattle.queue_laws.specs.Folders.{Folder};
+ghost use Rattle.queue_files.specs.Folders.{Folder};
 ghost use Rattle.pq_tools.specs.Damages.{OpenedDamageDiffers};
 ghost use Rattle.pq_tools.specs.Numbers.{spends_numbers};
 ghost use Rattle.pq_tools.specs.Salvage.{salvage};

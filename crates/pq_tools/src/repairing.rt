@@ -2,12 +2,12 @@
 ghost use Rattle.std.specs.Prelude.{◌≡◌, ◌≢◌, ◌==◌, length, IsTrue, IfOk, IfErr, OnOk, Err, List, [], map, string_bytes, true, false};
 ghost use Rattle.io_traits.specs.Counts.{HasCause};
 ghost use Rattle.io_traits.specs.Folders.{Lists, folder_start};
-ghost use Rattle.store_trait.specs.Moments.{EachMoment, LeavesBeside, ReadsBeside};
-ghost use Rattle.queue_laws.specs.Folders.{IsOwn, names_in};
-ghost use Rattle.queue_laws.specs.Found.{Row};
-ghost use Rattle.queue_core.specs.Marks.{read_in};
-ghost use Rattle.queue_core.specs.Others.{KeepsOthers};
-ghost use Rattle.persistent_queue.specs.Opens.{IsReady};
+ghost use Rattle.io_traits.specs.Moments.{EachMoment, LeavesBeside, ReadsBeside};
+ghost use Rattle.queue_files.specs.Folders.{IsOwn, names_in};
+ghost use Rattle.queue_files.specs.Found.{Row};
+ghost use Rattle.queue_files.specs.Marks.{read_in};
+ghost use Rattle.queue_files.specs.Others.{KeepsOthers};
+ghost use Rattle.queue_core.specs.Opens.{IsReady};
 ghost use Rattle.logstash_settings.specs.Words.{answer_of};
 ghost use Rattle.pq_tools.specs.Numbers.{runs_out, spends_numbers};
 ghost use Rattle.pq_tools.specs.Orders.{repaired};
@@ -22,11 +22,10 @@ use crate::fault::RepairFault;
 use crate::orders::{ToolOrder, repair_ordered};
 use crate::status::ToolStatus;
 use crate::taking::take_pages;
-use io_traits::Sink;
-use persistent_queue::{Limits, Queue};
+use io_traits::{ListFault, QueueFault, Sink, Store};
 use plain_data::Text;
+use queue_core::{Limits, Queue};
 use std::alloc::Global;
-use store_disk::{ListFault, QueueFault, Store};
 
 /// How large the pages of a new queue become, and that the queue as a whole has no limit.
 const LIMITS: Limits = Limits {

@@ -2,15 +2,15 @@
 ghost use Rattle.std.specs.Prelude.{◌≡◌, ◌≤◌, ◌⊎◌, IsTrue, IfOk, IfErr, Some, Err};
 ghost use Rattle.io_traits.specs.Counts.{HasCause};
 ghost use Rattle.io_traits.specs.Reads.{bytes_of};
-ghost use Rattle.store_trait.specs.Calls.{ChangesNothing};
+ghost use Rattle.io_traits.specs.Calls.{ChangesNothing};
 ghost use Rattle.queue_page.specs.Pages.{whole_page};
 ghost use Rattle.pq_tools.specs.PageRuns.{BeginsRun, GivesRow, run_from};
 ghost use Rattle.pq_tools.specs.declared.fault.RepairFault.TheVariants as r;
 
 use crate::fault::RepairFault;
+use io_traits::{QueueFault, Store};
 use queue_page::{BLOCK_LEN, Page, PageBuffer, PageRow};
 use std::alloc::{AllocError, Global};
-use store_disk::{QueueFault, Store};
 
 /// A run of intact elements of a page, of which the next one is wanted.
 #[derive(Drop)]

@@ -2,10 +2,10 @@
 ghost use Rattle.std.specs.Prelude.{◌≡◌, Some};
 ghost use Rattle.pq_tools.specs.Statuses.{number_of, status_text};
 
+use io_traits::Damage;
 use logstash_settings::WordsFault;
 use plain_data::Text;
 use std::fmt;
-use store_disk::Damage;
 
 /// How a tool ended. Its text is the line of the status, without `logstash: ` in front.
 #[derive(Drop)]

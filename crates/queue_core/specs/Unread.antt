@@ -1,59 +1,57 @@
--- The files of a folder of which nothing is found, and the folder without them.
-use Rattle.std.specs.Prelude.{◌≡◌, ◌<◌, ◌≤◌, ◌^◌, ◌&&◌, ◌==◌, not, nat_lt, ℕ, Bool, IsTrue, List, ◌++◌, map, filter, None, IsSome, Ok}
-use Rattle.std.specs.List.{list_any}
-use Rattle.store_trait.specs.Images.{Image, IsAtRest}
-use Rattle.store_trait.specs.Moments.{MayLeaveNow, EachMoment}
-use Rattle.store_trait.specs.declared.stores.Store.{Ghosts as StoreWords}
-use Rattle.store_disk.specs.declared.pages.PageState.{PageState}
-use Rattle.queue_laws.specs.Folders.{head, page, checkpoint, Folder, Names, names_in, folder_in}
-use Rattle.queue_laws.specs.Checkpoints.{told}
-use Rattle.queue_laws.specs.Found.{found}
-use Rattle.queue_core.specs.Listing.{IsListed}
-use Rattle.queue_core.specs.Marks.{read_in}
-use Rattle.queue_core.specs.declared.listing.Listing.{Listing}
+-- The next rows of a page, as many as a batch may have, in terms of rows.
+use Rattle.std.specs.Prelude.{◌≡◌, ◌≤◌, ◌+◌, ◌-◌, ℕ, suc, zero, false, List, [], ◌∷◌, ◌++◌, length, map, drop, if◌then◌else◌, Option, Some, None, Ok}
+use Rattle.queue_page.specs.Blocks.{left_of}
+use Rattle.queue_page.specs.Bodies.{body_spelling}
+use Rattle.queue_page.specs.Grammar.{AreElements}
+use Rattle.queue_page.specs.Views.{PageView}
+use Rattle.queue_page.specs.declared.row.PageRow.{PageRow}
+use Rattle.queue_files.specs.Found.{Row, since}
+use Rattle.queue_core.specs.Batching.{with_more, is_over, rows_read}
+use Rattle.queue_core.specs.declared.page_rows.QueueRow.{QueueRow}
+use Rattle.queue_core.specs.declared.page_rows.BatchReader.{BatchReader}
 
--- the checkpoint of this number speaks of a page below the head, which is among these
-abbrev pub is_paired : ℕ → List ℕ → ℕ → Bool
-is_paired top pages n = nat_lt n top && list_any (λ m. m == n) pages
+abbrev pub told : QueueRow → Row
+told r = record { number = r.number; origin = r.origin; event = r.event }
 
-abbrev pub pages_above : List ℕ → ℕ → List ℕ → List (List ℕ)
-pages_above folder top pages = map (λ n. names_in folder (page n)) (filter (nat_lt top) pages)
+-- how many bytes the body of a row has
+abbrev pub body_size : Row → ℕ
+body_size r = length (body_spelling r.origin r.event)
 
-abbrev pub unpaired : List ℕ → ℕ → List ℕ → List ℕ → List (List ℕ)
-unpaired folder top pages checkpoints = map (λ n. names_in folder (checkpoint n)) (filter (λ n. not (is_paired top pages n)) checkpoints)
+-- The first of these rows, at most so many, as long as their bodies have no more bytes than these at most, with those before them; a first row of a
+-- batch may have any number.
+abbrev pub taken_with : Option ℕ → Row → (Option ℕ → List Row) → List Row
+taken_with None row rest = []
+taken_with (Some bytes) row rest = row ∷ rest (Some bytes)
 
--- the pages above the head, and the checkpoints from it on or without a page
-abbrev pub unread_names : List ℕ → ℕ → Listing → List (List ℕ)
-unread_names folder top l = pages_above folder top l.pages.items ++ unpaired folder top l.pages.items l.checkpoints.items
+abbrev pub taken : ℕ → ℕ → Option ℕ → List Row → List Row
+taken most zero bytes rows = []
+taken most (suc count) bytes [] = []
+taken most (suc count) bytes (row ∷ rows) = taken_with (with_more most bytes (body_size row)) row (λ b. taken most count b rows)
 
--- The folder without them holds the same: the pages up to the head, the checkpoints of those below it and the head slot are the same files, and no
--- other file that a queue may have stands from the head on.
-pub record IsTidied (s : PageState) (a b : Folder) : Type 0 where
-  pub pages : (n : ℕ) → n ≤ s.page → b (page n) ≡ a (page n)
-  pub slots : (n : ℕ) → n < s.page → IsSome (a (page n)) → b (checkpoint n) ≡ a (checkpoint n)
-  pub head_is : b head ≡ a head
-  pub found_is : found b ≡ found a
-  pub no_pages : (n : ℕ) → s.page < n → n < 2 ^ 32 → b (page n) ≡ None
-  pub no_checkpoints : (n : ℕ) → s.page ≤ n → n < 2 ^ 32 → b (checkpoint n) ≡ None
+-- The same of further rows, behind those that were read.
+abbrev pub taken_on : BatchReader → List Row → List Row
+taken_on r rows = if r.closed then [] else taken r.most_bytes (r.most_rows - length r.rows) r.bytes rows
 
-module _ {S : Type 0} (store : StoreWords S) where
-  -- a folder at rest, of which this is a list, and whose head slot says this
-  pub record IsRead (names : Names) (l : Listing) (s : PageState) (at : S) : Type 0 where
-    pub rests : (i : Image) → MayLeaveNow store at i → IsAtRest (store.seen at) i
-    pub listed : IsTrue store.tells → IsListed (read_in names (store.seen at)) l
-    pub tells : IsTrue store.tells → told (store.seen at (names head)) ≡ Ok s
+-- What was read of a page whose next rows are these, and where the next row stands then: so many of them were read, and the others stand from there on. What
+-- the batch got of them, with those that are left, is all of them. A batch of these rows and further ones has those that it has now, and as many of the further
+-- ones as it may then; while it isn't over, none of these is left.
+pub record IsReadOn (p : PageView) (from : ℕ) (file : List ℕ) (rows : List PageRow) (r next : BatchReader) : Type 0 where
+  pub count : ℕ
+  pub few : count ≤ length rows
+  pub number : next.number ≡ r.number + count
+  pub within : next.place ≤ p.state.length
+  pub left : AreElements p.version next.number next.place (drop count rows) (left_of file next.place p.state.length)
+  pub given : map told next.rows ++ since from (drop count rows) ≡ map told r.rows ++ since from rows
+  pub goes_on : (more : List Row) → map told r.rows ++ taken r.most_bytes (r.most_rows - length r.rows) r.bytes (since from rows ++ more) ≡ map told next.rows ++ taken_on next more
+  pub most_rows : next.most_rows ≡ r.most_rows
+  pub most_bytes : next.most_bytes ≡ r.most_bytes
+  pub all : is_over next ≡ false → drop count rows ≡ []
 
-  -- a stop at any moment leaves a folder that holds the same
-  abbrev pub StaysFound : Names → S → S → Type 0
-  StaysFound names old new = EachMoment store old new (λ i. found (folder_in names i) ≡ found (read_in names (store.seen old)))
-
-  abbrev pub UnreadGo : Names → Listing → PageState → S → S → Type 0
-  UnreadGo names l s old new = IsRead names l s old → StaysFound names old new
-
-  -- then all is at rest
-  pub record LeavesTidy (names : Names) (s : PageState) (old new : S) : Type 0 where
-    pub rests : (i : Image) → MayLeaveNow store new i → IsAtRest (store.seen new) i
-    pub tidied : IsTrue store.tells → IsTidied s (read_in names (store.seen old)) (read_in names (store.seen new))
-
-  abbrev pub UnreadAreGone : Names → Listing → PageState → S → S → Type 0
-  UnreadAreGone names l s old new = IsRead names l s old → LeavesTidy names s old new
+-- Where the elements of rows stand in a page from the next row on, those that are read for a batch are the first of them that aren't below a number,
+-- as many as the batch may have; and the next row is the one behind them.
+abbrev pub NextRowsAreRead : Type 0
+NextRowsAreRead =
+    (name : List ℕ) (p : PageView) (from : ℕ) (file : List ℕ) (rows : List PageRow) (r : BatchReader) → r.closed ≡ false → p.state.length ≤ length file → r.place ≤ p.state.length
+    → AreElements p.version r.number r.place rows (left_of file r.place p.state.length)
+    → (next : BatchReader) × (rows_read name p from file (length rows) r ≡ Ok next) × (map told next.rows ≡ map told r.rows ++ taken r.most_bytes (r.most_rows - length r.rows) r.bytes (since from rows))
+    × IsReadOn p from file rows r next

@@ -1,33 +1,25 @@
-//! The persistent queue of a pipeline, over its page files and checkpoints.
+//! The persistent queue of a pipeline, as its callers have it: it is opened in a folder, rows are written, given in
+//! batches and acknowledged, a mark records that, and a purge removes pages of which nothing is left.
 #![tactic(auto)]
 
-mod checkpoint_state;
-mod inspection;
+mod acknowledged;
+mod batch;
 pub mod laws;
-mod listing;
-mod look;
+mod limits;
 mod marking;
-mod naming;
 mod opening;
-mod page_scan;
+mod page_rows;
+mod pages;
 mod purging;
-mod removing;
+mod queue;
 mod rolling;
-mod rows;
-mod scanned;
-mod sealed_pages;
-mod starting;
-mod unread;
+mod taking;
+mod words;
+mod writing;
 
-pub use inspection::read_folder;
-pub use listing::{Listing, list_folder};
-pub use marking::{Mark, mark_pages};
-pub use naming::{checkpoint_name, head_name, page_name};
-pub use opening::{OpenedQueue, open_folder};
-pub use purging::remove_page;
-pub use removing::remove_files;
-pub use rolling::{NextPage, begin_page};
-pub use rows::add_row;
-pub use scanned::{Scanned, read_pages};
-pub use sealed_pages::SealedPage;
-pub use starting::make_first;
+pub use acknowledged::Acknowledged;
+pub use batch::Batch;
+pub use limits::{Limits, Numbers};
+pub use page_rows::{BatchReader, QueueRow};
+pub use queue::Queue;
+pub use writing::WriteFault;

@@ -1,82 +1,55 @@
-// Recording in checkpoint files how far pages are acknowledged.
-ghost use Rattle.std.specs.Prelude.{◌≡◌, IsTrue, OnOk, IsErr};
-ghost use Rattle.io_traits.specs.Counts.{HasCause};
-ghost use Rattle.store_trait.specs.Moments.{EachMoment};
-ghost use Rattle.queue_core.specs.Others.{IsMarked, KeepsOthers};
-ghost use Rattle.queue_core.specs.Ready.{MarkKeeps, MarkRecords};
-ghost use Rattle.queue_core.specs.Writes.{due_of, writes_of, CanWrite, MayLeave, Wrote, MayStop, Settled};
+// What is acknowledged and recorded of the pages of a queue.
+ghost use Rattle.std.specs.Prelude.{◌≡◌, ◌+◌, true, length, map};
+ghost use Rattle.queue_core.specs.Calls.{mark_of, marks_of, tail_marks, with_acknowledged, with_marked};
 
-use plain_data::Text;
-use queue_checkpoint::Checkpoint;
-use store_disk::{Failed, PageState, Store};
+use crate::limits::Numbers;
+use crate::pages::OpenPage;
+use queue_files::Mark;
 
-/// What is to be recorded of a page in its checkpoint file.
-#[derive(Drop)]
-pub struct Mark {
-    /// The path of the checkpoint file.
-    pub file: Text,
-    /// The turn of the slot.
-    pub turn: u64,
-    /// What the slot says.
-    pub state: PageState,
-    /// Whether it says anything new: else nothing is written.
-    pub due: bool,
-}
-
-// Writes the slots that are due, one behind the other, and settles nothing.
-fn write_marks<S: Store>(store: &mut S, marks: &[Mark]) -> Result<(), Failed>
-    requires { IsTrue S.tells → CanWrite (S.seen store.old) (writes_of marks.now) }
-    ensures images { EachMoment S.Store store.old store.new
-        (MayLeave S.Store store.old (writes_of marks.now)) }
-    ensures wrote { OnOk result (IsTrue S.tells
-        → Wrote (writes_of marks.now) (S.seen store.old) (S.seen store.new)) }
-    ensures beside { KeepsOthers S.Store (IsMarked marks.now) store.old store.new }
-    ensures cause { HasCause (S.faults store.old) (S.faults store.new) (IsErr result) }
+/// The rows of these numbers are acknowledged in all pages below the head.
+pub(crate) fn acknowledge_all(tails: &mut Vec<OpenPage>, numbers: Numbers)
+    ensures { tails.new.items ≡ map (with_acknowledged numbers) tails.old.items }
 {
-    for mark in marks {
-        match write_mark(store, mark) {
-            Ok(()) => {}
-            Err(failed) => return Err(failed),
-        }
-    }
-    Ok(())
-}
-
-// Writes the slot, if it is due.
-fn write_mark<S: Store>(store: &mut S, mark: &Mark) -> Result<(), Failed>
-    requires { IsTrue S.tells → CanWrite (S.seen store.old) (due_of mark.now) }
-    ensures images { EachMoment S.Store store.old store.new
-        (MayLeave S.Store store.old (due_of mark.now)) }
-    ensures wrote { OnOk result (IsTrue S.tells
-        → Wrote (due_of mark.now) (S.seen store.old) (S.seen store.new)) }
-    ensures beside { KeepsOthers S.Store (λ n. n ≡ mark.now.file) store.old store.new }
-    ensures cause { HasCause (S.faults store.old) (S.faults store.new) (IsErr result) }
-{
-    if mark.due {
-        Checkpoint::write_slot(store, mark.file.as_str(), mark.turn, &mark.state)
-    } else {
-        Ok(())
+    for place in 0..tails.len() {
+        tails[place].acknowledge(numbers);
     }
 }
 
-/// Settles all files, writes the slots that are due, and settles those.
-///
-/// A stop at any moment leaves what it might have left before, or all else at rest and of the slots some,
-/// of which each may be torn.
-pub fn mark_pages<S: Store>(store: &mut S, marks: &[Mark]) -> Result<(), Failed>
-    requires { IsTrue S.tells → CanWrite (S.seen store.old) (writes_of marks.now) }
-    ensures any_moment { EachMoment S.Store store.old store.new
-        (MayStop S.Store store.old (writes_of marks.now)) }
-    ensures settled { OnOk result (Settled S.Store store.old (writes_of marks.now) store.new) }
-
-    // Of a queue that is ready, with these marks: each moment keeps it, and then all of it is recorded.
-    ensures keeps { MarkKeeps S.Store marks.now store.old store.new }
-    ensures records { OnOk result (MarkRecords S.Store marks.now store.old store.new) }
-
-    ensures beside { KeepsOthers S.Store (IsMarked marks.now) store.old store.new }
-    ensures cause { HasCause (S.faults store.old) (S.faults store.new) (IsErr result) }
+/// What is to be recorded of each page, in the marks of those below the head and of the head page.
+pub(crate) fn set_marks(marks: &mut Vec<Mark>, tails: &[OpenPage], top: &OpenPage)
+    requires { length marks.old.items ≡ length tails.now + 1 }
+    ensures { marks.new.items ≡ marks_of tails.now top.now marks.old.items }
 {
-    store.sync()?;
-    write_marks(store, marks)?;
-    store.sync()
+    let last = tails.len();
+    set_tails(marks, tails);
+    set_mark(&mut marks[last], top, true);
+}
+
+/// What is to be recorded of pages below the head, in the first marks.
+fn set_tails(marks: &mut Vec<Mark>, tails: &[OpenPage])
+    requires { length marks.old.items ≡ length tails.now + 1 }
+    ensures { marks.new.items ≡ tail_marks tails.now marks.old.items }
+{
+    for place in 0..tails.len() {
+        let tail = &tails[place];
+        set_mark(&mut marks[place], tail, tail.is_due());
+    }
+}
+
+/// What is to be recorded of a page, in its mark.
+fn set_mark(mark: &mut Mark, page: &OpenPage, due: bool)
+    ensures { mark.new ≡ mark_of page.now due mark.old }
+{
+    mark.turn = page.turn.wrapping_add(1);
+    mark.state = page.state();
+    mark.due = due;
+}
+
+/// What is acknowledged in pages below the head was recorded.
+pub(crate) fn mark_all(tails: &mut Vec<OpenPage>)
+    ensures { tails.new.items ≡ map with_marked tails.old.items }
+{
+    for place in 0..tails.len() {
+        tails[place].mark();
+    }
 }

@@ -1,24 +1,17 @@
-// Removing a page whose rows are all acknowledged.
-ghost use Rattle.std.specs.Prelude.{◌≡◌, ◌⊎◌, OnOk, IsErr};
-ghost use Rattle.io_traits.specs.Counts.{HasCause};
-ghost use Rattle.queue_core.specs.Others.{KeepsOthers};
-ghost use Rattle.queue_core.specs.Ready.{PurgeKeeps, PurgeReady};
+// Which page of a queue may go.
+ghost use Rattle.std.specs.Prelude.{◌≡◌};
+ghost use Rattle.queue_core.specs.Calls.{spent_from};
 
-use store_disk::{Failed, Store};
+use crate::pages::OpenPage;
 
-/// Removes a page below the head of which all rows are recorded as acknowledged, settles that, and then
-/// removes its checkpoint.
-///
-/// Of a queue that is ready a stop at any moment leaves the queue.
-pub fn remove_page<S: Store>(store: &mut S, page: &str, checkpoint: &str) -> Result<(), Failed>
-    ensures keeps { PurgeKeeps S.Store page.now checkpoint.now store.old store.new }
-    ensures ready { OnOk result
-        (PurgeReady S.Store page.now checkpoint.now store.old store.new) }
-    ensures beside { KeepsOthers S.Store (λ n. (n ≡ page.now) ⊎ (n ≡ checkpoint.now)) store.old
-        store.new }
-    ensures cause { HasCause (S.faults store.old) (S.faults store.new) (IsErr result) }
+/// The place of the first page that is recorded as wholly acknowledged.
+pub(crate) fn first_spent(tails: &[OpenPage]) -> Option<usize>
+    ensures { result ≡ spent_from 0 tails.now }
 {
-    store.remove(page)?;
-    store.sync()?;
-    store.remove(checkpoint)
+    for place in 0..tails.len() {
+        if tails[place].is_spent() {
+            return Some(place);
+        }
+    }
+    None
 }

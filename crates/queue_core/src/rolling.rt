@@ -1,61 +1,71 @@
-// Beginning a new head page.
-ghost use Rattle.std.specs.Prelude.{◌≡◌, ◌≢◌, ◌≤◌, IsTrue, OnOk, IsErr};
+// A new head page, which is begun for a row behind a mark.
+ghost use Rattle.std.specs.Prelude.{◌≡◌, ◌⊎◌, ◌<◌, ◌-◌, ◌^◌, suc, length, IsErr, IfOk, OnOk};
 ghost use Rattle.io_traits.specs.Counts.{HasCause};
-ghost use Rattle.io_traits.specs.Reads.{file_length};
-ghost use Rattle.crc_frame.specs.Slots.{place_of};
-ghost use Rattle.queue_core.specs.Others.{KeepsOthers};
-ghost use Rattle.queue_core.specs.Ready.{IsOfNext, PageKeeps, PageReady};
-ghost use Rattle.queue_core.specs.Writes.{NoneShorter};
+ghost use Rattle.queue_page.specs.Pages.{with_element};
+ghost use Rattle.queue_files.specs.Others.{IsMarked, KeepsOthers};
+ghost use Rattle.queue_files.specs.Ready.{IsOfNext};
+ghost use Rattle.queue_core.specs.Calls.{with_recorded};
+ghost use Rattle.queue_core.specs.Views.{QueueView};
+ghost use Rattle.queue_core.specs.Writing.{next_page, BeginAdds, BeginKeeps, IsBegin};
 
-use plain_data::Text;
-use queue_checkpoint::Checkpoint;
-use store_disk::{Failed, PageState, Store};
+use crate::pages::OpenPage;
+use io_traits::{Failed, PageState, Store};
+use queue_files::{
+    Mark, NextPage, add_row, begin_page, checkpoint_name, head_name, mark_pages, page_name,
+};
+use queue_page::Page;
+use std::alloc::{AllocError, Global};
 
-/// The version of new pages: their rows name their inputs.
-pub(crate) const NEW_VERSION: u8 = 2;
-
-/// What is to be written for a new head page.
-pub struct NextPage {
-    /// The path of the checkpoint that the page gets which was the head so far.
-    pub checkpoint: Text,
-    /// How that page stands.
-    pub sealed: PageState,
-    /// The path of the new page.
-    pub file: Text,
-    /// The path of the checkpoint of the head page.
-    pub head: Text,
-    /// The turn of the slot there that speaks of the new page.
-    pub turn: u64,
-    /// How the new page stands.
-    pub state: PageState,
+/// What is to be written for the page behind the head page, once all is recorded.
+pub(crate) fn next_page(alloc: Global, folder: &str, top: &OpenPage) -> Result<NextPage, AllocError>
+    requires { suc top.now.number < 2 ^ 32 - 1 }
+    ensures { IfOk result (λ next. next ≡ next_page folder.now (with_recorded top.now)) }
+{
+    let number = top.number + 1;
+    let checkpoint = checkpoint_name(alloc, folder, top.number)?;
+    let file = page_name(alloc, folder, number)?;
+    let head = head_name(alloc, folder)?;
+    let least = top.end();
+    Ok(NextPage {
+        checkpoint,
+        sealed: top.state(),
+        file,
+        head,
+        turn: top.turn.wrapping_add(1).wrapping_add(1),
+        state: PageState {
+            page: number,
+            first_open: least,
+            least,
+            count: 0,
+            length: 1,
+        },
+    })
 }
 
-/// Begins a new head page: writes the first slot of the checkpoint of the page that was the head, and the
-/// first byte of the new one, settles both, then writes the head slot, and settles that.
+/// Records all of a queue, begins the page behind its head page, and appends the element of a row to it.
 ///
-/// Of a queue that is ready, and of which all is recorded, a stop at any moment leaves the queue.
-pub fn begin_page<S: Store>(store: &mut S, next: &NextPage) -> Result<(), Failed>
-    requires place { IsTrue S.tells
-        → place_of 48 next.now.turn ≤ file_length (S.seen store.old next.now.head) }
-    requires checkpoint { next.now.head ≢ next.now.checkpoint }
-    requires file { next.now.head ≢ next.now.file }
-
-    ensures keeps { PageKeeps S.Store next.now store.old store.new }
-    ensures ready { OnOk result (PageReady S.Store next.now store.old store.new) }
-
-    ensures beside { KeepsOthers S.Store (IsOfNext next.now) store.old store.new }
-
-    // No file became shorter, and the checkpoint of the page that was the head has a slot.
-    ensures longer { OnOk result (IsTrue S.tells
-        → NoneShorter (S.seen store.old) (S.seen store.new)) }
-    ensures slotted { OnOk result (IsTrue S.tells
-        → 48 ≤ file_length (S.seen store.new next.now.checkpoint)) }
-
+/// A stop at any moment leaves the queue, or the one with the row, which may be missing.
+pub(crate) fn begin<S: Store>(
+    store: &mut S,
+    marks: &[Mark],
+    next: &NextPage,
+    frame: &[u8],
+) -> Result<Page, Failed>
+    requires plan { (v : QueueView)
+        × IsBegin S.Store v marks.now next.now frame.now store.old }
+    requires short { length frame.now < 2 ^ 32 }
+    ensures page { IfOk result (λ page. page
+        ≡ with_element (record { version = 2; state = next.now.state }) (length frame.now)) }
+    ensures keeps { BeginKeeps S.Store marks.now next.now frame.now store.old store.new }
+    ensures adds { OnOk result
+        (BeginAdds S.Store marks.now next.now frame.now store.old store.new) }
+    ensures beside { KeepsOthers S.Store
+        (λ n. IsMarked marks.now n ⊎ IsOfNext next.now n) store.old store.new }
     ensures cause { HasCause (S.faults store.old) (S.faults store.new) (IsErr result) }
 {
-    Checkpoint::write_slot(store, next.checkpoint.as_str(), 0, &next.sealed)?;
-    store.append(next.file.as_str(), &[NEW_VERSION])?;
-    store.sync()?;
-    Checkpoint::write_slot(store, next.head.as_str(), next.turn, &next.state)?;
-    store.sync()
+    mark_pages(store, marks)?;
+    begin_page(store, next)?;
+    let mut page = Page::start(next.state);
+    add_row(store, &mut page, next.file.as_str(), frame)?;
+    Ok(page)
 }

@@ -2,14 +2,14 @@
 use Rattle.std.proofs.Common.{◌≡◌, ℕ, ◌+◌, ◌-◌, ◌≤◌, ◌<◌, true, List, [], ◌∷◌, ◌++◌, length, take, drop, Result, Ok, refl, sym, ap, ◌∙◌, subst, arith, append-nil, append_assoc, length-append}
 use Rattle.std.proofs.lemmas.List.{take_all, drop-take, drop-drop}
 use Rattle.io_traits.specs.Reads.{bytes_of, file_length}
-use Rattle.store_trait.specs.Images.{TornFile}
-use Rattle.store_trait.specs.Chance.{NoChance, StandsAt}
-use Rattle.store_trait.specs.Moments.{EachMoment, ImagesTell}
-use Rattle.store_trait.specs.Tails.{passes, HasTail, HoldsNamed}
-use Rattle.store_trait.specs.declared.stores.Store.{Ghosts as StoreWords}
-use Rattle.store_trait.proofs.Moments.{weaker}
-use Rattle.store_trait.proofs.TailRuns.{Changes, appended_run}
-use Rattle.store_disk.specs.declared.pages.PageState.{PageState}
+use Rattle.io_traits.specs.Images.{TornFile}
+use Rattle.io_traits.specs.Chance.{NoChance, StandsAt}
+use Rattle.io_traits.specs.Moments.{EachMoment, ImagesTell}
+use Rattle.io_traits.specs.Tails.{passes, HasTail, HoldsNamed}
+use Rattle.io_traits.specs.declared.stores.Store.{Ghosts as StoreWords}
+use Rattle.io_traits.proofs.Moments.{weaker}
+use Rattle.io_traits.proofs.TailRuns.{Changes, appended_run}
+use Rattle.io_traits.specs.declared.pages.PageState.{PageState}
 use Rattle.queue_page.specs.Elements.{is_element, and_then}
 use Rattle.queue_page.specs.Runs.{Run, run, behind}
 use Rattle.queue_page.specs.Pages.{PageRows, recorded, room_of, run_behind, with_run, extended}

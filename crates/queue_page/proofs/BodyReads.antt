@@ -3,10 +3,10 @@ use Rattle.std.specs.Prelude.{IfSome}
 use Rattle.std.proofs.Common.{◌≡◌, ◌≢◌, ◌↔◌, ◌⊎◌, inl, inr, ℕ, ◌-◌, ◌≤◌, ◌==◌, nat_lt, true, false, List, length, Option, Some, None, Result, Ok, Err, refl, sym, ap, ◌∙◌, subst, arith}
 use Rattle.std.proofs.lemmas.Bool.{cond-true, cond-false, cases_lt, eq-eqb}
 use Rattle.std.proofs.lemmas.Bool.Decides.{nat_tests}
-use Rattle.crc_frame.proofs.Numbers.{IsBytes}
+use Rattle.crc_frame.specs.Bytes.{IsBytes}
 use Rattle.event_tree.specs.Events.{Ev}
-use Rattle.byte_reader.specs.Fronts.{◌>>=◌}
-use Rattle.byte_reader.proofs.Fronts.{chosen}
+use Rattle.crc_frame.specs.Fronts.{◌>>=◌}
+use Rattle.crc_frame.proofs.Fronts.{chosen}
 use Rattle.element_code.specs.Parts.{event_spelling}
 use Rattle.element_code.specs.Values.{IsWhole}
 use Rattle.element_code.specs.Reading.{event_at}

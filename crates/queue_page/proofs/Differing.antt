@@ -3,11 +3,12 @@ use Rattle.std.proofs.Common.{◌≡◌, ◌≢◌, ◌⊎◌, inl, inr, ℕ, �
 use Rattle.std.proofs.lemmas.Bool.{cond-true, cond-false, cases_lt, cases_eq, eq-eqb, false≢true}
 use Rattle.std.proofs.lemmas.Bool.Decides.{nat_tests}
 use Rattle.byteorder.specs.Numbers.{big_from-lt}
-use Rattle.crc_frame.proofs.Numbers.{IsBytes, IsBytes-drop, IsBytes-take}
+use Rattle.crc_frame.specs.Bytes.{IsBytes}
+use Rattle.crc_frame.proofs.Numbers.{IsBytes-drop, IsBytes-take}
 use Rattle.event_tree.specs.Events.{Ev}
-use Rattle.byte_reader.proofs.Fronts.{chosen}
+use Rattle.crc_frame.proofs.Fronts.{chosen}
 use Rattle.element_code.specs.declared.row.Origin.{Origin}
-use Rattle.store_disk.specs.declared.pages.PageState.{PageState}
+use Rattle.io_traits.specs.declared.pages.PageState.{PageState}
 use Rattle.queue_page.specs.Bodies.{body_at}
 use Rattle.queue_page.specs.Elements.{number_of, size_of, total_of, body_of, stored_crc, computed_crc, element_at, frame_at, head_at, row_by, misfit, body_misfit}
 use Rattle.queue_page.specs.Runs.{Run, run}

@@ -7,7 +7,7 @@ use Rattle.std.proofs.lemmas.List.{take-take, take_all, drop-take}
 use Rattle.byteorder.specs.Endian.{big_number}
 use Rattle.byteorder.specs.Numbers.{big_from-take}
 use Rattle.event_tree.specs.Events.{Ev}
-use Rattle.byte_reader.proofs.Fronts.{chosen}
+use Rattle.crc_frame.proofs.Fronts.{chosen}
 use Rattle.element_code.specs.declared.row.Origin.{Origin}
 use Rattle.queue_page.specs.Answers.{Tells, IsNoMisfit}
 use Rattle.queue_page.specs.Bodies.{body_at}

@@ -9,7 +9,7 @@ use Rattle.crc_frame.specs.Frames.{Element, covered, frame_of, unframed}
 use Rattle.crc_frame.proofs.CrcLemmas.{is_checked-append}
 use Rattle.crc_frame.proofs.FrameLemmas.{length-frame_of, unframed-frame_of}
 use Rattle.event_tree.specs.Events.{Ev}
-use Rattle.byte_reader.proofs.Fronts.{chosen}
+use Rattle.crc_frame.proofs.Fronts.{chosen}
 use Rattle.element_code.specs.declared.row.Origin.{Origin}
 use Rattle.element_code.specs.declared.row.Origin.TheVariants.{Unknown, Id}
 use Rattle.queue_page.specs.Bodies.{IsBody, body_at}

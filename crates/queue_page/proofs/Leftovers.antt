@@ -4,15 +4,15 @@ use Rattle.std.proofs.lemmas.Bool.{false≢true}
 use Rattle.std.proofs.lemmas.List.{take-take, take_all, drop-take, drop-drop}
 use Rattle.io_traits.specs.Folders.{Content}
 use Rattle.io_traits.specs.Reads.{bytes_of}
-use Rattle.store_trait.specs.Images.{Image, FileImage, at_rest}
-use Rattle.store_trait.specs.Chance.{StandsAt}
-use Rattle.store_trait.specs.Moments.{MayLeaveNow, EachMoment, ImagesTell}
-use Rattle.store_trait.specs.Tails.{HoldsTail, TailImage, HasTail, HoldsCut}
-use Rattle.store_trait.specs.declared.stores.Store.{Ghosts as StoreWords}
-use Rattle.store_trait.proofs.Moments.{weaker, one_then_other}
-use Rattle.store_trait.proofs.TailImages.{at_rest_tail}
-use Rattle.store_disk.specs.declared.pages.PageState.{PageState}
-use Rattle.store_disk.proofs.Looking.{Nothing, nothing_left}
+use Rattle.io_traits.specs.Images.{Image, FileImage, at_rest}
+use Rattle.io_traits.specs.Chance.{StandsAt}
+use Rattle.io_traits.specs.Moments.{MayLeaveNow, EachMoment, ImagesTell}
+use Rattle.io_traits.specs.Tails.{HoldsTail, TailImage, HasTail, HoldsCut}
+use Rattle.io_traits.specs.declared.stores.Store.{Ghosts as StoreWords}
+use Rattle.io_traits.proofs.Moments.{weaker, one_then_other}
+use Rattle.io_traits.proofs.TailImages.{at_rest_tail}
+use Rattle.io_traits.specs.declared.pages.PageState.{PageState}
+use Rattle.io_traits.proofs.Looking.{Nothing, nothing_left}
 use Rattle.queue_page.specs.Elements.{misfit, and_then, is_element}
 use Rattle.queue_page.specs.Runs.{run, behind}
 use Rattle.queue_page.specs.Views.{PageView}

@@ -2,8 +2,8 @@
 use Rattle.std.proofs.Common.{◌≡◌, inl, inr, ℕ, ◌+◌, ◌==◌, ◌≤◌, ◌<◌, nat_lt, true, false, List, ◌++◌, length, take, Option, Some, None, Result, Ok, Err, sym, ap, ◌∙◌, arith, refl, length-append, if◌then◌else◌}
 use Rattle.std.proofs.lemmas.Bool.{cond-true, cond-false, cases_lt, eqb-true}
 use Rattle.std.proofs.lemmas.Bool.Decides.{nat_tests}
-use Rattle.byte_reader.proofs.Fronts.{chosen}
-use Rattle.store_disk.specs.declared.pages.PageState.{PageState}
+use Rattle.crc_frame.proofs.Fronts.{chosen}
+use Rattle.io_traits.specs.declared.pages.PageState.{PageState}
 use Rattle.queue_page.specs.Elements.{misfit, and_then}
 use Rattle.queue_page.specs.Views.{PageView}
 use Rattle.queue_page.specs.Runs.{Run}

@@ -2,8 +2,8 @@
 use Rattle.std.proofs.Common.{◌≡◌, ℕ, suc, ◌+◌, ◌≤◌, ◌<◌, List, [], ◌∷◌, ◌++◌, length, take, drop, Result, Ok, refl, sym, ap, ◌∙◌, subst, arith}
 use Rattle.std.proofs.lemmas.List.{drop-drop}
 use Rattle.std.proofs.Math.Seq.{drop-append-add}
-use Rattle.store_trait.specs.Chance.{StandsAt}
-use Rattle.store_trait.specs.Tails.{passes}
+use Rattle.io_traits.specs.Chance.{StandsAt}
+use Rattle.io_traits.specs.Tails.{passes}
 use Rattle.queue_page.specs.Elements.{element_at, total_of, is_element}
 use Rattle.queue_page.specs.Grammar.{AreElements}
 use Rattle.queue_page.specs.Runs.{Run, run}

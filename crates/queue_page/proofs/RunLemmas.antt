@@ -1,7 +1,7 @@
 -- A run goes by the bytes of its elements alone.
 use Rattle.std.proofs.Common.{◌≡◌, ℕ, suc, ◌+◌, ◌-◌, ◌≤◌, ◌<◌, List, [], ◌∷◌, ◌++◌, length, take, drop, Option, Some, None, Ok, refl, sym, ap, ◌∙◌, arith, length-append, length-take, length-drop}
 use Rattle.std.proofs.lemmas.List.{take-take, drop-take, drop-drop, nil_from_length}
-use Rattle.store_trait.specs.Tails.{passes}
+use Rattle.io_traits.specs.Tails.{passes}
 use Rattle.queue_page.specs.Elements.{element_at, total_of, is_element}
 use Rattle.queue_page.specs.Runs.{Run, run, no_run, behind}
 use Rattle.queue_page.specs.declared.fault.Mismatch.{Mismatch}

@@ -7,7 +7,8 @@ use Rattle.std.proofs.lemmas.List.{take_all, take_at, take-take, drop-take, drop
 use Rattle.byteorder.specs.Numbers.{big_from-lt}
 use Rattle.crc_frame.specs.Crc.{is_checked}
 use Rattle.crc_frame.specs.Frames.{frame_of}
-use Rattle.crc_frame.proofs.Numbers.{IsBytes, IsBytes-drop, IsBytes-take}
+use Rattle.crc_frame.specs.Bytes.{IsBytes}
+use Rattle.crc_frame.proofs.Numbers.{IsBytes-drop, IsBytes-take}
 use Rattle.crc_frame.proofs.FrameLemmas.{ReadsAs, read_framed}
 use Rattle.event_tree.specs.Events.{Ev}
 use Rattle.element_code.specs.declared.row.Origin.{Origin}

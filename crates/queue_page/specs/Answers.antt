@@ -3,8 +3,8 @@ use Rattle.std.specs.Prelude.{◌≡◌, ◌≤◌, ℕ, ◌-◌, List, Option, 
 use Rattle.element_code.specs.declared.fault.ElementFault.{ElementFault}
 use Rattle.element_code.specs.declared.fault.ElementFault.TheVariants.{At}
 use Rattle.element_code.specs.declared.fault.ElementFault.TheVariants.{Memory as NoMemory}
-use Rattle.store_disk.specs.declared.faults.QueueFault.{QueueFault}
-use Rattle.store_disk.specs.declared.faults.QueueFault.TheVariants as f
+use Rattle.io_traits.specs.declared.queue_faults.QueueFault.{QueueFault}
+use Rattle.io_traits.specs.declared.queue_faults.QueueFault.TheVariants as f
 use Rattle.queue_page.specs.Elements.{misfit}
 use Rattle.queue_page.specs.declared.fault.Mismatch.{Mismatch}
 use Rattle.queue_page.specs.declared.fault.RowFault.{RowFault}

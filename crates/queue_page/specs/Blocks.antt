@@ -1,7 +1,7 @@
 -- A part of a file that is held in memory.
 use Rattle.std.specs.Prelude.{◌≡◌, ◌≤◌, ◌<◌, ℕ, ◌+◌, ◌-◌, min, IsTrue, List, length, take, drop, get_or}
 use Rattle.io_traits.specs.Reads.{bytes_of}
-use Rattle.store_trait.specs.declared.stores.Store.{Ghosts as StoreWords}
+use Rattle.io_traits.specs.declared.stores.Store.{Ghosts as StoreWords}
 use Rattle.queue_page.specs.Views.{PageBufferView}
 
 -- it holds what the file has from its place on

@@ -2,7 +2,7 @@
 -- behind its origin.
 use Rattle.std.specs.Prelude.{◌≡◌, ◌⊎◌, ◌≤◌, ◌==◌, ℕ, List, length, if◌then◌else◌, Result, Ok}
 use Rattle.event_tree.specs.Events.{Ev}
-use Rattle.byte_reader.specs.Fronts.{◌>>=◌}
+use Rattle.crc_frame.specs.Fronts.{◌>>=◌}
 use Rattle.element_code.specs.Parts.{event_spelling}
 use Rattle.element_code.specs.Values.{IsWhole}
 use Rattle.element_code.specs.Faults.{IsRefusedAt}

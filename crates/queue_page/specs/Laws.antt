@@ -1,6 +1,6 @@
 -- Laws of pages as bytes.
 use Rattle.std.specs.Prelude.{◌≡◌, ◌≢◌, ◌⊎◌, ◌<◌, ◌≤◌, ◌^◌, ℕ, ◌+◌, ◌-◌, List, [], ◌++◌, length, take, get_or, Ok, Err}
-use Rattle.store_disk.specs.declared.pages.PageState.{PageState}
+use Rattle.io_traits.specs.declared.pages.PageState.{PageState}
 use Rattle.queue_page.specs.Elements.{element_at}
 use Rattle.queue_page.specs.Runs.{run, behind}
 use Rattle.queue_page.specs.Pages.{PageRows, recorded}

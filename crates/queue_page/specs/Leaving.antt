@@ -1,12 +1,12 @@
 -- What a stop leaves of a page.
 use Rattle.std.specs.Prelude.{◌≡◌, ◌≤◌, ℕ, ◌+◌, Bool, true, List, [], ◌∷◌, ◌++◌, length, take, Option, Ok}
 use Rattle.io_traits.specs.Reads.{bytes_of}
-use Rattle.store_trait.specs.Images.{Image, at_rest}
-use Rattle.store_trait.specs.Chance.{NoChance}
-use Rattle.store_trait.specs.Moments.{MayLeaveNow, EachMoment}
-use Rattle.store_trait.specs.Tails.{passes, HasTail}
-use Rattle.store_trait.specs.declared.stores.Store.{Ghosts as StoreWords}
-use Rattle.store_disk.specs.declared.pages.PageState.{PageState}
+use Rattle.io_traits.specs.Images.{Image, at_rest}
+use Rattle.io_traits.specs.Chance.{NoChance}
+use Rattle.io_traits.specs.Moments.{MayLeaveNow, EachMoment}
+use Rattle.io_traits.specs.Tails.{passes, HasTail}
+use Rattle.io_traits.specs.declared.stores.Store.{Ghosts as StoreWords}
+use Rattle.io_traits.specs.declared.pages.PageState.{PageState}
 use Rattle.queue_page.specs.Elements.{is_element}
 use Rattle.queue_page.specs.Grammar.{IsElement, AreElements}
 use Rattle.queue_page.specs.Pages.{PageRows, opened}

@@ -1,6 +1,6 @@
 -- What a page of the queue says of which a checkpoint says how far it goes: its first damage, or its rows.
 use Rattle.std.specs.Prelude.{◌≡◌, ◌≤◌, false, ℕ, ◌+◌, ◌-◌, ◌^◌, ◌==◌, ◌||◌, min, nat_lt, Bool, List, ◌++◌, length, take, drop, get_or, if◌then◌else◌, Option, Some, None, Result, Ok, Err}
-use Rattle.store_disk.specs.declared.pages.PageState.{PageState}
+use Rattle.io_traits.specs.declared.pages.PageState.{PageState}
 use Rattle.queue_page.specs.Blocks.{left_of}
 use Rattle.queue_page.specs.Elements.{number_of, element_at, misfit, and_then}
 use Rattle.queue_page.specs.Runs.{Run, run}

@@ -1,6 +1,6 @@
 -- What a page that is open, and a part of a file that is held in memory, are to callers.
 use Rattle.std.specs.Prelude.{ℕ, List}
-use Rattle.store_disk.specs.declared.pages.PageState.{PageState}
+use Rattle.io_traits.specs.declared.pages.PageState.{PageState}
 
 pub record PageView : Type 0 where
   pub version : ℕ

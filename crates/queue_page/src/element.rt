@@ -1,7 +1,7 @@
 // One element of a page, read and tested.
 ghost use Rattle.std.specs.Prelude.{◌≡◌, ◌≢◌, ◌≤◌, ◌<◌, ◌+◌, ◌-◌, ◌^◌, drop, take, length, IfOk, IfErr, OnOk, Ok, Err};
 ghost use Rattle.io_traits.specs.Counts.{HasCause};
-ghost use Rattle.store_trait.specs.Calls.{ChangesNothing};
+ghost use Rattle.io_traits.specs.Calls.{ChangesNothing};
 ghost use Rattle.queue_page.specs.Answers.{TellsBody, StopsBody, Tells, IsNoMisfit};
 ghost use Rattle.queue_page.specs.Bodies.{body_at};
 ghost use Rattle.queue_page.specs.Blocks.{AreBytesIn, IsPart, HoldsFrom, OnFile, left_of, window_of};
@@ -15,8 +15,8 @@ use byteorder::{BigEndian, ByteOrder};
 use crc_frame::crc32;
 use element_code::{ElementFault, Origin, decode, decode_row, event_fault, row_fault};
 use event_tree::Event;
+use io_traits::Store;
 use std::alloc::Global;
-use store_disk::Store;
 
 /// The bytes of an element's number.
 const NUMBER_LEN: usize = 8;

@@ -2,9 +2,9 @@
 ghost use Rattle.std.specs.Prelude.{◌≡◌};
 ghost use Rattle.queue_page.specs.Answers.{IsNamed};
 
+use io_traits::{Damage, Failed, QueueFault};
 use plain_data::Text;
 use std::alloc::{AllocError, Global};
-use store_disk::{Damage, Failed, QueueFault};
 
 /// What is wrong in a page: two numbers that differ, and where.
 #[derive(Clone, Copy)]

@@ -1,7 +1,7 @@
 // A page that is opened: what stands within its recorded extent, and behind it.
 ghost use Rattle.std.specs.Prelude.{◌≡◌, ◌≤◌, ◌<◌, ◌+◌, ◌-◌, ◌^◌, length, take, IfOk, Ok, Err, true, Bool};
 ghost use Rattle.io_traits.specs.Counts.{HasCause};
-ghost use Rattle.store_trait.specs.Calls.{ChangesNothing};
+ghost use Rattle.io_traits.specs.Calls.{ChangesNothing};
 ghost use Rattle.queue_page.specs.Answers.{Tells};
 ghost use Rattle.queue_page.specs.Blocks.{AreBytesIn, IsPart, OnFile};
 ghost use Rattle.queue_page.specs.Pages.{IsGrown, version_of, is_version, recorded_view, opened_view, counted_view, room_of, behind_view};
@@ -12,7 +12,7 @@ use crate::fault::{Mismatch, RowFault};
 use crate::page::Page;
 use crate::page_buffer::PageBuffer;
 use crate::run::read_run;
-use store_disk::{PageState, Store};
+use io_traits::{PageState, Store};
 
 /// The version of a page whose rows name no input.
 const FIRST_VERSION: u8 = 1;

@@ -2,11 +2,11 @@
 ghost use Rattle.std.specs.Prelude.{◌≡◌, ◌≤◌, ◌<◌, ◌+◌, ◌-◌, ◌++◌, ◌^◌, List, ℕ, length, take, false, not, IsTrue, IsErr, IfOk, IfSome, OnOk, OnErr, Some, Err, option_map, if◌then◌else◌};
 ghost use Rattle.io_traits.specs.Counts.{HasCause};
 ghost use Rattle.io_traits.specs.Reads.{bytes_of, file_length};
-ghost use Rattle.store_trait.specs.Images.{TornFile};
-ghost use Rattle.store_trait.specs.Calls.{ChangesNothing, ChangesOne};
-ghost use Rattle.store_trait.specs.Moments.{EachMoment, LeavesBeside, ReadsBeside};
-ghost use Rattle.store_trait.specs.Tails.{IsSettled, AddsToTail, HoldsCut};
-ghost use Rattle.store_disk.specs.declared.faults.QueueFault.TheVariants as f;
+ghost use Rattle.io_traits.specs.Images.{TornFile};
+ghost use Rattle.io_traits.specs.Calls.{ChangesNothing, ChangesOne};
+ghost use Rattle.io_traits.specs.Moments.{EachMoment, LeavesBeside, ReadsBeside};
+ghost use Rattle.io_traits.specs.Tails.{IsSettled, AddsToTail, HoldsCut};
+ghost use Rattle.io_traits.specs.declared.queue_faults.QueueFault.TheVariants as f;
 ghost use Rattle.queue_page.specs.Answers.{Answers, Tells};
 ghost use Rattle.queue_page.specs.Blocks.{AreBytesIn, OnFile, IsPart, left_of};
 ghost use Rattle.queue_page.specs.Elements.{element_at};
@@ -21,9 +21,9 @@ use crate::fault::{RowFault, named};
 use crate::opening::{LAST_VERSION, is_version, read_page};
 use crate::page_buffer::{BLOCK_LEN, PageBuffer};
 use crate::row::PageRow;
+use io_traits::{Failed, PageState, QueueFault, Store};
 use std::alloc::Global;
 use std::marker::Model;
-use store_disk::{Failed, PageState, QueueFault, Store};
 
 /// A page file of a queue, of which its version is kept, and how it stands now.
 #[derive(Clone, Copy)]

@@ -1,15 +1,15 @@
 // A part of a file that is held in memory, so that elements are read from it one behind the other.
 ghost use Rattle.std.specs.Prelude.{◌≡◌, ◌≤◌, ◌+◌, ℕ, [], length, vec_len, IsTrue, List, OnOk, IfOk, IfErr, Err};
 ghost use Rattle.io_traits.specs.Counts.{HasCause};
-ghost use Rattle.store_trait.specs.Calls.{ChangesNothing};
+ghost use Rattle.io_traits.specs.Calls.{ChangesNothing};
 ghost use Rattle.queue_page.specs.Answers.{IsNoMisfit};
 ghost use Rattle.queue_page.specs.Blocks.{IsPart, IsFront, OnFile, left_of, window_of};
 ghost use Rattle.queue_page.specs.declared.fault.RowFault.TheVariants as r;
 
 use crate::fault::RowFault;
+use io_traits::Store;
 use std::alloc::{AllocError, Global};
 use std::marker::Model;
-use store_disk::Store;
 
 /// How many bytes of a page are read at once, at least, while rows are read in order: 64 KiB.
 pub const BLOCK_LEN: usize = 65_536;

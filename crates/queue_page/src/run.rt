@@ -1,7 +1,7 @@
 // A run of elements, read one behind the other.
 ghost use Rattle.std.specs.Prelude.{◌≡◌, ◌≤◌, ◌<◌, ◌+◌, ◌*◌, ◌^◌, drop, take, length, IfOk, None, Ok, Err};
 ghost use Rattle.io_traits.specs.Counts.{HasCause};
-ghost use Rattle.store_trait.specs.Calls.{ChangesNothing};
+ghost use Rattle.io_traits.specs.Calls.{ChangesNothing};
 ghost use Rattle.queue_page.specs.Blocks.{AreBytesIn, IsPart, OnFile, left_of};
 ghost use Rattle.queue_page.specs.Runs.{run, end_of};
 ghost use Rattle.queue_page.specs.Answers.{Tells};
@@ -10,7 +10,7 @@ ghost use Rattle.queue_page.specs.declared.fault.RowFault.TheVariants as r;
 use crate::element::{ElementPosition, test_element};
 use crate::fault::{Mismatch, RowFault};
 use crate::page_buffer::PageBuffer;
-use store_disk::Store;
+use io_traits::Store;
 
 /// Where a run of elements ends.
 #[derive(Clone, Copy)]

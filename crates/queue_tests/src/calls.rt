@@ -1,15 +1,15 @@
 // Calls of a persistent queue, of any store and without clauses on what they answer.
 ghost use Rattle.std.specs.Prelude.{IsTrue, IfOk};
 ghost use Rattle.io_traits.specs.Folders.{Content};
-ghost use Rattle.persistent_queue.specs.Opens.{IsReady, IsSlotted};
+ghost use Rattle.queue_core.specs.Opens.{IsReady, IsSlotted};
 
 use crate::files::add_damage;
 use crate::queues::FOLDER;
 use element_code::Origin;
 use event_tree::Event;
-use persistent_queue::{Limits, Numbers, Queue, QueueRow, WriteFault};
+use io_traits::{QueueFault, Store};
+use queue_core::{Limits, Numbers, Queue, QueueRow, WriteFault};
 use std::alloc::AllocError;
-use store_disk::{QueueFault, Store};
 
 /// How many bytes an origin may have.
 const MOST_ORIGIN_BYTES: usize = 255;

@@ -9,7 +9,7 @@ use dead_letters::{
 };
 use settings_lines::Policy;
 use std::alloc::{AllocError, Global};
-use store_disk::MemoryStore;
+use store_memory::MemoryStore;
 
 /// The name of the file that names the segments of a queue.
 const NAME: &str = "dead.seg";

@@ -5,10 +5,11 @@ use crc_frame::frame;
 use element_code::{Origin, encode, encode_row};
 use event_json::write_json;
 use event_tree::{Event, Value};
+use io_traits::{PageState, QueueFault};
 use queue_page::{BLOCK_LEN, Page, PageBuffer, PageRow, frame_row};
 use std::alloc::{AllocError, Global};
 use std::str;
-use store_disk::{MemoryStore, PageState, QueueFault};
+use store_memory::MemoryStore;
 
 /// The name of the file.
 const NAME: &str = "page.0";

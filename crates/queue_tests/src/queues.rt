@@ -6,10 +6,12 @@ use crate::files::add_fault;
 use crate::letters::{add_said, policy_of};
 use crate::words::{bytes_of, first_number, first_word};
 use dead_letters::{DeadFault, DeadLetter, DeadLetters, Letters, Shedding, read_records};
+use io_memory::Script;
+use io_traits::{ListFault, QueueFault, Store};
 use plain_data::{Items, Names, Text};
 use settings_lines::Policy;
 use std::alloc::{AllocError, Global};
-use store_disk::{FileTable, ListFault, MemoryStore, QueueFault, Script, Store};
+use store_memory::{FileTable, MemoryStore};
 
 /// The folder of the queue.
 pub const FOLDER: &str = "q/";

@@ -1,19 +1,19 @@
 // The reader of a queue of dead letters, on a link of which a row tells what its listener does.
 ghost use Rattle.std.specs.Prelude.{◌≡◌, [], length, IfOk};
 ghost use Rattle.pipeline_bus.specs.Ends.{taking};
-ghost use Rattle.dead_sender.specs.Ready.{IsReady};
-ghost use Rattle.dead_sender.specs.Work.{work};
+ghost use Rattle.dead_letter_reader.specs.Ready.{IsReady};
+ghost use Rattle.dead_letter_reader.specs.Work.{work};
 
 use crate::files::add_fault;
 use crate::letters::add_said;
 use crate::queues::{FOLDER, store_of};
-use dead_sender::{DeadSender, SendOutcome};
+use dead_letter_reader::{DeadSender, SendOutcome};
 use event_json::write_json;
 use event_tree::Value;
+use io_traits::{QueueFault, Store};
 use pipeline_bus::{Answer, Heard, Link, LinkTaker, Parcel};
 use std::alloc::AllocError;
 use std::str;
-use store_disk::{QueueFault, Store};
 
 /// The file of the place up to which letters were answered.
 const PLACE: &str = "q.dlq/dlq.pos";

@@ -5,9 +5,10 @@ ghost use Rattle.store_memory.specs.Keeping.{reads_of};
 
 use crate::files::{state_of, store_with};
 use crate::words::{add_bytes, bytes_of, first_number};
-use queue_checkpoint::{Checkpoint, Slots};
+use io_traits::PageState;
+use slot_files::{Checkpoint, Slots};
 use std::alloc::AllocError;
-use store_disk::{MemoryStore, PageState};
+use store_memory::MemoryStore;
 
 /// The name of the file.
 const NAME: &str = "checkpoint.head";

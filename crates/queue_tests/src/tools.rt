@@ -2,11 +2,13 @@
 
 use crate::words::{bytes_of, first_word};
 use crc_frame::crc32;
+use io_memory::{MemorySink, Script};
+use io_traits::Store;
 use plain_data::{Items, Text};
 use pq_tools::{ToolStatus, pqcheck, pqrepair};
 use std::alloc::{AllocError, Global};
 use std::str;
-use store_disk::{FileTable, MemorySink, MemoryStore, Script, Store};
+use store_memory::{FileTable, MemoryStore};
 
 /// The folders whose files are shown.
 const FOLDERS: [&str; 2] = ["data/main.repaired/", "data/main/"];

@@ -5,12 +5,13 @@ use dead_letters::{Counted, Segments, read_segments, segment_name};
 use event_tree::Text;
 use history_judges::{Fault, Judged};
 use io_memory::{FileTable, Script, bytes_in, copy};
-use persistent_queue::{Limits, Queue, QueueRow};
+use io_traits::QueueFault;
 use plain_data::Items;
-use position_file::{Recorded, read_position};
-use queue_core::{OpenedQueue, open_folder};
+use queue_core::{Limits, Queue, QueueRow};
+use queue_files::{OpenedQueue, open_folder};
+use slot_files::{Recorded, read_position};
 use std::alloc::Global;
-use store_disk::{MemoryStore, QueueFault};
+use store_memory::MemoryStore;
 
 /// What a queue may hold where it is opened to be read alone.
 const LIMITS: Limits = Limits {

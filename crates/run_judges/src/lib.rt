@@ -1,4 +1,4 @@
-//! Judges of what stands around runs, for tests: plain code that reads as the definitions of `history_laws` and `run_laws`
+//! Judges of what stands around runs, for tests: plain code that reads as the definitions of `history_book` and `history_book`
 //! do. It is proved to be safe and to end, and it is tested; no clause ties it to the definitions.
 //!
 //! - [`Judge`] judges one pipeline: what a stop left of its queue, its output files, its dead letters and the recorded

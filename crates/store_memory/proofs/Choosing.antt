@@ -3,10 +3,10 @@ use Rattle.std.proofs.Common.{◌≡◌, inr, ⊎_elim, ℕ, ◌+◌, ◌<◌, �
 use Rattle.std.proofs.Math.Seq.{take-suc}
 use Rattle.std.proofs.lemmas.List.{length-reverse, length-map, length-take, reverse-append, map-append, drop_at}
 use Rattle.io_traits.specs.Folders.{Content}
-use Rattle.store_trait.specs.Images.{Image}
-use Rattle.store_trait.specs.Steps.{Step, synced, applied, held, first_steps, MayLeave}
-use Rattle.store_trait.specs.Leftovers.{Fate, step_left, left_by}
-use Rattle.store_trait.proofs.Leaving.{left_is_image}
+use Rattle.io_traits.specs.Images.{Image}
+use Rattle.io_traits.specs.Steps.{Step, synced, applied, held, first_steps, MayLeave}
+use Rattle.io_traits.specs.Leftovers.{Fate, step_left, left_by}
+use Rattle.io_traits.proofs.Leaving.{left_is_image}
 use Rattle.store_memory.specs.Calls.{step_in, steps_of}
 use Rattle.io_memory.specs.Tables.{Table, content_of}
 use Rattle.store_memory.specs.Calls.{Applied}

@@ -7,12 +7,12 @@ use Rattle.plain_data.proofs.ChangeLemmas.{same_key-decides}
 use Rattle.io_traits.specs.Reads.{bytes_of, file_length}
 use Rattle.io_traits.specs.declared.faults.ListFault.{ListFault}
 use Rattle.io_traits.specs.declared.faults.ListFault.TheVariants.{Failed, Memory}
-use Rattle.store_trait.specs.Images.{Image, FileImage, IsAtRest, TornFile, CutFile, RemovedFile, On, Follows, Beside}
-use Rattle.store_trait.specs.Times.{Elapses}
-use Rattle.store_trait.specs.Calls.{ChangesNothing, ChangesOne, MaySettle}
-use Rattle.store_trait.specs.Steps.{Step, synced, nothing, applied, held, MayLeave, LeavesAt}
-use Rattle.store_trait.proofs.Tearing.{Torn-none}
-use Rattle.store_trait.proofs.Leaving.{leaves_now, elapses_none, elapses_step}
+use Rattle.io_traits.specs.Images.{Image, FileImage, IsAtRest, TornFile, CutFile, RemovedFile, On, Follows, Beside}
+use Rattle.io_traits.specs.Times.{Elapses}
+use Rattle.io_traits.specs.Calls.{ChangesNothing, ChangesOne, MaySettle}
+use Rattle.io_traits.specs.Steps.{Step, synced, nothing, applied, held, MayLeave, LeavesAt}
+use Rattle.io_traits.proofs.Tearing.{Torn-none}
+use Rattle.io_traits.proofs.Leaving.{leaves_now, elapses_none, elapses_step}
 use Rattle.store_memory.specs.Calls.{step_of, step_in, steps_of}
 use Rattle.io_memory.specs.Tables.{Table, content_of}
 use Rattle.store_memory.specs.Keeping.{Keeping, reads_of, moment_of, LeavesFrom, Answered, AnsweredUnless}

@@ -1,7 +1,7 @@
 -- What the calls of a log make of a store.
 use Rattle.std.specs.Prelude.{◌≡◌, ℕ, List, map, reverse, if◌then◌else◌}
 use Rattle.io_memory.specs.Tables.{Table, content_of}
-use Rattle.store_trait.specs.Steps.{Step, applied, appended, wrote, shortened, removed, synced, nothing}
+use Rattle.io_traits.specs.Steps.{Step, applied, appended, wrote, shortened, removed, synced, nothing}
 use Rattle.store_memory.specs.declared.calls.Logged.{Logged}
 use Rattle.store_memory.specs.declared.calls.StoreCall.{StoreCall}
 use Rattle.store_memory.specs.declared.calls.StoreCall.TheVariants.{Length, Read, Append, WriteAt, Cut, Remove, Sync}

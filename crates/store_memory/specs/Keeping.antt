@@ -5,8 +5,8 @@ use Rattle.io_traits.specs.declared.faults.ListFault.{ListFault}
 use Rattle.io_traits.specs.declared.faults.ListFault.TheVariants.{Failed, Memory}
 use Rattle.io_memory.specs.Scripts.{Course, fails_next, worked, failed}
 use Rattle.io_memory.specs.Scripts.{beginning as no_calls}
-use Rattle.store_trait.specs.Images.{Image}
-use Rattle.store_trait.specs.Steps.{held, LeavesAt}
+use Rattle.io_traits.specs.Images.{Image}
+use Rattle.io_traits.specs.Steps.{held, LeavesAt}
 use Rattle.store_memory.specs.Calls.{steps_of}
 use Rattle.io_memory.specs.Tables.{Table, content_of}
 use Rattle.store_memory.specs.declared.calls.Logged.{Logged}

@@ -1,7 +1,7 @@
 -- The images that a store in memory gives of a moment.
 use Rattle.std.specs.Prelude.{◌≡◌, ◌⊎◌, ◌≤◌, ℕ, ◌+◌, List, ◌∷◌, nat_eq, take, length, if◌then◌else◌}
-use Rattle.store_trait.specs.Steps.{Step, synced, held}
-use Rattle.store_trait.specs.Leftovers.{Fate, kept, lost, torn, stale, step_left, left_by}
+use Rattle.io_traits.specs.Steps.{Step, synced, held}
+use Rattle.io_traits.specs.Leftovers.{Fate, kept, lost, torn, stale, step_left, left_by}
 use Rattle.store_memory.specs.Calls.{steps_of}
 use Rattle.io_memory.specs.Tables.{Table, content_of}
 use Rattle.store_memory.specs.declared.calls.Logged.{Logged}

@@ -1,8 +1,8 @@
 // What a stop may leave of the files of a store in memory.
 ghost use Rattle.std.specs.Prelude.{◌≡◌, ◌<◌, IsTrue, OnOk, IfOk, Some};
 ghost use Rattle.io_traits.specs.Reads.{file_length};
-ghost use Rattle.store_trait.specs.Steps.{synced};
-ghost use Rattle.store_trait.specs.Leftovers.{torn, stale, with_foreign, foreign_length, write_left, cut_left, removal_left};
+ghost use Rattle.io_traits.specs.Steps.{synced};
+ghost use Rattle.io_traits.specs.Leftovers.{torn, stale, with_foreign, foreign_length, write_left, cut_left, removal_left};
 ghost use Rattle.store_memory.specs.Calls.{step_of, step_in};
 ghost use Rattle.io_memory.specs.Tables.{content_of, Changed};
 ghost use Rattle.store_memory.specs.Calls.{Applied};

@@ -7,11 +7,10 @@ use crate::calls::{Logged, StoreCall};
 use crate::leftovers::leave_all;
 use crate::steps::apply;
 use io_memory::{FileTable, Script, bytes_in, copy, copy_from, length_in, list_in};
-use io_traits::{Failed, ListFault};
+use io_traits::{Failed, ListFault, Store};
 use plain_data::Names;
 use std::alloc::{AllocError, Global};
 use std::marker::Model;
-use store_trait::Store;
 
 /// A store in memory, which tells what it holds.
 ///
@@ -40,7 +39,7 @@ impl Drop for MemoryStore {
 
 impl Model for MemoryStore {
     ghost use Rattle.std.specs.Prelude.{◌≡◌, ℕ, List};
-    ghost use Rattle.store_trait.specs.Steps.{held};
+    ghost use Rattle.io_traits.specs.Steps.{held};
     ghost use Rattle.store_memory.specs.Calls.{steps_of};
     ghost use Rattle.io_memory.specs.Tables.{content_of};
     ghost use Rattle.store_memory.specs.Keeping.{Keeping};
@@ -297,7 +296,7 @@ impl MemoryStore {
 
 impl Store for MemoryStore {
     ghost use Rattle.std.specs.Prelude.{true, refl};
-    ghost use Rattle.store_trait.proofs.Leaving.{reads_as_now};
+    ghost use Rattle.io_traits.proofs.Leaving.{reads_as_now};
     ghost use Rattle.store_memory.specs.Calls.{steps_of};
     ghost use Rattle.io_memory.specs.Tables.{content_of};
     ghost use Rattle.store_memory.specs.Keeping.{reads_of, moment_of, LeavesFrom};

@@ -2,7 +2,7 @@ use Rattle.std.specs.Prelude.{codes}
 use Rattle.std.proofs.Common.{◌≡◌, ◌+◌, List, ℕ, ◌++◌, sym, ap, ◌∙◌, arith}
 use Rattle.crc_frame.specs.Frames.{frame_of}
 use Rattle.element_code.specs.RowBodies.{row_spelling}
-use Rattle.store_disk.specs.declared.pages.PageState.{PageState}
+use Rattle.io_traits.specs.declared.pages.PageState.{PageState}
 use Rattle.queue_page.proofs.NextRows.{row_is_next}
 use Rattle.bench_parts.proofs.pages.append.Goals as goal
 

@@ -1,6 +1,6 @@
 use Rattle.std.proofs.Common.{◌∷◌, ap, sym, subst, ◌∙◌}
 use Rattle.config_tree.specs.Joints.{disjoined}
-use Rattle.config_grammar.specs.Symbols as symbol
+use Rattle.config_parse.specs.Symbols as symbol
 use Rattle.config_parse.specs.Gives.{GivesRead}
 use Rattle.config_parse.specs.Read as spec
 use Rattle.config_parse.specs.Seen.{tokens_of}

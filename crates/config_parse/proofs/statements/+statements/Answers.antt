@@ -1,5 +1,5 @@
 use Rattle.std.proofs.Common.{◌++◌, ◌∷◌, [], ap, sym, ◌∙◌}
-use Rattle.config_grammar.specs.Symbols as symbol
+use Rattle.config_parse.specs.Symbols as symbol
 use Rattle.config_parse.specs.Read as spec
 use Rattle.config_parse.specs.Seen.{tokens_of}
 use Rattle.config_parse.proofs.Turns.{fewer_two, turned, failed, arm_short, statement_short, statements_turn, otherwise_turn, word_is}

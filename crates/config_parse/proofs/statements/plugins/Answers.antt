@@ -1,5 +1,5 @@
 use Rattle.std.proofs.Common.{◌++◌, ◌∷◌, []}
-use Rattle.config_grammar.specs.Symbols as symbol
+use Rattle.config_parse.specs.Symbols as symbol
 use Rattle.config_parse.specs.Read as spec
 use Rattle.config_parse.proofs.Turns.{turned, failed, plugin_short, plugins_turn}
 use Rattle.config_parse.proofs.statements.plugins.Goals as goal

@@ -1,4 +1,4 @@
-use Rattle.config_grammar.specs.Symbols as symbol
+use Rattle.config_parse.specs.Symbols as symbol
 use Rattle.config_parse.specs.Seen.{tokens_of}
 use Rattle.config_parse.proofs.Reading.{read_short}
 use Rattle.config_parse.proofs.Turns.{fewer}

@@ -1,5 +1,5 @@
 use Rattle.std.proofs.Common.{[], ◌∷◌, ◌++◌, ap, sym, subst, ◌∙◌}
-use Rattle.config_grammar.specs.Symbols as symbol
+use Rattle.config_parse.specs.Symbols as symbol
 use Rattle.config_tree.specs.Joining.{with_setting}
 use Rattle.config_parse.specs.Gives.{GivesRead}
 use Rattle.config_parse.specs.Tables.{values_of}

@@ -1,5 +1,5 @@
 use Rattle.std.proofs.Common.{◌≡◌, length, ◌+◌, ◌*◌}
-use Rattle.config_grammar.specs.Symbols as symbol
+use Rattle.config_parse.specs.Symbols as symbol
 use Rattle.config_parse.specs.Read as spec
 use Rattle.config_parse.specs.Seen.{tokens_of}
 use Rattle.config_parse.specs.Tables.{values_of}

@@ -1,6 +1,6 @@
 use Rattle.std.proofs.Common.{◌≡◌, sym, subst, refl}
 use Rattle.config_lex.specs.Bytes.{passing, skip, closing, unescaped}
-use Rattle.config_grammar.specs.Grammar.{ReadsConfig}
+use Rattle.config_parse.specs.Grammar.{ReadsConfig}
 use Rattle.config_lex.specs.Lexemes.{tokens, parts_at, token_at, lexed}
 use Rattle.config_tests.specs.Written.{settings_text, settings_tokens, settings_config, joints_text, joints_tokens, joints_config, arms_text, arms_tokens, arms_config}
 use Rattle.config_tests.proofs.ReadByRules.{settings_read, joints_read, arms_read}

@@ -1,6 +1,6 @@
 use Rattle.std.proofs.Common.{◌≡◌, sym, ap, ◌∙◌, subst, refl}
 use Rattle.config_lex.specs.Bytes.{passing, skip, closing, unescaped}
-use Rattle.config_grammar.specs.Grammar.{ReadsConfig}
+use Rattle.config_parse.specs.Grammar.{ReadsConfig}
 use Rattle.config_lex.specs.Lexemes.{tokens, parts_at, token_at, lexed}
 use Rattle.config_tests.specs.Examples.{input_text, input_config, values_text, values_tokens, values_config, branch_text, branch_tokens, branch_with, branch_config, first_condition, is_one, has_x, is_listed}
 use Rattle.config_tree.specs.Joints.{conjoined, disjoined}

@@ -3,7 +3,7 @@ use Rattle.std.proofs.lemmas.List.{take_rest, drop-take, take-take}
 use Rattle.byteorder.specs.Endian.{big_number}
 use Rattle.crc_frame.specs.Crc.{is_checked}
 use Rattle.crc_frame.specs.Frames.{frame_of}
-use Rattle.crc_frame.proofs.Numbers.{IsBytes}
+use Rattle.crc_frame.specs.Bytes.{IsBytes}
 use Rattle.crc_frame.proofs.FrameLemmas.{ReadsAs, NotFramed, unframed_some, unframed_none, none_begins, read_framed, cut_short, not_checked}
 use Rattle.crc_frame.proofs.unframing.unframe.Goals as goal
 

@@ -2,9 +2,9 @@ use Rattle.std.proofs.Common.{◌≤◌, sym, ◌∙◌, subst}
 use Rattle.std.specs.Prelude.{Contains}
 use Rattle.io_traits.specs.Reads.{file_length}
 use Rattle.crc_frame.specs.Slots.{place_of}
-use Rattle.store_trait.specs.Moments.{EachMoment, ReadsBeside}
-use Rattle.store_trait.proofs.TailRuns.{on_ok_so}
-use Rattle.store_changes.specs.Each.{AltersEach, GoneOrSame, KeepsBytes}
+use Rattle.io_traits.specs.Moments.{EachMoment, ReadsBeside}
+use Rattle.io_traits.proofs.TailRuns.{on_ok_so}
+use Rattle.slot_files.specs.Each.{AltersEach, GoneOrSame, KeepsBytes}
 use Rattle.dead_letters.proofs.AppendRun.{laid_as, as_planned, WasCounted, HasCounted, laying, laid_own, counting, counted_own, removing, removed_own, appended}
 use Rattle.dead_letters.proofs.appending.carry_out.Goals as goal
 

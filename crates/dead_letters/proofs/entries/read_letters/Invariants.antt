@@ -1,5 +1,5 @@
 use Rattle.std.proofs.Common.{◌≡◌, ◌+◌, IsTrue, drop}
-use Rattle.store_trait.specs.Calls.{ChangesNothing}
+use Rattle.io_traits.specs.Calls.{ChangesNothing}
 use Rattle.dead_letters.specs.Found.{fronts_from, in_front, letters_from}
 use Rattle.dead_letters.proofs.entries.read_letters.Given as goal
 

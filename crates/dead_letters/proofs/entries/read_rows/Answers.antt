@@ -1,7 +1,7 @@
 use Rattle.std.proofs.Common.{◌≡◌, ◌+◌, suc, drop, get_or, take, Ok, Err, ◌∙◌, subst, arith}
 use Rattle.std.proofs.lemmas.List.{drop_more}
 use Rattle.io_traits.specs.Folders.{Content}
-use Rattle.store_disk.proofs.Looking.{nothing_then}
+use Rattle.io_traits.proofs.Looking.{nothing_then}
 use Rattle.dead_letters.specs.Queues.{segment, name_in}
 use Rattle.dead_letters.specs.Records.{records_in}
 use Rattle.dead_letters.specs.Found.{bytes_in, fronts_from, in_file}

@@ -1,5 +1,5 @@
 use Rattle.std.proofs.Common.{◌≡◌, ◌+◌, IsTrue, drop}
-use Rattle.store_trait.specs.Calls.{ChangesNothing}
+use Rattle.io_traits.specs.Calls.{ChangesNothing}
 use Rattle.dead_letters.specs.Found.{fronts_from}
 use Rattle.dead_letters.specs.Rows.{rows_from, rows_in_front}
 use Rattle.dead_letters.proofs.entries.read_rows.Given as goal

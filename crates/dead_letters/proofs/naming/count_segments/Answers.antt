@@ -2,11 +2,11 @@ use Rattle.std.proofs.Common.{◌≡◌, ℕ, List, length, ap, ◌∙◌, subst
 use Rattle.std.proofs.Math.Path.{ap₂}
 use Rattle.io_traits.specs.Reads.{bytes_of}
 use Rattle.crc_frame.specs.Slots.{place_of, with_slot}
-use Rattle.store_trait.specs.Moments.{EachMoment}
-use Rattle.store_trait.proofs.TailRuns.{on_ok_so}
-use Rattle.store_changes.specs.Changes.{Alters}
-use Rattle.store_changes.specs.Slots.{OldOrNewSaid}
-use Rattle.store_changes.proofs.Saying.{written_said, said_moments}
+use Rattle.io_traits.specs.Moments.{EachMoment}
+use Rattle.io_traits.proofs.TailRuns.{on_ok_so}
+use Rattle.slot_files.specs.Changes.{Alters}
+use Rattle.slot_files.specs.Slots.{OldOrNewSaid}
+use Rattle.slot_files.proofs.Saying.{written_said, said_moments}
 use Rattle.dead_letters.specs.Segments.{AreSegments, slot_spelling, slot_says, damaged_at_first, counted_in}
 use Rattle.dead_letters.specs.declared.segments.Counted.TheVariants.{Nothing}
 use Rattle.dead_letters.proofs.SegmentSlots.{length-spelling, spelling_is_slot, spelling_says}

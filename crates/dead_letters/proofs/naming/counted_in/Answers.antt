@@ -1,5 +1,5 @@
 use Rattle.std.proofs.Common.{sym, arith, length-take}
-use Rattle.store_changes.proofs.NewestSlots.{found_within}
+use Rattle.slot_files.proofs.NewestSlots.{found_within}
 use Rattle.dead_letters.proofs.naming.counted_in.Goals as goal
 
 pub slice_bounds-bytes-end : goal.slice_bounds-bytes-end

@@ -1,6 +1,6 @@
 use Rattle.std.proofs.Common.{sym, ap, ◌∙◌, arith}
 use Rattle.io_traits.specs.Reads.{bytes_of}
-use Rattle.store_changes.proofs.Saying.{front_said}
+use Rattle.slot_files.proofs.Saying.{front_said}
 use Rattle.dead_letters.specs.Segments.{slot_says, damaged_at_first, counted_in}
 use Rattle.dead_letters.specs.declared.segments.Counted.TheVariants.{Nothing}
 use Rattle.dead_letters.proofs.SegmentSlots.{counted_have_room}

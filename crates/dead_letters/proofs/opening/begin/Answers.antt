@@ -1,6 +1,6 @@
 use Rattle.std.proofs.Common.{◌≡◌, subst}
 use Rattle.io_traits.specs.Reads.{bytes_of}
-use Rattle.store_changes.specs.Slots.{ComesNext}
+use Rattle.slot_files.specs.Slots.{ComesNext}
 use Rattle.dead_letters.specs.Segments.{segments, counted_in}
 use Rattle.dead_letters.specs.declared.segments.Counted.TheVariants.{Count}
 use Rattle.dead_letters.proofs.FirstVersion.{comes, naming, named_beside, named_holds, first_own, WasNamed}

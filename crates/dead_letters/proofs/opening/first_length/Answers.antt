@@ -1,7 +1,7 @@
 use Rattle.std.proofs.Common.{◌≡◌, ◌∙◌, sym, ap, subst}
 use Rattle.io_traits.specs.Folders.{Content}
 use Rattle.io_traits.specs.Reads.{file_length}
-use Rattle.out_files.proofs.LookedRuns.{length_told}
+use Rattle.slot_files.proofs.LookedRuns.{length_told}
 use Rattle.dead_letters.specs.Trimming.{IsFirst, StaysHeld}
 use Rattle.dead_letters.proofs.OpeningRun.{untouched, then_looked, rests_still}
 use Rattle.dead_letters.proofs.FirstVersion.{was_opened, has_opened, opening, opened_rests, is_first}

@@ -1,4 +1,4 @@
-use Rattle.position_file.proofs.SyncedRuns.{synced_only, synced_looked}
+use Rattle.slot_files.proofs.SyncedRuns.{synced_only, synced_looked}
 use Rattle.dead_letters.proofs.opening.settle_and_read.Goals as goal
 
 pub returns-in_err-sync-clause-any_moment : goal.returns-in_err-sync-clause-any_moment

@@ -1,7 +1,7 @@
 use Rattle.std.proofs.Common.{◌≡◌, ◌≤◌, ◌∙◌, IsTrue, sym, subst, arith}
 use Rattle.std.specs.Prelude.{Contains}
 use Rattle.io_traits.specs.Reads.{file_length}
-use Rattle.store_disk.proofs.Looking.{nothing_then}
+use Rattle.io_traits.proofs.Looking.{nothing_then}
 use Rattle.dead_letters.specs.Trimming.{IsCut, sizes_cut}
 use Rattle.dead_letters.proofs.OpeningRun.{looked, beside_looked, apart, long, cut_run, opened}
 use Rattle.dead_letters.proofs.trimming.cut_back.Goals as goal

@@ -2,7 +2,7 @@ use Rattle.std.proofs.Common.{◌≡◌, ℕ, List, sym, ◌∙◌, subst, arith
 use Rattle.std.specs.Prelude.{Contains}
 use Rattle.io_traits.specs.Folders.{Content, Lists}
 use Rattle.io_traits.specs.Reads.{file_length}
-use Rattle.out_files.proofs.LookedRuns.{length_told}
+use Rattle.slot_files.proofs.LookedRuns.{length_told}
 use Rattle.dead_letters.specs.Queues.{segment_name}
 use Rattle.dead_letters.proofs.Listed.{are_all}
 use Rattle.dead_letters.proofs.trimming.excess_in.Goals as goal

@@ -1,6 +1,6 @@
 use Rattle.std.proofs.Common.{◌≡◌, ◌+◌, ◌-◌, ◌++◌, ◌∷◌, [], suc, length, map, sym, ap, ◌∙◌, subst, arith, append-nil, length-append}
 use Rattle.io_traits.specs.Folders.{Content}
-use Rattle.store_disk.proofs.Looking.{nothing_then}
+use Rattle.io_traits.proofs.Looking.{nothing_then}
 use Rattle.dead_letters.specs.Found.{bytes_in}
 use Rattle.dead_letters.specs.Ready.{files_from}
 use Rattle.dead_letters.proofs.Turns.{one_measured}

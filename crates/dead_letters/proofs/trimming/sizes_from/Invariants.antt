@@ -1,5 +1,5 @@
 use Rattle.std.proofs.Common.{◌≡◌, ◌+◌, ◌-◌, ◌++◌, IsTrue, length, map}
-use Rattle.store_trait.specs.Calls.{ChangesNothing}
+use Rattle.io_traits.specs.Calls.{ChangesNothing}
 use Rattle.dead_letters.specs.Ready.{files_from}
 use Rattle.dead_letters.proofs.trimming.sizes_from.Given as goal
 

@@ -1,6 +1,6 @@
 use Rattle.std.proofs.Common.{◌≤◌, inl, inr, ◌∙◌, sym, subst}
 use Rattle.io_traits.specs.Reads.{file_length}
-use Rattle.store_trait.proofs.TailRuns.{on_ok_so}
+use Rattle.io_traits.proofs.TailRuns.{on_ok_so}
 use Rattle.dead_letters.proofs.Cutting.{removing, cutting, is_cut}
 use Rattle.dead_letters.proofs.trimming.trim.Goals as goal
 

@@ -2,7 +2,7 @@ use Rattle.std.proofs.Common.{◌≡◌, ◌++◌, List, ℕ, drop, ap, ◌∙�
 use Rattle.std.proofs.lemmas.List.{take_rest}
 use Rattle.byteorder.specs.Endian.{big_bytes}
 use Rattle.crc_frame.specs.Crc.{crc32}
-use Rattle.byte_reader.specs.Fronts.{count_bytes}
+use Rattle.crc_frame.specs.Fronts.{count_bytes}
 use Rattle.dead_letters.specs.Letters.{letter_body}
 use Rattle.dead_letters.proofs.RecordReads.{joined}
 use Rattle.dead_letters.proofs.writing.write_record.Goals as goal

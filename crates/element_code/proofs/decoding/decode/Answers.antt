@@ -1,5 +1,5 @@
 use Rattle.std.proofs.Common.{length, ap, sym, ◌∙◌, subst, arith, rules}
-use Rattle.byte_reader.proofs.Fronts.{ok_is}
+use Rattle.crc_frame.proofs.Fronts.{ok_is}
 use Rattle.element_code.specs.Faults.{IsRefusedAt}
 use Rattle.element_code.specs.Reading.{event_at}
 use Rattle.element_code.proofs.Sound.{event_sound}

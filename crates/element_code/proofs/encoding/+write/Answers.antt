@@ -1,7 +1,7 @@
 use Rattle.std.proofs.Common.{◌≡◌, ◌<◌, ◌∷◌, ◌++◌, length, map, arith, ap, subst, ◌∙◌}
 use Rattle.event_tree.specs.Values.{on_values}
 use Rattle.event_tree.proofs.Depths.{falls_member}
-use Rattle.byte_reader.specs.Fronts.{count_bytes}
+use Rattle.crc_frame.specs.Fronts.{count_bytes}
 use Rattle.element_code.specs.Parts.{part_bytes, key, bytes_of, items_parts, members_parts, parts, spelling}
 use Rattle.element_code.specs.Adds.{Writes}
 use Rattle.event_tree.proofs.Adding.{keeps_on}

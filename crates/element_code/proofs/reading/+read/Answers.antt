@@ -1,7 +1,7 @@
 use Rattle.std.proofs.Common.{◌∙◌, ◌++◌, ◌∷◌, [], ◌-◌, ◌+◌, ap, List, ℕ}
 use Rattle.event_tree.specs.declared.value.Value.{Value}
 use Rattle.std.proofs.lemmas.Result.{err_from_is_err_and}
-use Rattle.byte_reader.proofs.Repeats.{with_front, repeats_on}
+use Rattle.crc_frame.proofs.Repeats.{with_front, repeats_on}
 use Rattle.element_code.specs.Reading.{value_at, list_at, object_at, last_key, members_at}
 use Rattle.element_code.proofs.LastKeys.{last_key-push}
 use Rattle.element_code.proofs.Loops.{members_on, members_stop_key}

@@ -1,7 +1,7 @@
 use Rattle.std.proofs.Common.{◌≡◌, ◌-◌, ◌*◌, ◌+◌}
-use Rattle.byte_reader.specs.Fronts.{repeated}
+use Rattle.crc_frame.specs.Fronts.{repeated}
 use Rattle.element_code.specs.Reading.{last_key, value_at, members_at, list_at, object_at}
-use Rattle.byte_reader.proofs.Repeats.{with_front}
+use Rattle.crc_frame.proofs.Repeats.{with_front}
 use Rattle.element_code.proofs.reading.+read.Given as goal
 
 abbrev pub decreases-value_of : goal.decreases-value_of

@@ -1,6 +1,6 @@
 use Rattle.std.proofs.Common.{◌≡◌, ap, sym, ◌∙◌, [], length, arith}
-use Rattle.crc_frame.proofs.Numbers.{IsBytes}
-use Rattle.byte_reader.proofs.Fronts.{no_bytes}
+use Rattle.crc_frame.specs.Bytes.{IsBytes}
+use Rattle.crc_frame.proofs.Fronts.{no_bytes}
 use Rattle.element_code.proofs.Sound.{event_is, event_sound}
 use Rattle.element_code.proofs.Lengths.{is_event, length-event_spelling}
 use Rattle.element_code.proofs.reading.event_of.Goals as goal

@@ -1,5 +1,5 @@
 use Rattle.std.proofs.Common.{sym, ◌∙◌, subst, arith, rules}
-use Rattle.byte_reader.proofs.Fronts.{ok_is}
+use Rattle.crc_frame.proofs.Fronts.{ok_is}
 use Rattle.element_code.specs.RowBodies.{IsRowRefusedAt, row}
 use Rattle.element_code.proofs.RowReads.{row_sound, row_again, row_stops}
 use Rattle.element_code.proofs.row.decode_row.Goals as goal

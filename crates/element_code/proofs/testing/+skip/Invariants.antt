@@ -1,5 +1,5 @@
 use Rattle.std.proofs.Common.{◌≡◌, ◌-◌, ◌*◌, ◌+◌, option_map}
-use Rattle.byte_reader.specs.Fronts.{repeated}
+use Rattle.crc_frame.specs.Fronts.{repeated}
 use Rattle.element_code.specs.Behind.{behind}
 use Rattle.element_code.specs.Reading.{value_at, members_at, list_at, object_at}
 use Rattle.element_code.proofs.testing.+skip.Given as goal

@@ -2,7 +2,7 @@ use Rattle.std.proofs.Common.{◌∷◌, ◌++◌, [], length, List, ℕ, Ok, re
 use Rattle.std.proofs.lemmas.Result.{err_from_is_err_and}
 use Rattle.plain_data.specs.Members.{insert_member}
 use Rattle.event_tree.specs.declared.value.Value.{Value}
-use Rattle.event_json_laws.specs.Reading.{spaced_at, item_at, member_at, entry_at, node_at}
+use Rattle.event_json.specs.Reading.{spaced_at, item_at, member_at, entry_at, node_at}
 use Rattle.event_json.proofs.Loops.{closes, goes_on, stops_after, fails, fails_on, runs_out, item_read, member_read, list_ok, list_fails, object_ok, object_fails, text_ok, text_fails, node_list, node_object, list_deep, object_deep, node_scalar}
 use Rattle.event_json.specs.Gathered.{put_all}
 use Rattle.event_json.proofs.Gathered.{pushed}

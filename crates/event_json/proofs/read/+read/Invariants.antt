@@ -1,6 +1,6 @@
 use Rattle.std.proofs.Common.{◌≡◌, ◌-◌, ◌+◌, ◌*◌, [], length}
 use Rattle.std.specs.Prelude.{IsUtf8}
-use Rattle.event_json_laws.specs.Reading.{node_at, elements_at, item_at, member_at}
+use Rattle.event_json.specs.Reading.{node_at, elements_at, item_at, member_at}
 use Rattle.event_json.specs.Gathered.{put_all}
 use Rattle.event_json.proofs.read.+read.Given as goal
 

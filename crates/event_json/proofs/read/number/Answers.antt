@@ -1,5 +1,5 @@
 use Rattle.std.proofs.Common.{sym, ap, ◌∙◌}
-use Rattle.event_json_laws.specs.Reading.{after_number}
+use Rattle.event_json.specs.Reading.{after_number}
 use Rattle.event_json.proofs.Fronts.{rest_within, rest_boundary}
 use Rattle.event_json.proofs.Rests.{number_rest}
 use Rattle.event_json.proofs.read.number.Goals as goal

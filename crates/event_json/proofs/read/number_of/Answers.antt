@@ -3,7 +3,7 @@ use Rattle.std.specs.Int.{w64}
 use Rattle.std.proofs.lemmas.Int.{to_z-of_z}
 use Rattle.event_tree.specs.Number.{least}
 use Rattle.event_tree.specs.NumberTexts.{IsI64}
-use Rattle.event_json_laws.proofs.NumberLaws.{number_read_some, number_read_none, least_same}
+use Rattle.event_json.proofs.NumberLaws.{number_read_some, number_read_none, least_same}
 use Rattle.event_json.proofs.read.number_of.Goals as goal
 
 pub returns-in-Some : goal.returns-in-Some

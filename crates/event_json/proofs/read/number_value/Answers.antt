@@ -1,6 +1,6 @@
 use Rattle.std.proofs.Common.{sym, ap, ◌∙◌}
 use Rattle.event_tree.specs.declared.value.Value.TheVariants as v
-use Rattle.event_json_laws.specs.Numbers.{number_or_text}
+use Rattle.event_json.specs.Numbers.{number_or_text}
 use Rattle.event_json.proofs.read.number_value.Goals as goal
 
 pub returns-in-Some : goal.returns-in-Some

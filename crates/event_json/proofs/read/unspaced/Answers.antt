@@ -1,5 +1,5 @@
 use Rattle.std.proofs.Common.{List, ℕ, sym, ap, ◌∙◌, subst}
-use Rattle.event_json_laws.specs.Reading.{skip}
+use Rattle.event_json.specs.Reading.{skip}
 use Rattle.event_json.specs.Stops.{IsRest}
 use Rattle.event_json.proofs.Rests.{space_rest}
 use Rattle.event_json.proofs.read.unspaced.Goals as goal

@@ -1,5 +1,5 @@
 use Rattle.std.proofs.Common.{sym, ap, ◌∙◌}
-use Rattle.event_json_laws.specs.Reading.{after_word}
+use Rattle.event_json.specs.Reading.{after_word}
 use Rattle.event_json.proofs.Rests.{word_rest}
 use Rattle.event_json.proofs.read.word.Goals as goal
 

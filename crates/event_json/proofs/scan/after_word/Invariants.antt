@@ -1,5 +1,5 @@
 use Rattle.std.proofs.Common.{◌≡◌, drop}
-use Rattle.event_json_laws.specs.Reading.{after_word}
+use Rattle.event_json.specs.Reading.{after_word}
 use Rattle.event_json.proofs.scan.after_word.Given as goal
 
 abbrev pub invariant-loop-letter : goal.invariant-loop-letter

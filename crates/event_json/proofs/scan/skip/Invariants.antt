@@ -1,5 +1,5 @@
 use Rattle.std.proofs.Common.{◌≡◌, length}
-use Rattle.event_json_laws.specs.Reading.{skip}
+use Rattle.event_json.specs.Reading.{skip}
 use Rattle.event_json.proofs.scan.skip.Given as goal
 
 abbrev pub invariant-loop-rest : goal.invariant-loop-rest

@@ -1,5 +1,5 @@
 use Rattle.std.proofs.Common.{◌≡◌, length}
-use Rattle.event_json_laws.specs.Reading.{skip_digits}
+use Rattle.event_json.specs.Reading.{skip_digits}
 use Rattle.event_json.proofs.scan.skip_digits.Given as goal
 
 abbrev pub invariant-loop-rest : goal.invariant-loop-rest

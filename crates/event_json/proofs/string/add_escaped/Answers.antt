@@ -1,7 +1,7 @@
 use Rattle.std.proofs.Common.{◌≡◌, ◌++◌, ◌∷◌, length, sym, ap, ◌∙◌, arith, string_bytes, None}
 use Rattle.std.proofs.lemmas.Result.{err_from_is_err_and}
-use Rattle.event_json_laws.specs.Strings.{joined}
-use Rattle.event_json_laws.specs.Reading.{plainly, escaped, inside_at}
+use Rattle.event_json.specs.Strings.{joined}
+use Rattle.event_json.specs.Reading.{plainly, escaped, inside_at}
 use Rattle.event_json.proofs.Fronts.{one_rest}
 use Rattle.event_json.proofs.Contents.{unit_read, unit_refused, short_read, short_refused, nothing_behind, added_short}
 use Rattle.event_json.proofs.string.add_escaped.Goals as goal

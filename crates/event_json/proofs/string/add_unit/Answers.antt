@@ -1,5 +1,5 @@
 use Rattle.std.proofs.Common.{sym, ap, ◌∙◌, string_bytes}
-use Rattle.event_json_laws.specs.Strings.{replacement, alone, joined}
+use Rattle.event_json.specs.Strings.{replacement, alone, joined}
 use Rattle.event_json.proofs.Added.{not_joined}
 use Rattle.event_json.proofs.Written.{adds_two}
 use Rattle.event_json.proofs.string.add_unit.Goals as goal

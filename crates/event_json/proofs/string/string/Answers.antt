@@ -1,6 +1,6 @@
 use Rattle.std.proofs.Common.{◌≡◌, List, ℕ, Ok, sym, ap, ◌∙◌, string_bytes, rules}
 use Rattle.std.proofs.lemmas.Result.{err_from_is_err_and}
-use Rattle.event_json_laws.specs.Reading.{escaped, inside_at, string_at}
+use Rattle.event_json.specs.Reading.{escaped, inside_at, string_at}
 use Rattle.event_json.proofs.Contents.{quote_ends, slash_on, special_refused}
 use Rattle.event_json.proofs.string.string.Goals as goal
 

@@ -1,6 +1,6 @@
 use Rattle.std.proofs.Common.{◌≡◌, length, string_bytes}
 use Rattle.std.specs.Prelude.{IsUtf8}
-use Rattle.event_json_laws.specs.Reading.{plainly, inside_at, string_at}
+use Rattle.event_json.specs.Reading.{plainly, inside_at, string_at}
 use Rattle.event_json.specs.Stops.{IsHeld}
 use Rattle.event_json.proofs.string.string.Given as goal
 

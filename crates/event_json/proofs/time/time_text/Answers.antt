@@ -1,6 +1,6 @@
 use Rattle.std.proofs.Common.{◌≡◌, ◌≤ℤ◌, sym, ap, subst, ◌∙◌}
 use Rattle.jiff_core.specs.DateTime.{civil_nanos}
-use Rattle.time_instant.specs.Calendar.{first_moment}
+use Rattle.plain_data.specs.Calendar.{first_moment}
 use Rattle.event_json.proofs.Dates.{is_nanos, instant_year, shown, filled, Shown}
 use Rattle.event_json.specs.TimeText.{moment_in}
 use Rattle.event_json.proofs.ReadBack.{text_reads_back}

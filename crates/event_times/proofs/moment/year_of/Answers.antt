@@ -1,7 +1,7 @@
 use Rattle.std.proofs.Common.{rules, ◌≡◌, ◌≤ℤ◌, sym, ap, subst, ◌∙◌, unsigned_abs, to_z-of_z, SFits}
 use Rattle.std.specs.Int.{w16}
 use Rattle.jiff_core.specs.DateTime.{civil_nanos}
-use Rattle.time_instant.specs.Calendar.{first_moment}
+use Rattle.plain_data.specs.Calendar.{first_moment}
 use Rattle.event_json.proofs.Dates.{is_nanos, instant_year, shown, Shown}
 use Rattle.event_times.proofs.moment.year_of.Goals as goal
 

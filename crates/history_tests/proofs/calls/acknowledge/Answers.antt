@@ -1,7 +1,7 @@
 use Rattle.std.proofs.Common.{sym, subst}
-use Rattle.persistent_queue.specs.Opens.{IsSlotted}
-use Rattle.persistent_queue.specs.Views.{QueueView}
-use Rattle.persistent_queue.proofs.Acknowledging.{still_slotted}
+use Rattle.queue_core.specs.Opens.{IsSlotted}
+use Rattle.queue_core.specs.Views.{QueueView}
+use Rattle.queue_core.proofs.Acknowledging.{still_slotted}
 use Rattle.history_tests.proofs.calls.acknowledge.Goals as goal
 
 pub returns : goal.returns

@@ -1,7 +1,7 @@
 use Rattle.std.proofs.Common.{◌≡◌, sym, ◌∙◌, ap}
 use Rattle.io_traits.specs.Reads.{bytes_of}
-use Rattle.position_file.specs.Positions.{recorded_in}
-use Rattle.position_file.specs.declared.recorded.Recorded.TheVariants.{Nothing, Position}
+use Rattle.slot_files.specs.Positions.{recorded_in}
+use Rattle.slot_files.specs.declared.recorded.Recorded.TheVariants.{Nothing, Position}
 use Rattle.in_file.specs.declared.faults.OpenFault.TheVariants as o
 use Rattle.in_file.proofs.Beginning.{opened_so, damaged_so}
 use Rattle.in_file.proofs.opening.opened.Goals as goal

@@ -1,6 +1,6 @@
 use Rattle.std.proofs.Common.{◌≡◌, drop}
 use Rattle.std.specs.List.{list_any}
-use Rattle.decoded_fields.specs.Decoded.{is_other}
+use Rattle.event_times.specs.Decoded.{is_other}
 use Rattle.in_lines.proofs.plain.has_other.Given as goal
 
 abbrev pub invariant-loop-value : goal.invariant-loop-value

@@ -1,6 +1,6 @@
 use Rattle.std.proofs.Common.{Some, sym, ap, ◌∙◌}
 use Rattle.io_memory.specs.Tables.{overwritten}
-use Rattle.store_trait.specs.Images.{overlaid}
+use Rattle.io_traits.specs.Images.{overlaid}
 use Rattle.io_memory.proofs.Changes.{set_changed, set_same, on_err, made_at}
 use Rattle.io_memory.proofs.tables.write_in.Goals as goal
 

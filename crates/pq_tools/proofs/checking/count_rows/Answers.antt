@@ -1,7 +1,7 @@
 use Rattle.std.proofs.Common.{Ok, sym, ◌∙◌, ap}
-use Rattle.queue_laws.specs.Folders.{names_in}
-use Rattle.queue_laws.specs.Found.{found}
-use Rattle.queue_core.specs.Marks.{read_in}
+use Rattle.queue_files.specs.Folders.{names_in}
+use Rattle.queue_files.specs.Found.{found}
+use Rattle.queue_files.specs.Marks.{read_in}
 use Rattle.pq_tools.specs.Checks.{said_of}
 use Rattle.pq_tools.proofs.OpenCounts.{counted}
 use Rattle.pq_tools.proofs.Sayings.{hands_on, says_lost}

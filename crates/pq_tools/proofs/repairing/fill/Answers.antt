@@ -1,9 +1,9 @@
 use Rattle.std.proofs.Common.{[], List, ℕ, subst}
-use Rattle.queue_laws.specs.Folders.{IsOwn, names_in}
-use Rattle.queue_core.specs.Marks.{read_in}
-use Rattle.queue_core.specs.Others.{KeepsOthers}
-use Rattle.queue_core.proofs.QueueReady.{if_ok_so}
-use Rattle.queue_core.proofs.OtherFiles.{others_then}
+use Rattle.queue_files.specs.Folders.{IsOwn, names_in}
+use Rattle.queue_files.specs.Marks.{read_in}
+use Rattle.queue_files.specs.Others.{KeepsOthers}
+use Rattle.queue_files.proofs.QueueReady.{if_ok_so}
+use Rattle.queue_files.proofs.OtherFiles.{others_then}
 use Rattle.pq_tools.specs.Repairs.{HasRows}
 use Rattle.pq_tools.specs.Salvage.{salvage}
 use Rattle.pq_tools.proofs.Takings.{no_store_fault, not_a_file, on_ok_all}

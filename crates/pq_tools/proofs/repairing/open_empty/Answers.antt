@@ -1,11 +1,11 @@
 use Rattle.std.proofs.Common.{Err, List, ℕ, sym, ◌∙◌, ap, subst}
-use Rattle.queue_laws.specs.Folders.{names_in}
-use Rattle.queue_laws.specs.Found.{found}
-use Rattle.queue_core.specs.Collected.{IsLost}
-use Rattle.queue_core.specs.Marks.{read_in}
-use Rattle.queue_core.specs.Queues.{IsQueueOf}
-use Rattle.persistent_queue.specs.Views.{QueueView}
-use Rattle.store_disk.specs.declared.faults.QueueFault.{QueueFault}
+use Rattle.queue_files.specs.Folders.{names_in}
+use Rattle.queue_files.specs.Found.{found}
+use Rattle.queue_files.specs.Collected.{IsLost}
+use Rattle.queue_files.specs.Marks.{read_in}
+use Rattle.queue_files.specs.Queues.{IsQueueOf}
+use Rattle.queue_core.specs.Views.{QueueView}
+use Rattle.io_traits.specs.declared.queue_faults.QueueFault.{QueueFault}
 use Rattle.pq_tools.specs.Repairs.{HasFile, IsMade, OpensNew}
 use Rattle.pq_tools.specs.declared.fault.RepairFault.{RepairFault}
 use Rattle.pq_tools.proofs.EmptyFolders.{has_none, made_new, no_file, not_damaged}

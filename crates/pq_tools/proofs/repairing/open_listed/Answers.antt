@@ -2,8 +2,8 @@ use Rattle.std.proofs.Common.{sym, ◌∙◌, subst, length}
 use Rattle.std.proofs.lemmas.Bool.{eqb-true}
 use Rattle.std.proofs.lemmas.List.{nil_from_length}
 use Rattle.io_traits.specs.Folders.{Lists}
-use Rattle.queue_laws.specs.Folders.{IsOwn, names_in}
-use Rattle.queue_core.proofs.OtherFiles.{others_stay}
+use Rattle.queue_files.specs.Folders.{IsOwn, names_in}
+use Rattle.queue_files.proofs.OtherFiles.{others_stay}
 use Rattle.pq_tools.proofs.EmptyFolders.{has_file}
 use Rattle.pq_tools.proofs.repairing.open_listed.Goals as goal
 

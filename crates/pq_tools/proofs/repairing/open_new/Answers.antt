@@ -1,8 +1,8 @@
 use Rattle.std.proofs.Common.{sym, subst}
 use Rattle.io_traits.specs.Folders.{Content, Lists}
-use Rattle.queue_core.proofs.OtherFiles.{others_looked, others_then}
-use Rattle.persistent_queue.specs.Views.{QueueView}
-use Rattle.queue_laws.specs.Folders.{IsOwn, names_in}
+use Rattle.queue_files.proofs.OtherFiles.{others_looked, others_then}
+use Rattle.queue_core.specs.Views.{QueueView}
+use Rattle.queue_files.specs.Folders.{IsOwn, names_in}
 use Rattle.pq_tools.specs.Repairs.{HasFile, IsMade, OpensNew}
 use Rattle.pq_tools.proofs.repairing.open_new.Goals as goal
 

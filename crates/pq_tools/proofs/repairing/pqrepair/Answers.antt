@@ -1,6 +1,6 @@
 use Rattle.std.proofs.Common.{map, refl, string_bytes}
 use Rattle.io_traits.proofs.Causes.{no_cause}
-use Rattle.queue_core.proofs.OtherFiles.{others_stay}
+use Rattle.queue_files.proofs.OtherFiles.{others_stay}
 use Rattle.logstash_settings.specs.Words.{answer_of}
 use Rattle.pq_tools.specs.Orders.{repaired}
 use Rattle.pq_tools.specs.Repairs.{IsOfRepair}

@@ -1,9 +1,9 @@
 use Rattle.std.proofs.Common.{◌≡◌, List, ℕ, Ok, Err, sym, refl, subst}
 use Rattle.io_traits.specs.Folders.{folder_start}
 use Rattle.io_traits.proofs.Causes.{no_cause}
-use Rattle.queue_laws.specs.Folders.{IsOwn, names_in}
-use Rattle.queue_core.specs.Marks.{read_in}
-use Rattle.queue_core.specs.Others.{KeepsOthers}
+use Rattle.queue_files.specs.Folders.{IsOwn, names_in}
+use Rattle.queue_files.specs.Marks.{read_in}
+use Rattle.queue_files.specs.Others.{KeepsOthers}
 use Rattle.pq_tools.specs.Numbers.{spends_numbers}
 use Rattle.pq_tools.specs.Repairs.{AreDifferent, HasFile, IsRepaired, Salvages}
 use Rattle.pq_tools.proofs.Endings.{done_cause, repair_done, repair_failed, status_cause, status_out}

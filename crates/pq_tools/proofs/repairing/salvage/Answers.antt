@@ -1,11 +1,11 @@
 use Rattle.std.proofs.Common.{◌≡◌, List, ℕ, sym, ◌∙◌, subst}
 use Rattle.std.proofs.Math.Path.{ap₂}
-use Rattle.queue_laws.specs.Folders.{Folder, IsOwn, names_in}
-use Rattle.queue_core.specs.Marks.{read_in}
-use Rattle.queue_core.specs.Others.{KeepsOthers}
-use Rattle.queue_core.proofs.QueueReady.{if_ok_so}
-use Rattle.queue_core.proofs.OtherFiles.{others_then}
-use Rattle.persistent_queue.specs.Views.{QueueView}
+use Rattle.queue_files.specs.Folders.{Folder, IsOwn, names_in}
+use Rattle.queue_files.specs.Marks.{read_in}
+use Rattle.queue_files.specs.Others.{KeepsOthers}
+use Rattle.queue_files.proofs.QueueReady.{if_ok_so}
+use Rattle.queue_files.proofs.OtherFiles.{others_then}
+use Rattle.queue_core.specs.Views.{QueueView}
 use Rattle.pq_tools.specs.Repairs.{AreDifferent, HasFile, HasRows, IsMade, IsRepaired}
 use Rattle.pq_tools.specs.Numbers.{runs_out, spends_numbers}
 use Rattle.pq_tools.specs.Salvage.{salvage}

@@ -1,5 +1,5 @@
 use Rattle.std.proofs.Common.{ap}
-use Rattle.persistent_queue.specs.Views.{QueueView}
+use Rattle.queue_core.specs.Views.{QueueView}
 use Rattle.pq_tools.proofs.NewQueues.{settled}
 use Rattle.pq_tools.proofs.repairing.settle.Goals as goal
 

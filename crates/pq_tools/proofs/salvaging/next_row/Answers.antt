@@ -1,6 +1,6 @@
 use Rattle.std.proofs.Common.{rules, ap, arith}
 use Rattle.io_traits.specs.Reads.{bytes_of}
-use Rattle.store_disk.specs.declared.pages.PageState.{PageState}
+use Rattle.io_traits.specs.declared.pages.PageState.{PageState}
 use Rattle.pq_tools.proofs.RunSteps.{at_end, no_row, none_left, one_row}
 use Rattle.pq_tools.proofs.salvaging.next_row.Goals as goal
 

@@ -1,13 +1,13 @@
 use Rattle.std.proofs.Common.{List, ℕ, sym, ◌∙◌, ap}
 use Rattle.io_traits.specs.Folders.{Content}
 use Rattle.io_traits.specs.Reads.{bytes_of}
-use Rattle.store_disk.proofs.Looking.{nothing_yet}
-use Rattle.queue_checkpoint.specs.Checkpoints.{newest_in}
-use Rattle.queue_checkpoint.specs.declared.checkpoint.Slots.{Slots}
-use Rattle.queue_laws.specs.Folders.{IsOwn, head, names_in}
-use Rattle.queue_core.specs.Listing.{IsListed}
-use Rattle.queue_core.specs.Marks.{read_in}
-use Rattle.queue_core.proofs.OtherFiles.{others_looked, others_then}
+use Rattle.io_traits.proofs.Looking.{nothing_yet}
+use Rattle.slot_files.specs.Checkpoints.{newest_in}
+use Rattle.slot_files.specs.declared.checkpoint.Slots.{Slots}
+use Rattle.queue_files.specs.Folders.{IsOwn, head, names_in}
+use Rattle.queue_files.specs.Listing.{IsListed}
+use Rattle.queue_files.specs.Marks.{read_in}
+use Rattle.queue_files.proofs.OtherFiles.{others_looked, others_then}
 use Rattle.pq_tools.specs.Repairs.{salvaged_of}
 use Rattle.pq_tools.specs.Salvage.{salvage}
 use Rattle.pq_tools.proofs.Takings.{adds_when, salvage_is, spends_by}

@@ -1,12 +1,12 @@
 use Rattle.std.proofs.Common.{rules, ◌≡◌, Err, [], ◌∷◌, ◌++◌, ◌+◌, drop, get_or, List, ℕ, refl, sym, ◌∙◌, ap, subst, arith, append_assoc, append-nil}
 use Rattle.std.proofs.lemmas.List.{drop_all, drop_more}
 use Rattle.io_traits.specs.Reads.{bytes_of}
-use Rattle.store_disk.proofs.Looking.{nothing_yet}
-use Rattle.queue_checkpoint.specs.Checkpoints.{newest_in}
-use Rattle.queue_laws.specs.Folders.{Folder, IsOwn, head, names_in}
-use Rattle.queue_core.specs.Marks.{read_in}
-use Rattle.queue_core.specs.Others.{KeepsOthers}
-use Rattle.queue_core.proofs.OtherFiles.{others_looked, others_then}
+use Rattle.io_traits.proofs.Looking.{nothing_yet}
+use Rattle.slot_files.specs.Checkpoints.{newest_in}
+use Rattle.queue_files.specs.Folders.{Folder, IsOwn, head, names_in}
+use Rattle.queue_files.specs.Marks.{read_in}
+use Rattle.queue_files.specs.Others.{KeepsOthers}
+use Rattle.queue_files.proofs.OtherFiles.{others_looked, others_then}
 use Rattle.pq_tools.specs.Repairs.{AreDifferent, Spends, salvaged_of}
 use Rattle.pq_tools.specs.declared.fault.RepairFault.TheVariants as r
 use Rattle.pq_tools.proofs.Takings.{adds_by, adds_same, adds_then, same_folder, spends_by, spends_then}

@@ -1,11 +1,11 @@
 use Rattle.std.proofs.Common.{◌≡◌, ◌++◌, drop, IsTrue, List}
 use Rattle.io_traits.specs.Reads.{bytes_of}
-use Rattle.queue_checkpoint.specs.Checkpoints.{newest_in}
-use Rattle.queue_laws.specs.Folders.{IsOwn, head, names_in}
-use Rattle.queue_laws.specs.Found.{Row}
-use Rattle.queue_core.specs.Marks.{read_in}
-use Rattle.queue_core.specs.Others.{KeepsOthers}
-use Rattle.persistent_queue.specs.Opens.{IsReady}
+use Rattle.slot_files.specs.Checkpoints.{newest_in}
+use Rattle.queue_files.specs.Folders.{IsOwn, head, names_in}
+use Rattle.queue_files.specs.Found.{Row}
+use Rattle.queue_files.specs.Marks.{read_in}
+use Rattle.queue_files.specs.Others.{KeepsOthers}
+use Rattle.queue_core.specs.Opens.{IsReady}
 use Rattle.pq_tools.specs.Repairs.{Adds, salvaged_of}
 use Rattle.pq_tools.proofs.taking.take_listed.Given as goal
 

@@ -1,11 +1,11 @@
 use Rattle.std.proofs.Common.{[], ◌∷◌, ◌++◌, refl, List, ℕ, Option, sym, ◌∙◌, ap, subst}
 use Rattle.io_traits.specs.Folders.{Content}
 use Rattle.io_traits.specs.Reads.{bytes_of}
-use Rattle.store_disk.specs.declared.pages.PageState.{PageState}
-use Rattle.queue_checkpoint.specs.Checkpoints.{newest_in}
-use Rattle.queue_laws.specs.Folders.{IsOwn, checkpoint, names_in, page}
-use Rattle.queue_core.specs.Marks.{read_in}
-use Rattle.queue_core.proofs.OtherFiles.{others_looked, others_then}
+use Rattle.io_traits.specs.declared.pages.PageState.{PageState}
+use Rattle.slot_files.specs.Checkpoints.{newest_in}
+use Rattle.queue_files.specs.Folders.{IsOwn, checkpoint, names_in, page}
+use Rattle.queue_files.specs.Marks.{read_in}
+use Rattle.queue_files.proofs.OtherFiles.{others_looked, others_then}
 use Rattle.pq_tools.specs.Salvage.{by_head, by_own, end_with, rows_in, taken}
 use Rattle.pq_tools.specs.Repairs.{salvaged_of}
 use Rattle.pq_tools.proofs.Takings.{adds_same, adds_then, if_ok_on, listed_more, spends_by}

@@ -1,9 +1,9 @@
 use Rattle.std.proofs.Common.{[], Option, sym, ◌∙◌, ap, subst}
 use Rattle.io_traits.specs.Folders.{Content}
 use Rattle.io_traits.specs.Reads.{bytes_of}
-use Rattle.queue_laws.specs.Folders.{IsOwn, names_in}
-use Rattle.queue_core.proofs.QueueReady.{if_ok_so}
-use Rattle.queue_core.proofs.OtherFiles.{others_looked, others_then}
+use Rattle.queue_files.specs.Folders.{IsOwn, names_in}
+use Rattle.queue_files.proofs.QueueReady.{if_ok_so}
+use Rattle.queue_files.proofs.OtherFiles.{others_looked, others_then}
 use Rattle.pq_tools.specs.PageRuns.{BeginsRun, IsFirstRun}
 use Rattle.pq_tools.specs.Salvage.{end_with, rows_in, taken}
 use Rattle.pq_tools.specs.declared.salvaging.PageRun.{PageRun}

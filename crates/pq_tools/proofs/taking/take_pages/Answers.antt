@@ -1,9 +1,9 @@
 use Rattle.std.proofs.Common.{sym, ap, subst}
 use Rattle.io_traits.specs.Folders.{Content}
-use Rattle.queue_laws.specs.Folders.{IsOwn, names_in}
-use Rattle.queue_core.specs.Listing.{IsListed}
-use Rattle.queue_core.specs.Marks.{read_in}
-use Rattle.queue_core.proofs.OtherFiles.{others_looked, others_then}
+use Rattle.queue_files.specs.Folders.{IsOwn, names_in}
+use Rattle.queue_files.specs.Listing.{IsListed}
+use Rattle.queue_files.specs.Marks.{read_in}
+use Rattle.queue_files.proofs.OtherFiles.{others_looked, others_then}
 use Rattle.pq_tools.specs.Salvage.{salvage}
 use Rattle.pq_tools.proofs.Takings.{adds_behind, adds_by, on_ok_so, spends_by}
 use Rattle.pq_tools.proofs.taking.take_pages.Goals as goal

@@ -1,8 +1,8 @@
 use Rattle.std.proofs.Common.{rules, ◌≡◌, [], Err, Option, refl, ap, subst}
 use Rattle.io_traits.specs.Reads.{bytes_of}
 use Rattle.queue_page.specs.declared.row.PageRow.{PageRow}
-use Rattle.queue_laws.specs.Folders.{IsOwn, names_in}
-use Rattle.queue_core.proofs.OtherFiles.{others_looked, others_then}
+use Rattle.queue_files.specs.Folders.{IsOwn, names_in}
+use Rattle.queue_files.proofs.OtherFiles.{others_looked, others_then}
 use Rattle.pq_tools.specs.PageRuns.{GivesRow}
 use Rattle.pq_tools.specs.Repairs.{row_if}
 use Rattle.pq_tools.specs.declared.fault.RepairFault.TheVariants as r

@@ -1,9 +1,9 @@
 use Rattle.std.proofs.Common.{rules, ◌≡◌, [], ◌++◌, Bool, Err, List, ℕ, refl, ◌∙◌, subst, arith}
 use Rattle.io_traits.specs.Reads.{bytes_of}
-use Rattle.store_disk.proofs.Looking.{nothing_yet}
-use Rattle.queue_laws.specs.Folders.{IsOwn, names_in}
-use Rattle.queue_core.specs.Others.{KeepsOthers}
-use Rattle.queue_core.proofs.OtherFiles.{others_looked, others_then}
+use Rattle.io_traits.proofs.Looking.{nothing_yet}
+use Rattle.queue_files.specs.Folders.{IsOwn, names_in}
+use Rattle.queue_files.specs.Others.{KeepsOthers}
+use Rattle.queue_files.proofs.OtherFiles.{others_looked, others_then}
 use Rattle.pq_tools.specs.PageRuns.{IsRun, rows_left}
 use Rattle.pq_tools.specs.Repairs.{Spends, Stepped, given}
 use Rattle.pq_tools.specs.declared.fault.RepairFault.TheVariants as r

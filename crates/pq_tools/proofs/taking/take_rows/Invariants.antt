@@ -1,9 +1,9 @@
 use Rattle.std.proofs.Common.{◌≡◌, ◌≤◌, IsTrue, List}
 use Rattle.io_traits.specs.Reads.{bytes_of}
-use Rattle.queue_laws.specs.Folders.{IsOwn, names_in}
-use Rattle.queue_laws.specs.Found.{Row}
-use Rattle.queue_core.specs.Others.{KeepsOthers}
-use Rattle.persistent_queue.specs.Opens.{IsReady}
+use Rattle.queue_files.specs.Folders.{IsOwn, names_in}
+use Rattle.queue_files.specs.Found.{Row}
+use Rattle.queue_files.specs.Others.{KeepsOthers}
+use Rattle.queue_core.specs.Opens.{IsReady}
 use Rattle.pq_tools.specs.PageRuns.{IsRun}
 use Rattle.pq_tools.specs.Repairs.{Adds}
 use Rattle.pq_tools.proofs.Takings.{SoFar}

@@ -1,6 +1,6 @@
 use Rattle.std.proofs.Common.{◌≡◌, Bool, Err, OnOk, sym, subst}
-use Rattle.queue_laws.specs.Folders.{IsOwn, names_in}
-use Rattle.queue_core.proofs.OtherFiles.{others_stay}
+use Rattle.queue_files.specs.Folders.{IsOwn, names_in}
+use Rattle.queue_files.proofs.OtherFiles.{others_stay}
 use Rattle.pq_tools.specs.Repairs.{Adds, Spends, row_if}
 use Rattle.pq_tools.specs.declared.fault.RepairFault.TheVariants as r
 use Rattle.pq_tools.proofs.taking.write_given.Goals as goal

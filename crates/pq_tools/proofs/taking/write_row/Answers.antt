@@ -1,8 +1,8 @@
 use Rattle.std.proofs.Common.{◌≡◌, List, ℕ, Ok, Err, subst}
-use Rattle.queue_laws.specs.Found.{row_of}
-use Rattle.persistent_queue.specs.Opens.{Becomes}
-use Rattle.persistent_queue.specs.Writing.{behind_write, frame_size, numbers_spent, with_written}
-use Rattle.persistent_queue.specs.declared.writing.WriteFault.TheVariants as w
+use Rattle.queue_files.specs.Found.{row_of}
+use Rattle.queue_core.specs.Opens.{Becomes}
+use Rattle.queue_core.specs.Writing.{behind_write, frame_size, numbers_spent, with_written}
+use Rattle.queue_core.specs.declared.writing.WriteFault.TheVariants as w
 use Rattle.pq_tools.proofs.NewQueues.{holds_written}
 use Rattle.pq_tools.proofs.Numbers.{IsSpent, one_fits, one_spent}
 use Rattle.pq_tools.proofs.taking.write_row.Goals as goal

@@ -1,10 +1,10 @@
 use Rattle.std.proofs.Common.{◌≡◌, inl}
-use Rattle.store_trait.specs.Moments.{LeavesBeside}
-use Rattle.store_trait.specs.Tails.{HoldsNamed}
-use Rattle.store_trait.proofs.Moments.{started}
-use Rattle.store_trait.proofs.Beside.{beside_none}
-use Rattle.store_trait.proofs.BesideRuns.{changed_synced_beside}
-use Rattle.store_trait.proofs.TailRuns.{holds, cut_run, cut_synced_run}
+use Rattle.io_traits.specs.Moments.{LeavesBeside}
+use Rattle.io_traits.specs.Tails.{HoldsNamed}
+use Rattle.io_traits.proofs.Moments.{started}
+use Rattle.io_traits.proofs.Beside.{beside_none}
+use Rattle.io_traits.proofs.BesideRuns.{changed_synced_beside}
+use Rattle.io_traits.proofs.TailRuns.{holds, cut_run, cut_synced_run}
 use Rattle.queue_page.proofs.page.cut_rest.Goals as goal
 
 pub returns-in_err-cut-clause-any_moment : goal.returns-in_err-cut-clause-any_moment

@@ -1,6 +1,6 @@
 use Rattle.std.proofs.Common.{◌≡◌, ◌≤◌, ◌+◌, length, Some, Ok, Err, ap, ◌∙◌, arith, sym}
 use Rattle.io_traits.specs.Reads.{bytes_of}
-use Rattle.store_disk.proofs.Looking.{nothing_then}
+use Rattle.io_traits.proofs.Looking.{nothing_then}
 use Rattle.queue_page.specs.Answers.{Tells}
 use Rattle.queue_page.specs.Blocks.{AreBytesIn, IsPart, left_of}
 use Rattle.queue_page.specs.Elements.{element_at, next_of}

@@ -1,5 +1,5 @@
 use Rattle.std.proofs.Common.{◌-◌, ◌≡◌, ◌≤◌, ◌+◌, ◌*◌, length}
-use Rattle.store_trait.specs.Calls.{ChangesNothing}
+use Rattle.io_traits.specs.Calls.{ChangesNothing}
 use Rattle.queue_page.specs.Blocks.{AreBytesIn, IsPart, OnFile}
 use Rattle.queue_page.proofs.RunReads.{SoFar}
 use Rattle.queue_page.proofs.run.read_run.Given as goal

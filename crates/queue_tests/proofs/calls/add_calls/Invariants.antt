@@ -1,4 +1,4 @@
-use Rattle.persistent_queue.specs.Opens.{IsReady}
+use Rattle.queue_core.specs.Opens.{IsReady}
 use Rattle.queue_tests.proofs.calls.add_calls.Given as goal
 
 abbrev pub invariant-loop-call : goal.invariant-loop-call

@@ -1,5 +1,5 @@
 use Rattle.std.proofs.Common.{◌≡◌, ℕ, List, get_or, ap, arith}
-use Rattle.out_files.proofs.Staying.{has_room}
+use Rattle.slot_files.proofs.Staying.{has_room}
 use Rattle.queue_tests.proofs.outputs.opened_with.Goals as goal
 
 pub append_batch-requires : goal.append_batch-requires

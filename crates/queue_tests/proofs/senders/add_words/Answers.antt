@@ -1,11 +1,11 @@
 use Rattle.std.proofs.Common.{◌≡◌, length, Ok, Err, sym, ap, subst, ◌∙◌}
-use Rattle.store_disk.specs.declared.faults.QueueFault.{QueueFault}
-use Rattle.store_disk.specs.declared.faults.QueueFault.TheVariants as f
+use Rattle.io_traits.specs.declared.queue_faults.QueueFault.{QueueFault}
+use Rattle.io_traits.specs.declared.queue_faults.QueueFault.TheVariants as f
 use Rattle.std.specs.Prelude.{Result}
 use Rattle.pipeline_bus.specs.Ends.{taking}
-use Rattle.dead_sender.specs.Ready.{IsReady}
-use Rattle.dead_sender.specs.Work.{work}
-use Rattle.dead_sender.specs.declared.sender.SendOutcome.{SendOutcome}
+use Rattle.dead_letter_reader.specs.Ready.{IsReady}
+use Rattle.dead_letter_reader.specs.Work.{work}
+use Rattle.dead_letter_reader.specs.declared.sender.SendOutcome.{SendOutcome}
 use Rattle.queue_tests.proofs.senders.add_words.Goals as goal
 use Rattle.queue_tests.proofs.senders.add_words.Goals.{then-eq+in-Ok+in_ok-push_str-in-Ok, else-eq+in_ok-given}
 

@@ -1,7 +1,7 @@
 use Rattle.std.proofs.Common.{◌≡◌, length}
 use Rattle.pipeline_bus.specs.Ends.{taking}
-use Rattle.dead_sender.specs.Ready.{IsReady}
-use Rattle.dead_sender.specs.Work.{work}
+use Rattle.dead_letter_reader.specs.Ready.{IsReady}
+use Rattle.dead_letter_reader.specs.Work.{work}
 use Rattle.queue_tests.proofs.senders.add_words.Given as goal
 
 abbrev pub invariant-loop-word : goal.invariant-loop-word

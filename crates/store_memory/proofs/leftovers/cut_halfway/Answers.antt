@@ -1,6 +1,6 @@
 use Rattle.std.proofs.Common.{◌≡◌, ◌+◌, ◌-◌, ◌/◌, ◌<◌, ℕ, min, take, option_map, ap, ◌∙◌, arith}
 use Rattle.io_traits.specs.Reads.{file_length}
-use Rattle.store_trait.specs.Leftovers.{torn, cut_left}
+use Rattle.io_traits.specs.Leftovers.{torn, cut_left}
 use Rattle.io_memory.specs.Tables.{content_of}
 use Rattle.io_memory.proofs.Changes.{changed_as}
 use Rattle.store_memory.proofs.leftovers.cut_halfway.Goals as goal

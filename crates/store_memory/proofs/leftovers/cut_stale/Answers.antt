@@ -1,6 +1,6 @@
 use Rattle.std.proofs.Common.{◌≡◌, ℕ, List, Option, Some, None, option_map, length, refl, sym, ap, ◌∙◌}
 use Rattle.std.proofs.lemmas.Option.{same_Some}
-use Rattle.store_trait.specs.Leftovers.{stale, with_foreign, cut_left}
+use Rattle.io_traits.specs.Leftovers.{stale, with_foreign, cut_left}
 use Rattle.io_memory.specs.Tables.{content_of}
 use Rattle.io_memory.proofs.Changes.{changed_on, missing_changed}
 use Rattle.store_memory.proofs.leftovers.cut_stale.Goals as goal

@@ -1,7 +1,7 @@
 use Rattle.std.proofs.Common.{◌≡◌, ◌-◌, min, Some, ap, ◌∙◌, replicate, List, ℕ}
 use Rattle.io_traits.specs.Reads.{bytes_of, file_length}
-use Rattle.store_trait.specs.Images.{overlaid}
-use Rattle.store_trait.specs.Leftovers.{with_foreign}
+use Rattle.io_traits.specs.Images.{overlaid}
+use Rattle.io_traits.specs.Leftovers.{with_foreign}
 use Rattle.io_memory.specs.Tables.{content_of, overwritten}
 use Rattle.io_memory.proofs.Changes.{changed_on}
 use Rattle.store_memory.proofs.leftovers.write_foreign.Goals as goal

@@ -1,7 +1,7 @@
 use Rattle.std.proofs.Common.{◌≡◌, ◌++◌, ◌∷◌, [], true, false, append-nil, sym, ap, ◌∙◌, rules}
 use Rattle.std.specs.Prelude.{chars}
 use Rattle.filters_text.specs.Kv.{trimmed_bytes, is_wanted}
-use Rattle.kv_text.proofs.CutChars.{pairs}
+use Rattle.filters_text.proofs.CutChars.{pairs}
 use Rattle.filters_text.proofs.Wanted.{trimmed_is, field_kept, field_dropped}
 use Rattle.filters_text.proofs.kv_filter.Kv.add_field.Goals as goal
 

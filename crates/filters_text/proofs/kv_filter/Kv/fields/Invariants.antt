@@ -1,6 +1,6 @@
 use Rattle.std.proofs.Common.{◌≡◌, ◌++◌, map, drop}
 use Rattle.filters_text.specs.Kv.{fields_of}
-use Rattle.kv_text.specs.Views.{both_chars}
+use Rattle.filters_text.specs.Views.{both_chars}
 use Rattle.filters_text.proofs.kv_filter.Kv.fields.Given as goal
 
 abbrev pub invariant-loop-pair : goal.invariant-loop-pair

@@ -1,5 +1,5 @@
-use Rattle.store_trait.proofs.BesideRuns.{changed_beside}
-use Rattle.store_trait.proofs.TailRuns.{tail_appended}
+use Rattle.io_traits.proofs.BesideRuns.{changed_beside}
+use Rattle.io_traits.proofs.TailRuns.{tail_appended}
 use Rattle.queue_page.proofs.Appending.{appended_first}
 use Rattle.queue_page.proofs.page.Page.append_row.Goals as goal
 

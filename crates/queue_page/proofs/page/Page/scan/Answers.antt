@@ -1,5 +1,5 @@
 use Rattle.std.proofs.Common.{ap}
-use Rattle.store_disk.proofs.Looking.{nothing_then}
+use Rattle.io_traits.proofs.Looking.{nothing_then}
 use Rattle.queue_page.specs.Views.{PageView}
 use Rattle.queue_page.proofs.Leftovers.{scanned, looked}
 use Rattle.queue_page.proofs.page.Page.scan.Goals as goal

@@ -1,6 +1,6 @@
 use Rattle.std.proofs.Common.{◌++◌, Some, ◌∙◌, is_ok}
 use Rattle.io_traits.specs.Reads.{bytes_of, file_length}
-use Rattle.store_trait.specs.Images.{TornFile}
+use Rattle.io_traits.specs.Images.{TornFile}
 use Rattle.store_memory.specs.Keeping.{reads_of}
 use Rattle.store_memory.specs.declared.calls.StoreCall.TheVariants.{Append}
 use Rattle.store_memory.proofs.Stepping.{at_name, at_other, on_did, did_read, changes_one, torn_none}

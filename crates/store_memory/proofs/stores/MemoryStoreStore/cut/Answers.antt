@@ -1,9 +1,9 @@
 use Rattle.std.proofs.Common.{◌∙◌, take, option_map, is_ok}
-use Rattle.store_trait.specs.Images.{CutFile}
+use Rattle.io_traits.specs.Images.{CutFile}
 use Rattle.store_memory.specs.Keeping.{reads_of}
 use Rattle.store_memory.specs.declared.calls.StoreCall.TheVariants.{Cut}
 use Rattle.store_memory.proofs.Stepping.{at_name, at_other, on_did, did_read, changes_one}
-use Rattle.store_trait.proofs.Tearing.{cut_none}
+use Rattle.io_traits.proofs.Tearing.{cut_none}
 use Rattle.store_memory.proofs.stores.MemoryStoreStore.cut.Goals as goal
 
 pub returns-clause-cut : goal.returns-clause-cut

@@ -1,5 +1,5 @@
 use Rattle.std.proofs.Common.{None, ◌∙◌, is_ok}
-use Rattle.store_trait.specs.Images.{RemovedFile}
+use Rattle.io_traits.specs.Images.{RemovedFile}
 use Rattle.store_memory.specs.Keeping.{reads_of}
 use Rattle.store_memory.specs.declared.calls.StoreCall.TheVariants.{Remove}
 use Rattle.store_memory.proofs.Stepping.{at_name, at_other, on_did, did_read, changes_one, removed_none}

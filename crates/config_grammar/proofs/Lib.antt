@@ -1,8 +1,0 @@
-pub mod Trees
-pub mod Takes
-pub mod Taken
-pub mod Exact
-pub mod Levels
-pub mod Deep
-pub mod One
-mod Branches

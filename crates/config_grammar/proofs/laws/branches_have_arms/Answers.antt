@@ -1,5 +1,0 @@
-use Rattle.config_grammar.proofs.Branches.{branched}
-use Rattle.config_grammar.proofs.laws.branches_have_arms.Goals as goal
-
-pub returns : goal.returns
-returns c = λ levels tokens config r. branched r

@@ -1,5 +1,0 @@
-use Rattle.config_print_laws.proofs.Respacing.{gaps_change_no_token}
-use Rattle.config_print_laws.proofs.laws.gaps_change_no_token.Goals as goal
-
-pub returns : goal.returns
-returns c = gaps_change_no_token

@@ -1,4 +1,0 @@
-pub mod Once
-pub mod Laws
-pub mod Answers
-pub mod Respaced

@@ -1,6 +1,0 @@
-use Rattle.dead_sender.specs.Work.{work}
-use Rattle.dead_sender.proofs.Working.{next_are}
-use Rattle.dead_sender.proofs.sender.DeadSender.next.Goals as goal
-
-pub returns : goal.returns
-returns c = next_are (work c.args.self.now) c.as_slice.result.now c.min.result c.as_slice.ensures c.min.ensures

@@ -1,7 +1,0 @@
-use Rattle.std.proofs.Common.{◌≡◌, drop}
-use Rattle.std.specs.List.{list_any}
-use Rattle.decoded_fields.specs.Decoded.{is_other}
-use Rattle.decoded_fields.proofs.member.has_other.Given as goal
-
-abbrev pub invariant-loop-value : goal.invariant-loop-value
-invariant-loop-value l = list_any is_other (drop l.value-index l.values) ≡ list_any is_other l.values

@@ -1,0 +1,6 @@
+use Rattle.std.proofs.Common.{◌≡◌, take}
+use Rattle.csv.specs.Records.{fields_of}
+use Rattle.filters_text.proofs.csv_row.fields.Given as goal
+
+abbrev pub invariant-loop-field : goal.invariant-loop-field
+invariant-loop-field l = (l.field-iterator.row.now ≡ l.fn.row) × (l.fields ≡ take l.field-iterator.at (fields_of l.fn.row))

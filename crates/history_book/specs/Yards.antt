@@ -1,0 +1,142 @@
+-- Several pipelines in one run: what each did, and the links between them.
+use Rattle.std.specs.Prelude.{◌≡◌, ◌≢◌, ◌⊎◌, ◌≤◌, ℕ, List, [], ◌∷◌, ◌++◌, flat_map, Option, Some, None, ⊤}
+use Rattle.io_traits.specs.Images.{Image}
+use Rattle.event_tree.specs.Events.{Ev}
+use Rattle.foreign_parts.specs.declared.place.Place.TheVariants as place
+use Rattle.pipeline_bus.specs.declared.parcel.Parcel.{Parcel}
+use Rattle.event_flow.specs.Meaning.{Makes}
+use Rattle.event_flow.specs.Meaning as due
+use Rattle.queue_files.specs.Found.{Found}
+use Rattle.history_book.specs.Contents.{Bytes}
+use Rattle.history_book.specs.Deeds.{DeedOf, heard_on, deeds_by, told_by, mail_of, LegalDeeds}
+use Rattle.history_book.specs.Entries.{Entry, ParcelAt, Accept}
+use Rattle.history_book.specs.Inputs.{Input, IsInput}
+use Rattle.history_book.specs.Laws.{WasTold}
+use Rattle.history_book.specs.Legal.{Legal, Fits, IsFound}
+use Rattle.history_book.specs.Links.{Listening, Link, LinkSound, AllArrived, StandsThere, assured}
+use Rattle.history_book.specs.Lists.{IsIn}
+use Rattle.history_book.specs.Sound.{Places, LineSound, AllStands}
+use Rattle.history_book.specs.States.{Plan, Written, State, start, written, after}
+use Rattle.history_book.specs.Steps.{NoOpening, steps_of}
+
+-- of one pipeline an opening comes before anything else that it does in a step
+abbrev pub OpensFirst : List DeedOf → Type 0
+OpensFirst [] = ⊤
+OpensFirst (d ∷ done) = NoOpening (told_by d.line done) × OpensFirst done
+
+-- ---- links
+
+-- these are the first of those
+abbrev pub IsFront : {X : Type 0} → List X → List X → Type 0
+IsFront {X} front whole = (more : List X) × (whole ≡ front ++ more)
+
+-- the same link, through which more went
+pub record GoesOn (old new : Link) : Type 0 where
+  pub from : new.from ≡ old.from
+  pub to : new.to ≡ old.to
+  pub address : new.address ≡ old.address
+  pub place : new.place ≡ old.place
+  pub taken_there : IsFront old.takes.taken new.takes.taken
+  pub given_there : IsFront old.takes.given new.takes.given
+  pub taken : IsFront old.taken new.taken
+  pub given : IsFront old.given new.given
+
+-- a pipeline is opened in a step, if one it is
+abbrev pub Unopened : Option ℕ → List DeedOf → Type 0
+Unopened None step = ⊤
+Unopened (Some k) step = NoOpening (told_by k step)
+
+-- Each link that stood stands, unless one of its pipelines was opened.
+abbrev pub LinksGoOn : List DeedOf → List Link → List Link → Type 0
+LinksGoOn step old new = (l : Link) → IsIn l old → Unopened l.from step → NoOpening (told_by l.to step) → (m : Link) × IsIn m new × GoesOn l m
+
+-- it was heard from a listener of the address that the parcel of this number is assured
+pub record IsGivenBy (links : List Link) (k : ℕ) (address : List ℕ) (number : ℕ) : Type 0 where
+  pub link : Link
+  pub is_link : IsIn link links
+  pub from : link.from ≡ Some k
+  pub to_address : link.address ≡ address
+  pub given : IsIn (assured number) link.given
+
+-- ---- rows
+
+-- the row of an event that was accepted, and the parcel that it came in
+pub record Accepted : Type 0 where
+  pub row : Written
+  pub parcel : Option ParcelAt
+
+abbrev pub accepted_in : State → Entry → List Accepted
+accepted_in s (Accept input parcel number event) = record { row = written s input number event; parcel = parcel } ∷ []
+accepted_in s e = []
+
+-- since the pipeline was last opened
+abbrev pub accepted : Makes → List Entry → List Accepted
+accepted makes told = flat_map (λ step. accepted_in step.before step.entry) (steps_of makes told)
+
+-- the link at which a parcel of this place and number was taken is one alone
+pub record IsTakenBy (links : List Link) (k : ℕ) (at : ParcelAt) : Type 0 where
+  pub link : Link
+  pub is_link : IsIn link links
+  pub to : link.to ≡ k
+  pub place_is : link.place ≡ at.place
+  pub only : (other : Link) → IsIn other links → other.to ≡ k → other.place ≡ at.place → other ≡ link
+  pub parcel : Parcel
+  pub taken : IsIn parcel link.taken
+  pub number_is : parcel.number ≡ at.number
+
+-- an event of an input that listens on no address came in no parcel, and each other one in a parcel of one link
+abbrev pub CameIn : Listening → List Link → ℕ → Written → Option ParcelAt → Type 0
+CameIn listening links k w None = (i : Input) × IsInput w.under w.input i × (listening.address i.statement ≡ None)
+CameIn listening links k w (Some at) = IsTakenBy links k at
+
+-- ---- steps
+
+module _ (makes : Makes) (listening : Listening) where
+  -- What each pipeline did up to this step is legal, and links behind it are sound; and of each pipeline that did something in the step, each answer that a parcel is
+  -- assured, heard since it was opened, was given by a listener of the address, and each event came as its input says. Behind a stop no link stands, and nothing
+  -- is asked of a pipeline until it is opened again.
+  pub record LinksSound (done step : List DeedOf) (links : List Link) : Type 0 where
+    pub legal : (k : ℕ) → LegalDeeds makes (deeds_by k done)
+    pub sound : (l : Link) → IsIn l links → LinkSound makes listening done l
+    pub heard : (k : ℕ) (address : List ℕ) (number : ℕ) → deeds_by k step ≢ [] → IsIn (assured number) (heard_on address (mail_of k done).heard) → IsGivenBy links k address number
+    pub came : (k : ℕ) (a : Accepted) → deeds_by k step ≢ [] → IsIn a (accepted makes (told_by k done)) → CameIn listening links k a.row a.parcel
+
+  -- so it is behind each step, and the links go on
+  abbrev pub AreSteps : List DeedOf → List Link → List (List DeedOf) → Type 0
+  AreSteps before old [] = ⊤
+  AreSteps before old (step ∷ steps) =
+      OpensFirst step × ((links : List Link) × LinksGoOn step old links × LinksSound (before ++ step) step links × AreSteps (before ++ step) links steps)
+
+-- what was done in all steps
+abbrev pub all_done : List (List DeedOf) → List DeedOf
+all_done steps = flat_map (λ step. step) steps
+
+-- What a pipeline told of a delivery to an address arrived at a pipeline: there each event stands in the queue, or all was told that is due of it; whatever
+-- both told since, and in folders that stops leave of them that fit what they told.
+abbrev pub DeliveriesReach : Type 0
+DeliveriesReach =
+    (makes : Makes) (listening : Listening) (steps : List (List DeedOf)) (found : ℕ → Found) → AreSteps makes listening [] [] steps
+    → ((n : ℕ) → Legal makes start (told_by n (all_done steps))) → ((n : ℕ) → Fits (after makes start (told_by n (all_done steps))) (found n))
+    → (k : ℕ) (address : List ℕ) (plan : Plan) (id : List ℕ) (events : List Ev) → WasTold makes start (told_by k (all_done steps)) plan (due.Events id (place.Address address) events)
+    → (to : ℕ) × AllArrived listening address events (StandsThere makes (told_by to (all_done steps)) (found to))
+
+-- ---- all that an event is for
+
+-- the row was written, and is found; or all stands that was due of it
+abbrev pub StandsWhole : Makes → Bytes → Places → List Entry → Image → Found → Written → Type 0
+StandsWhole makes bytes places told i found w = IsIn w (after makes start told).rows × (IsFound found.rows w ⊎ AllStands makes bytes places told i w)
+
+-- All stands that was due of a row of this pipeline, as it stands by itself; and what was delivered to other pipelines arrived there, and stands there so.
+pub record StandsEverywhere (makes : Makes) (listening : Listening) (bytes : Bytes) (places : ℕ → Places) (images : ℕ → Image) (done : List DeedOf) (found : ℕ → Found) (k : ℕ) (w : Written) : Type 0 where
+  pub here : AllStands makes bytes (places k) (told_by k done) (images k) w
+  pub elsewhere : (id address : List ℕ) (events : List Ev) → IsIn (due.Events id (place.Address address) events) here.delivered.out.told
+      → (to : ℕ) × AllArrived listening address events (StandsWhole makes bytes (places to) (told_by to done) (images to) (found to))
+
+-- A row that is settled stands unacknowledged in the queue of its pipeline, or all stands that its configuration derives from it: in files, in the dead letters,
+-- and in other pipelines; in whatever stops leave of all of them that agrees with what each told. So it is with an event that was acknowledged to its input.
+abbrev pub EverythingStands : Type 0
+EverythingStands =
+    (makes : Makes) (listening : Listening) (bytes : Bytes) (places : ℕ → Places) (images : ℕ → Image) (steps : List (List DeedOf)) (k : ℕ) (before rest : List Entry) (w : Written)
+    → AreSteps makes listening [] [] steps → (sound : (n : ℕ) → LineSound makes bytes (places n) (told_by n (all_done steps)) (images n))
+    → told_by k (all_done steps) ≡ before ++ rest → IsIn w (after makes start before).rows → w.number ≤ (after makes start before).front
+    → IsFound (sound k).rows.rows w ⊎ StandsEverywhere makes listening bytes places images (all_done steps) (λ n. (sound n).rows) k w

@@ -1,0 +1,20 @@
+//! What holds of runs. Each function here does nothing: its clauses are theorems.
+ghost use Rattle.history_book.specs.Runs.{SettledRowsStand, StdoutHolds, BoxesHold};
+ghost use Rattle.history_book.specs.Ends.{EmptyIsDelivered};
+
+/// Where all that stands around the pipelines of a run agrees with what they did, each row that was settled stands
+/// unacknowledged in the queue of its pipeline, or everything stands that its configuration derives from it.
+pub fn settled_rows_stand()
+    ensures { SettledRowsStand }
+{}
+
+/// There stdout and boxes hold what was delivered to them since a pipeline was last opened.
+pub fn outputs_hold_what_was_told()
+    ensures stdout { StdoutHolds }
+    ensures boxes { BoxesHold }
+{}
+
+/// Where nothing is left in the queue of a pipeline, all stands that was due of each of its rows.
+pub fn empty_queues_are_delivered()
+    ensures { EmptyIsDelivered }
+{}

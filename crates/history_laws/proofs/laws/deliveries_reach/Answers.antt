@@ -1,5 +1,0 @@
-use Rattle.history_laws.proofs.Reaching.{deliveries_reach}
-use Rattle.history_laws.proofs.laws.deliveries_reach.Goals as goal
-
-pub returns : goal.returns
-returns c = deliveries_reach

@@ -1,5 +1,0 @@
-use Rattle.history_laws.proofs.Telling.{deliveries_were_told}
-use Rattle.history_laws.proofs.laws.deliveries_were_told.Goals as goal
-
-pub returns : goal.returns
-returns c = deliveries_were_told

@@ -1,5 +1,0 @@
-use Rattle.history_laws.proofs.Files.{files_hold}
-use Rattle.history_laws.proofs.laws.files_hold_what_was_told.Goals as goal
-
-pub returns : goal.returns
-returns c = files_hold

@@ -1,5 +1,0 @@
-use Rattle.history_laws.proofs.Histories.{prefixes_are_legal}
-use Rattle.history_laws.proofs.laws.what_was_told_is_legal.Goals as goal
-
-pub returns : goal.returns
-returns c = prefixes_are_legal

@@ -1,3 +1,0 @@
-pub mod CutChars
-mod Missing
-mod Pieces

@@ -1,5 +1,0 @@
-pub mod Holding
-pub mod LookedRuns
-pub mod BatchRun
-pub mod OpeningRun
-pub mod Staying

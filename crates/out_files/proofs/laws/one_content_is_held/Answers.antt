@@ -1,5 +1,0 @@
-use Rattle.out_files.proofs.Holding.{holds_one}
-use Rattle.out_files.proofs.laws.one_content_is_held.Goals as goal
-
-pub returns : goal.returns
-returns c = holds_one

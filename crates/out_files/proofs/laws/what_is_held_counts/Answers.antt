@@ -1,5 +1,0 @@
-use Rattle.out_files.proofs.Holding.{held_is_counted}
-use Rattle.out_files.proofs.laws.what_is_held_counts.Goals as goal
-
-pub returns : goal.returns
-returns c = held_is_counted

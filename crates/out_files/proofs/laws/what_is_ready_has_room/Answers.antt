@@ -1,5 +1,0 @@
-use Rattle.out_files.proofs.Staying.{has_room}
-use Rattle.out_files.proofs.laws.what_is_ready_has_room.Goals as goal
-
-pub returns : goal.returns
-returns g c = λ out s ready told. has_room g.S.Store out s ready told

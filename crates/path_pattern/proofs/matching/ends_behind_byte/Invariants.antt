@@ -1,6 +1,0 @@
-use Rattle.std.proofs.Common.{◌≡◌, ◌++◌, List, ℕ, Bool, drop}
-use Rattle.path_pattern.specs.Matching.{ends_of, starts}
-use Rattle.path_pattern.proofs.matching.ends_behind_byte.Given as goal
-
-abbrev pub invariant-loop-at : goal.invariant-loop-at
-invariant-loop-at l = (test : List ℕ → Bool) → l.ends ≡ ends_of test l.name → l.more.items ++ ends_of (starts l.byte test) (drop l.at l.name) ≡ ends_of (starts l.byte test) l.name

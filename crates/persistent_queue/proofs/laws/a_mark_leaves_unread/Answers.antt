@@ -1,5 +1,0 @@
-use Rattle.persistent_queue.proofs.UnreadCalls.{mark_leaves_unread}
-use Rattle.persistent_queue.proofs.laws.a_mark_leaves_unread.Goals as goal
-
-pub returns : goal.returns
-returns g c = mark_leaves_unread g.S.Store

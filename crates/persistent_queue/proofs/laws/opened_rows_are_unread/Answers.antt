@@ -1,5 +1,0 @@
-use Rattle.persistent_queue.proofs.UnreadRows.{opened_rows_are_unread}
-use Rattle.persistent_queue.proofs.laws.opened_rows_are_unread.Goals as goal
-
-pub returns : goal.returns
-returns g c = opened_rows_are_unread g.S.Store

@@ -1,5 +1,0 @@
-use Rattle.persistent_queue.proofs.Recovered.{what_is_kept_is_opened}
-use Rattle.persistent_queue.proofs.laws.what_is_kept_is_opened.Goals as goal
-
-pub returns : goal.returns
-returns g c = what_is_kept_is_opened g.S.Store

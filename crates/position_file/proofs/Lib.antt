@@ -1,5 +1,0 @@
-pub mod SlotBytes
-pub mod FileReads
-pub mod PositionWrites
-pub mod PathNames
-pub mod SyncedRuns

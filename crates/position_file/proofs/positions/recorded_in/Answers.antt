@@ -1,6 +1,0 @@
-use Rattle.std.proofs.Common.{sym, arith}
-use Rattle.store_changes.proofs.NewestSlots.{found_within}
-use Rattle.position_file.proofs.positions.recorded_in.Goals as goal
-
-pub slice_bounds-bytes-end : goal.slice_bounds-bytes-end
-slice_bounds-bytes-end c = let w = found_within 24 c.args.front.now c.in-Some.slot (omega arith) (sym c.in-Some.ensures.slot) in omega (arith, w.inside)

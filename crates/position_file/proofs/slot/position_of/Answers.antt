@@ -1,9 +1,0 @@
-use Rattle.std.proofs.Common.{ap, ◌∙◌}
-use Rattle.std.proofs.lemmas.List.{take_rest}
-use Rattle.byteorder.specs.Endian.{big_number}
-use Rattle.position_file.specs.Positions.{position_of}
-use Rattle.position_file.proofs.slot.position_of.Goals as goal
-
-pub returns : goal.returns
-unfolding position_of
-returns c = c.read_u64.ensures ∙ ap (big_number 8) (take_rest c.args.slot.now 10)

@@ -1,3 +1,0 @@
-pub mod SlotBytes
-pub mod FileReads
-pub mod SlotWrites

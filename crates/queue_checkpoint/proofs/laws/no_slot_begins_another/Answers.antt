@@ -1,5 +1,0 @@
-use Rattle.queue_checkpoint.proofs.SlotBytes.{none_begins_another}
-use Rattle.queue_checkpoint.proofs.laws.no_slot_begins_another.Goals as goal
-
-pub returns : goal.returns
-returns c = none_begins_another

@@ -1,0 +1,33 @@
+use Rattle.std.proofs.Common.{◌≡◌, ◌++◌, ◌+◌, ◌∷◌, [], ℕ, Bool, true, false, nat_lt, List, map, filter, drop, get_or, sym, ◌∙◌, ap, arith, append-nil}
+use Rattle.std.proofs.lemmas.Bool.Decides.{nat_tests}
+use Rattle.std.proofs.lemmas.List.{drop_all, drop_more}
+use Rattle.queue_files.specs.Folders.{page, names_in}
+use Rattle.queue_files.specs.Unread.{pages_above}
+use Rattle.queue_files.proofs.Members.{one_made, none_made}
+use Rattle.queue_files.proofs.unread.add_pages.Goals.{then-head-number+in_ok-name+in_ok-push, else-head-number}
+use Rattle.queue_files.proofs.unread.add_pages.Goals as goal
+
+pub loop-number-preserved : goal.loop-number-preserved
+loop-number-preserved c =
+    let f : ℕ → List ℕ = λ n. names_in c.args.folder.now (page n) in
+    let p : ℕ → Bool = nat_lt c.args.head in
+    let xs = c.args.pages.now in
+    let at = c.loop-number.number-index in
+    let x = get_or xs at 0 in
+    let made = c.loop-number.names.items in
+    let split = drop_more xs at 0 c.loop-number-test.true in
+    elim c.if-head-number.branch [
+      | then-head-number+in_ok-name+in_ok-push w ↦
+          let passes : p x ≡ true = grind (arith, nat_tests, w.if-head-number.true) in
+          let new : c.if-head-number.names.items ≡ made ++ f x ∷ [] = ap (λ v. v.items) w.names-is ∙ w.in_ok-push.ensures.items ∙ ap (λ n. made ++ n ∷ []) w.in_ok-name.ensures in
+          record { so_far = c.loop-number.invariant.so_far ∙ one_made f p xs at x made split passes ∙ ap (λ l. l ++ map f (filter p (drop (at + 1) xs))) (sym new) }
+      | else-head-number w ↦
+          let stays : p x ≡ false = grind (arith, nat_tests, w.if-head-number.false) in
+          record { so_far = c.loop-number.invariant.so_far ∙ none_made f p xs at x made split stays ∙ ap (λ v. v.items ++ map f (filter p (drop (at + 1) xs))) (sym w.names-is) }
+    ]
+
+pub returns : goal.returns
+returns c =
+    let xs = c.args.pages.now in
+    let made = c.loop-number.names.items in
+    sym (c.loop-number.invariant.so_far ∙ ap (λ l. made ++ pages_above c.args.folder.now c.args.head l) (drop_all c.loop-number.number-index xs c.loop-number-test.false) ∙ append-nil made)

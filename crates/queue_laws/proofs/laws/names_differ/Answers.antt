@@ -1,5 +1,0 @@
-use Rattle.queue_laws.proofs.ApartNames.{names_apart}
-use Rattle.queue_laws.proofs.laws.names_differ.Goals as goal
-
-pub returns : goal.returns
-returns c = names_apart

@@ -1,5 +1,0 @@
-use Rattle.queue_laws.proofs.Torn.{open_heads_stand}
-use Rattle.queue_laws.proofs.laws.rows_may_be_torn.Goals as goal
-
-pub returns : goal.returns
-returns c = open_heads_stand

@@ -1,5 +1,0 @@
-use Rattle.queue_laws.proofs.Others.{found_goes_by_pages}
-use Rattle.queue_laws.proofs.laws.what_is_found_goes_by_pages.Goals as goal
-
-pub returns : goal.returns
-returns c = found_goes_by_pages

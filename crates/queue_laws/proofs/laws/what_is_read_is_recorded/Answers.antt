@@ -1,5 +1,0 @@
-use Rattle.queue_laws.proofs.Recording.{read_is_recorded}
-use Rattle.queue_laws.proofs.laws.what_is_read_is_recorded.Goals as goal
-
-pub returns : goal.returns
-returns c = read_is_recorded

@@ -1,8 +1,0 @@
-use Rattle.run_laws.proofs.Running.{stdout_holds, boxes_hold}
-use Rattle.run_laws.proofs.laws.outputs_hold_what_was_told.Goals as goal
-
-pub returns-clause-stdout : goal.returns-clause-stdout
-returns-clause-stdout c = stdout_holds
-
-pub returns-clause-boxes : goal.returns-clause-boxes
-returns-clause-boxes c = boxes_hold

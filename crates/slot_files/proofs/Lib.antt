@@ -1,0 +1,17 @@
+pub mod Altering
+pub mod NewestSlots
+pub mod Saying
+pub mod EachFile
+pub mod PositionBytes
+pub mod PositionReads
+pub mod PositionWrites
+pub mod PathNames
+pub mod SyncedRuns
+pub mod CheckpointBytes
+pub mod CheckpointReads
+pub mod SlotWrites
+pub mod Holding
+pub mod LookedRuns
+pub mod BatchRun
+pub mod OpeningRun
+pub mod Staying

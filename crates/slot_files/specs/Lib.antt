@@ -1,0 +1,11 @@
+pub mod Slots
+pub mod Changes
+pub mod Each
+pub mod Positions
+pub mod PositionWrites
+pub mod Names
+pub mod Checkpoints
+pub mod CheckpointWrites
+pub mod Views
+pub mod Contents
+pub mod Outputs

@@ -1,4 +1,0 @@
-pub mod Altering
-pub mod NewestSlots
-pub mod Saying
-pub mod EachFile

@@ -1,5 +1,0 @@
-use Rattle.store_trait.proofs.Tearing.{part-overlaid}
-use Rattle.store_trait.proofs.laws.what_was_written_stands_there.Goals as goal
-
-pub returns : goal.returns
-returns c = λ at bytes old within. part-overlaid at bytes old within

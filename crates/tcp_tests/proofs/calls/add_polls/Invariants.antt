@@ -1,6 +1,0 @@
-use Rattle.std.proofs.Common.{length}
-use Rattle.in_tcp.specs.Reads.{AllCame}
-use Rattle.tcp_tests.proofs.calls.add_polls.Given as goal
-
-abbrev pub invariant-loop : goal.invariant-loop
-invariant-loop l = AllCame (length l.links.came) l.input.connections
