@@ -8,36 +8,11 @@
 #include <stdio.h>
 #include <stdlib.h>
 #include <string.h>
-#include <sys/resource.h>
 #include <unistd.h>
 
+#include "calls.h"
+
 enum { SLOT = 24, SUMMED = 20 };
-
-static void fail(const char *what) {
-    perror(what);
-    exit(1);
-}
-
-static double processor_time(void) {
-    struct rusage used;
-    getrusage(RUSAGE_SELF, &used);
-    return (used.ru_utime.tv_sec + used.ru_stime.tv_sec) * 1e3 + (used.ru_utime.tv_usec + used.ru_stime.tv_usec) / 1e3;
-}
-
-static uint32_t crc32(const unsigned char *bytes, size_t length) {
-    uint32_t sum = ~0u;
-    for (size_t at = 0; at < length; at++) {
-        sum ^= bytes[at];
-        for (int bit = 0; bit < 8; bit++)
-            sum = sum >> 1 ^ (sum & 1 ? 0xEDB88320u : 0);
-    }
-    return ~sum;
-}
-
-static void put(unsigned char *to, uint64_t number, int bytes) {
-    for (int at = bytes - 1; at >= 0; at--, number >>= 8)
-        to[at] = number;
-}
 
 static void record(int slots, uint64_t turn, uint64_t position) {
     unsigned char slot[SLOT] = {0, 1};

@@ -10,9 +10,10 @@
 #include <stdlib.h>
 #include <string.h>
 #include <sys/file.h>
-#include <sys/resource.h>
 #include <sys/stat.h>
 #include <unistd.h>
+
+#include "calls.h"
 
 enum { BATCH = 125, EVERY = 1024, BLOCK = 65536, SLOT = 48, SUMMED = 44, HEAD = 12, FRAME = 16, NAME = 40, MOST = 1 << 16 };
 
@@ -29,32 +30,6 @@ static uint64_t head_turn, given = 1; /* the number behind the last row that was
 static uint32_t read_page;            /* where the next row is that is to be given */
 static uint64_t read_at = 1, block_at, block_held;
 static unsigned char block[BLOCK];
-
-static void fail(const char *what) {
-    perror(what);
-    exit(1);
-}
-
-static double processor_time(void) {
-    struct rusage used;
-    getrusage(RUSAGE_SELF, &used);
-    return (used.ru_utime.tv_sec + used.ru_stime.tv_sec) * 1e3 + (used.ru_utime.tv_usec + used.ru_stime.tv_usec) / 1e3;
-}
-
-static uint32_t crc32(const unsigned char *bytes, size_t length) {
-    uint32_t sum = ~0u;
-    for (size_t at = 0; at < length; at++) {
-        sum ^= bytes[at];
-        for (int bit = 0; bit < 8; bit++)
-            sum = sum >> 1 ^ (sum & 1 ? 0xEDB88320u : 0);
-    }
-    return ~sum;
-}
-
-static void put(unsigned char *to, uint64_t number, int bytes) {
-    for (int at = bytes - 1; at >= 0; at--, number >>= 8)
-        to[at] = number;
-}
 
 static uint64_t size_of(const unsigned char *element) {
     return ((uint64_t)element[8] << 24 | element[9] << 16 | element[10] << 8 | element[11]) + FRAME;
