@@ -2,12 +2,12 @@
 ghost use Rattle.std.specs.Prelude.{◌≡◌, IfOk};
 ghost use Rattle.event_text.specs.Template.{text, template_parts};
 
-use crate::cases::first_word;
 use crate::{codecs, json, numbers};
 use event_json::{JsonFault, read_json};
 use event_text::{Template, value_text};
 use event_tree::{DeadList, DeadPart, Event, Path, Text, Value};
 use std::alloc::{AllocError, Global};
+use table_rows::first_word;
 
 /// Makes the call of a line on the event, and adds what it answers.
 pub fn call(to: &mut String, event: &mut Event, line: &str) -> Result<(), AllocError> {

@@ -11,8 +11,3 @@ pub fn cases_of(alloc: Global, table: &str) -> Result<Vec<&str>, AllocError> {
     };
     table.split(between).collect(alloc)
 }
-
-/// What stands before the first blank, and what stands behind it.
-pub fn first_word(line: &str) -> (&str, &str) {
-    line.split_once(' ').unwrap_or((line, ""))
-}

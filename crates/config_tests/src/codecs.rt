@@ -1,10 +1,10 @@
 // Events written by the codecs of outputs.
-use crate::cases::first_word;
 use event_text::Template;
 use event_tree::Event;
 use in_lines::{Codec, OutCodec};
 use std::alloc::AllocError;
 use std::str;
+use table_rows::first_word;
 
 /// Adds what an output writes of the event and of a copy of it. Its codec stands in the first word, and its format behind
 /// that.

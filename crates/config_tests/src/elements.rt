@@ -2,28 +2,8 @@
 use crate::json;
 use element_code::{decode, encode};
 use event_tree::Event;
-use hex;
 use std::alloc::{AllocError, Global};
-
-/// The bytes of a line in base 16. Its words follow one another; `COUNT*DIGITS` stands for so many times these bytes.
-pub fn bytes_of(alloc: Global, line: &str) -> Result<Vec<u8>, AllocError> {
-    let mut bytes = Vec::new(alloc);
-    for word in line.split_whitespace() {
-        let (count, digits) = word.split_once('*').unwrap_or(("1", word));
-        add_times(&mut bytes, count.parse::<u32>().unwrap_or(0), digits)?;
-    }
-    Ok(bytes)
-}
-
-fn add_times(to: &mut Vec<u8>, count: u32, digits: &str) -> Result<(), AllocError> {
-    let Ok(piece) = hex::decode(*to.allocator(), digits) else {
-        return Err(AllocError);
-    };
-    for _ in 0..count {
-        to.extend_from_slice(&piece)?;
-    }
-    Ok(())
-}
+use table_rows::bytes_of;
 
 /// Whether an event is written as these bytes, behind others that are there, and has their number as its size.
 fn is_written(alloc: Global, event: &Event, bytes: &[u8]) -> Result<bool, AllocError> {

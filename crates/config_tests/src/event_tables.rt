@@ -2,13 +2,13 @@
 //! Python's `json` (which prefixes of a text it can still complete, and what it reads) and `datetime`.
 
 use crate::cases::cases_of;
-use crate::elements::{self, bytes_of};
-use crate::{calls, json, numbers, paths};
+use crate::{calls, elements, json, numbers, paths};
 use element_code::ElementFault;
 use event_json::JsonFault;
 use event_tree::{Event, PathFault, PutFault};
 use std::alloc::AllocError;
 use std::{fs, io};
+use table_rows::bytes_of;
 
 /// What the cases of a table are.
 #[derive(Clone, Copy)]

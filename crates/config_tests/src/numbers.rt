@@ -2,12 +2,12 @@
 ghost use Rattle.std.specs.Prelude.{◌≡◌, option_map, IsTrue};
 ghost use Rattle.event_tree.specs.NumberTexts.{AreDigits};
 
-use crate::cases::first_word;
 use crate::json;
 use event_json::time_text;
 use event_tree::{Instant, Number, Value};
 use std::alloc::AllocError;
 use std::str;
+use table_rows::first_word;
 
 /// The digits and the places of a number.
 fn parts(number: Option<Number>) -> Option<(i64, u8)>

@@ -1,7 +1,7 @@
 // Paths: their parts, faults and comparisons.
-use crate::cases::first_word;
 use event_tree::Path;
 use std::alloc::AllocError;
+use table_rows::first_word;
 
 /// Adds the parts of a path, each behind `|`, and behind `@` where it is one of metadata; or the text's fault.
 pub fn add_parts(to: &mut String, text: &str) -> Result<(), AllocError> {

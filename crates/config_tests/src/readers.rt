@@ -1,10 +1,10 @@
 // The readers of settings on the settings of a text.
-use crate::cases::first_word;
 use crate::show::{add_array, add_hash, add_number, add_text};
 use config_parse::parse;
 use config_tree::{FromFault, Plugin, SettingFault, SettingValue, Settings};
 use plain_data::{Items, Text};
 use std::alloc::{AllocError, Global};
+use table_rows::first_word;
 
 /// The settings of the last input of a configuration's text, and behind them a second one of the name `word`.
 pub fn settings_of(alloc: Global, text: &str) -> Result<Settings, AllocError> {

@@ -1,12 +1,12 @@
 //! Conditions with many joints in a row, as no recursion walks them.
 
-use crate::cases::first_word;
 use crate::truths;
 use config_parse::parse;
 use config_print::print;
 use config_tree::Config;
 use event_tree::Event;
 use std::alloc::{AllocError, Global};
+use table_rows::first_word;
 
 /// A row of a case `JOINT FIELD COUNT`: so many joints, with the field in front of and behind each. `printed` where its
 /// configuration is printed with a blank around each joint, `copied` where its copy is the same, and what it says of the

@@ -3,7 +3,7 @@ ghost use Rattle.std.specs.Prelude.{IfOk};
 ghost use Rattle.condition_eval.specs.Truths.{truth};
 ghost use Rattle.config_tests.specs.Outcomes.{IsOutcome};
 
-use crate::cases::{cases_of, first_word};
+use crate::cases::cases_of;
 use condition_eval::{Truth, eval, patterns_of};
 use config_parse::parse;
 use config_tree::{Condition, Statement};
@@ -11,6 +11,7 @@ use event_json::{JsonFault, read_json};
 use event_tree::{Event, Instant, Path, Value};
 use pattern_box::PatternFault;
 use std::alloc::{AllocError, Global};
+use table_rows::first_word;
 
 /// What comes of a condition's text.
 #[derive(Drop)]

@@ -39,8 +39,9 @@ mod rows;
 mod timing;
 mod walks;
 
-use std::alloc::{AllocError, Global};
-use std::{env, fs, io};
+use std::alloc::AllocError;
+use std::{env, io};
+use table_rows::{AnswerRows, print_table};
 
 /// Tables of filters.
 const FILTERS: [&str; 29] = [
@@ -108,36 +109,26 @@ fn print_timed(rt: &HostRuntime, words: &[String]) -> io::Result<()> {
 
 fn print_tables(rt: &HostRuntime) -> io::Result<()> {
     for name in &FILTERS {
-        print_table(rt, name, FilterTable::Filters)?;
+        print_table(rt, name, &FilterTable::Filters)?;
     }
     for name in &CHECKS {
-        print_table(rt, name, FilterTable::Checks)?;
+        print_table(rt, name, &FilterTable::Checks)?;
     }
-    print_table(rt, "plans", FilterTable::Plans)?;
-    print_table(rt, "passages", FilterTable::Passages)?;
-    print_table(rt, "walks", FilterTable::Walks)?;
+    print_table(rt, "plans", &FilterTable::Plans)?;
+    print_table(rt, "passages", &FilterTable::Passages)?;
+    print_table(rt, "walks", &FilterTable::Walks)?;
     let answer = racks::answer(rt.alloc())?;
     println!(rt; "# rack\n{answer}")
 }
 
-fn print_table(rt: &HostRuntime, name: &str, of: FilterTable) -> io::Result<()> {
-    let table = fs::read_to_string(rt, name)?;
-    println!(rt; "# {name}")?;
-    for row in table.lines() {
-        let answer = answer(rt.alloc(), row, of)?;
-        println!(rt; "{answer}")?;
+impl AnswerRows for FilterTable {
+    fn add_answer(&self, to: &mut String, row: &str) -> Result<(), AllocError> {
+        match self {
+            FilterTable::Filters => rows::add_answer(to, row),
+            FilterTable::Checks => checks::add_answer(to, row, false),
+            FilterTable::Plans => checks::add_answer(to, row, true),
+            FilterTable::Passages => passages::add_answer(to, row),
+            FilterTable::Walks => walks::add_answer(to, row),
+        }
     }
-    Ok(())
-}
-
-fn answer(alloc: Global, row: &str, of: FilterTable) -> Result<String, AllocError> {
-    let mut answer = String::new(alloc);
-    match of {
-        FilterTable::Filters => rows::add_answer(&mut answer, row)?,
-        FilterTable::Checks => checks::add_answer(&mut answer, row, false)?,
-        FilterTable::Plans => checks::add_answer(&mut answer, row, true)?,
-        FilterTable::Passages => passages::add_answer(&mut answer, row)?,
-        FilterTable::Walks => walks::add_answer(&mut answer, row)?,
-    }
-    Ok(answer)
 }

@@ -1,8 +1,9 @@
 // Polls of a TCP input over connections in memory.
 use crate::connection_calls::add_calls;
-use crate::words::{bytes_of, part, small_number};
+use crate::words::small_number;
 use io_memory::{ConnectionEvent, MemoryLinks, Script, SourceEvent};
 use std::alloc::{AllocError, Global};
+use table_rows::{bytes_of, part};
 
 /// Adds what the calls of a row answer.
 pub fn add_case(to: &mut String, row: &str) -> Result<(), AllocError> {

@@ -32,7 +32,8 @@ mod reads;
 mod words;
 
 use std::alloc::AllocError;
-use std::{fs, io};
+use std::io;
+use table_rows::{AnswerRows, print_tables};
 
 /// What the rows of a table are.
 #[derive(Clone, Copy)]
@@ -50,24 +51,17 @@ const TABLES: [(&str, InputTable); 4] = [
     ("polls", InputTable::Polls),
 ];
 
-fn main(rt: HostRuntime) -> io::Result<()> {
-    for (name, table) in &TABLES {
-        let rows = fs::read_to_string(&rt, *name)?;
-        println!(rt; "# {name}")?;
-        for row in rows.lines() {
-            let mut answer = String::new(rt.alloc());
-            add_answer(&mut answer, *table, row)?;
-            println!(rt; "{answer}")?;
+impl AnswerRows for InputTable {
+    fn add_answer(&self, to: &mut String, row: &str) -> Result<(), AllocError> {
+        match self {
+            InputTable::Reads => reads::add_read(to, row),
+            InputTable::Stops => reads::add_stops(to, row),
+            InputTable::Paths => paths::add_watched(to, row),
+            InputTable::Polls => connection_rows::add_case(to, row),
         }
     }
-    Ok(())
 }
 
-fn add_answer(to: &mut String, table: InputTable, row: &str) -> Result<(), AllocError> {
-    match table {
-        InputTable::Reads => reads::add_read(to, row),
-        InputTable::Stops => reads::add_stops(to, row),
-        InputTable::Paths => paths::add_watched(to, row),
-        InputTable::Polls => connection_rows::add_case(to, row),
-    }
+fn main(rt: HostRuntime) -> io::Result<()> {
+    print_tables(&rt, &TABLES)
 }

@@ -1,11 +1,12 @@
 // The files that a path with `*` watches.
-use crate::words::{number, part};
+use crate::words::number;
 use in_file::watched_paths;
 use io_memory::{MemoryFiles, Script, Showing};
 use io_traits::{Files, ListFault};
 use plain_data::{Items, Names, Text};
 use std::alloc::{AllocError, Global};
 use store_memory::FileTable;
+use table_rows::part;
 
 /// Adds the files that an input of a row's path watches.
 pub fn add_watched(to: &mut String, row: &str) -> Result<(), AllocError> {

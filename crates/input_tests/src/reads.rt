@@ -1,6 +1,6 @@
 // Polls of a watched file, and what may be recorded at each stop.
 use crate::calls::{PATH, SLOT, add_runs};
-use crate::words::{bytes_of, files_with, first_word, number, part};
+use crate::words::{files_with, number};
 use in_file::FilePlan;
 use in_lines::Codec;
 use io_memory::{MemoryFiles, Script, Showing};
@@ -8,6 +8,7 @@ use io_traits::{Failed, Store};
 use slot_files::{Recorded, read_position};
 use std::alloc::{AllocError, Global};
 use store_memory::MemoryStore;
+use table_rows::{bytes_of, first_word, part};
 
 /// What a row is tried on.
 struct ReadCase {

@@ -1,6 +1,6 @@
 // Calls of connections, and what those do that make them.
 use crate::answers::CallAnswer;
-use crate::words::{first_word, number};
+use crate::words::number;
 use io_real::TcpLinks;
 use io_traits::{Come, Failed, Step};
 use std::alloc::Global;
@@ -8,6 +8,7 @@ use std::io::{self, Write};
 use std::net::{Net, TcpListener, TcpStream};
 use std::thread;
 use std::time::Duration;
+use table_rows::first_word;
 
 // How long a read waits for bytes that were sent, in milliseconds.
 const PATIENCE: u32 = 2_000;

@@ -1,9 +1,10 @@
 // What other programs do with files.
 use crate::answers::CallAnswer;
-use crate::words::{first_word, number};
+use crate::words::number;
 use std::fs::{self, File};
 use std::io;
 use std::os::unix::fs::symlink;
+use table_rows::first_word;
 
 /// Does what a call says, and answers whether that worked.
 pub fn machine_answer(rt: &HostRuntime, call: &str) -> io::Result<CallAnswer> {

@@ -24,7 +24,8 @@ use std::io::{self, ErrorKind};
 use std::{env, fs, process};
 use store_memory::MemoryStore;
 use stores::{files_answer, store_answer};
-use words::{first_word, with_marks};
+use table_rows::first_word;
+use words::with_marks;
 
 /// The objects that are called.
 struct Objects<'a> {

@@ -4,13 +4,14 @@ ghost use Rattle.io_traits.specs.Reads.{file_length};
 ghost use Rattle.store_memory.specs.Keeping.{reads_of};
 
 use crate::answers::CallAnswer;
-use crate::words::{first_word, number};
+use crate::words::number;
 use io_memory::Script;
 use io_traits::Failed;
 use plain_data::{Items, Text};
 use std::alloc::{AllocError, Global};
 use std::io;
 use store_memory::{FileTable, MemoryStore};
+use table_rows::first_word;
 
 // What a stop leaves of a file that is missing.
 const NO_FILE: &str = "no file";

@@ -1,11 +1,12 @@
 // Calls of stores on the disk, and of files that other programs write.
 use crate::answers::CallAnswer;
 use crate::machine::greatest_length;
-use crate::words::{first_word, number};
+use crate::words::number;
 use io_real::{FileStore, RealFiles};
 use io_traits::{Files, Store, append_and_settle, append_to_tail, cut_and_settle, settle_and_mark};
 use std::alloc::Global;
 use std::io;
+use table_rows::first_word;
 
 /// What a call of a store answers.
 pub fn store_answer<'a>(

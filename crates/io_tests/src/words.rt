@@ -1,11 +1,6 @@
 // The words of a line.
 use std::alloc::{AllocError, Global};
 
-/// What stands before the first blank, and what stands behind it.
-pub fn first_word(line: &str) -> (&str, &str) {
-    line.split_once(' ').unwrap_or((line, ""))
-}
-
 /// A number; one that isn't read is 0.
 pub fn number(word: &str) -> u64 {
     word.parse().unwrap_or(0)

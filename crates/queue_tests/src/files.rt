@@ -1,10 +1,10 @@
 // Stores with one file, and faults as they are printed.
-use crate::words::first_number;
 use io_memory::Script;
 use io_traits::{Damage, PageState, QueueFault};
 use plain_data::{Items, Text};
 use std::alloc::{AllocError, Global};
 use store_memory::{FileTable, MemoryStore};
+use table_rows::first_number;
 
 /// A store with one file, of which the call of this number fails.
 pub fn store_with(

@@ -1,7 +1,7 @@
 // CRC-32 and frames of a row's bytes.
-use crate::words::{add_bytes, bytes_of};
 use crc_frame::{crc32, unframe};
 use std::alloc::AllocError;
+use table_rows::{add_bytes, bytes_of};
 
 /// Adds the CRC-32 of the bytes of a row, and what they are as a frame.
 pub fn add_read(to: &mut String, row: &str) -> Result<(), AllocError> {

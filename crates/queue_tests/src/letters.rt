@@ -2,7 +2,6 @@
 use crate::files::store_with;
 use crate::pages::add_json;
 use crate::slots::length_of;
-use crate::words::{add_bytes, bytes_of, first_number, first_word};
 use dead_letters::{
     Counted, DeadLetter, ReadFault, Segments, count_segments, read_records, read_segments, shed,
     write_record,
@@ -10,6 +9,7 @@ use dead_letters::{
 use settings_lines::Policy;
 use std::alloc::{AllocError, Global};
 use store_memory::MemoryStore;
+use table_rows::{add_bytes, bytes_of, first_number, first_word};
 
 /// The name of the file that names the segments of a queue.
 const NAME: &str = "dead.seg";

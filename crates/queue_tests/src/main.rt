@@ -57,10 +57,10 @@ mod queues;
 mod senders;
 mod slots;
 mod tools;
-mod words;
 
 use std::alloc::AllocError;
-use std::{fs, io};
+use std::io;
+use table_rows::{AnswerRows, print_tables};
 
 /// What the rows of a table are.
 #[derive(Clone, Copy)]
@@ -116,42 +116,35 @@ const TABLES: [(&str, QueueTable); 24] = [
     ("frames", QueueTable::Frames),
 ];
 
-fn main(rt: HostRuntime) -> io::Result<()> {
-    for (name, table) in &TABLES {
-        let rows = fs::read_to_string(&rt, *name)?;
-        println!(rt; "# {name}")?;
-        for row in rows.lines() {
-            let mut answer = String::new(rt.alloc());
-            add_answer(&mut answer, *table, row)?;
-            println!(rt; "{answer}")?;
+impl AnswerRows for QueueTable {
+    fn add_answer(&self, to: &mut String, row: &str) -> Result<(), AllocError> {
+        match self {
+            QueueTable::Pages => pages::add_opened(to, u64::MAX, row),
+            QueueTable::Failing => pages::add_failing(to, row),
+            QueueTable::Appends => pages::add_appended(to, row),
+            QueueTable::Slots => slots::add_newest(to, row),
+            QueueTable::Turns => slots::add_written(to, row),
+            QueueTable::Names => outputs::add_name(to, row),
+            QueueTable::Positions => outputs::add_position(to, row),
+            QueueTable::Outputs => outputs::add_opened(to, row),
+            QueueTable::Batches => outputs::add_appended(to, row),
+            QueueTable::Images => outputs::add_image(to, row),
+            QueueTable::Letters => letters::add_read(to, row),
+            QueueTable::Sheds => letters::add_shed(to, row),
+            QueueTable::Segments => letters::add_counted(to, row),
+            QueueTable::Counts => letters::add_written(to, row),
+            QueueTable::Queues => queues::add_run(to, row),
+            QueueTable::Stops => queues::add_stops(to, row),
+            QueueTable::Senders => senders::add_runs(to, row),
+            QueueTable::Runs => open_queues::add_run(to, row),
+            QueueTable::Halts => open_queues::add_halts(to, row),
+            QueueTable::Faults => open_queues::add_faults(to, row),
+            QueueTable::Tools => tools::add_call(to, row),
+            QueueTable::Frames => frames::add_read(to, row),
         }
     }
-    Ok(())
 }
 
-fn add_answer(to: &mut String, table: QueueTable, row: &str) -> Result<(), AllocError> {
-    match table {
-        QueueTable::Pages => pages::add_opened(to, u64::MAX, row),
-        QueueTable::Failing => pages::add_failing(to, row),
-        QueueTable::Appends => pages::add_appended(to, row),
-        QueueTable::Slots => slots::add_newest(to, row),
-        QueueTable::Turns => slots::add_written(to, row),
-        QueueTable::Names => outputs::add_name(to, row),
-        QueueTable::Positions => outputs::add_position(to, row),
-        QueueTable::Outputs => outputs::add_opened(to, row),
-        QueueTable::Batches => outputs::add_appended(to, row),
-        QueueTable::Images => outputs::add_image(to, row),
-        QueueTable::Letters => letters::add_read(to, row),
-        QueueTable::Sheds => letters::add_shed(to, row),
-        QueueTable::Segments => letters::add_counted(to, row),
-        QueueTable::Counts => letters::add_written(to, row),
-        QueueTable::Queues => queues::add_run(to, row),
-        QueueTable::Stops => queues::add_stops(to, row),
-        QueueTable::Senders => senders::add_runs(to, row),
-        QueueTable::Runs => open_queues::add_run(to, row),
-        QueueTable::Halts => open_queues::add_halts(to, row),
-        QueueTable::Faults => open_queues::add_faults(to, row),
-        QueueTable::Tools => tools::add_call(to, row),
-        QueueTable::Frames => frames::add_read(to, row),
-    }
+fn main(rt: HostRuntime) -> io::Result<()> {
+    print_tables(&rt, &TABLES)
 }

@@ -2,11 +2,11 @@
 
 use crate::calls::add_runs;
 use crate::queues::{CHOICES, name_of, parts, store_of};
-use crate::words::first_number;
 use crc_frame::crc32;
 use queue_core::Limits;
 use std::alloc::AllocError;
 use store_memory::{MemoryStore, StoreCall};
+use table_rows::first_number;
 
 /// How many moments of a store are tried, and how many calls as the one that fails.
 const CALLS: u64 = 400;

@@ -1,12 +1,12 @@
 // Output files and their position files, with calls that fail.
 use crate::files::add_fault;
-use crate::words::{add_bytes, bytes_of, first_number, first_word};
 use io_memory::Script;
 use io_traits::{Failed, QueueFault, Store};
 use plain_data::{Items, Text};
 use slot_files::{OutFile, PositionOf, Recorded, position_name, read_position};
 use std::alloc::{AllocError, Global};
 use store_memory::{FileTable, MemoryStore};
+use table_rows::{add_bytes, bytes_of, first_number, first_word};
 
 /// The name of the output file.
 const PATH: &str = "out.log";

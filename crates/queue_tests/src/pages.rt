@@ -1,6 +1,5 @@
 // Page files of a queue, with calls that fail.
 use crate::files::{add_fault, state_of, store_with};
-use crate::words::{add_bytes, bytes_of, first_number, first_word};
 use crc_frame::frame;
 use element_code::{Origin, encode, encode_row};
 use event_json::write_json;
@@ -10,6 +9,7 @@ use queue_page::{BLOCK_LEN, Page, PageBuffer, PageRow, frame_row};
 use std::alloc::{AllocError, Global};
 use std::str;
 use store_memory::MemoryStore;
+use table_rows::{add_bytes, bytes_of, first_number, first_word};
 
 /// The name of the file.
 const NAME: &str = "page.0";

@@ -4,7 +4,6 @@ ghost use Rattle.dead_letters.specs.Appends.{AllFit};
 
 use crate::files::add_fault;
 use crate::letters::{add_said, policy_of};
-use crate::words::{bytes_of, first_number, first_word};
 use dead_letters::{DeadFault, DeadLetter, DeadLetters, Letters, Shedding, read_records};
 use io_memory::Script;
 use io_traits::{ListFault, QueueFault, Store};
@@ -12,6 +11,7 @@ use plain_data::{Items, Names, Text};
 use settings_lines::Policy;
 use std::alloc::{AllocError, Global};
 use store_memory::{FileTable, MemoryStore};
+use table_rows::{bytes_of, first_number, first_word};
 
 /// The folder of the queue.
 pub const FOLDER: &str = "q/";

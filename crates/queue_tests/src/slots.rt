@@ -4,11 +4,11 @@ ghost use Rattle.io_traits.specs.Reads.{file_length};
 ghost use Rattle.store_memory.specs.Keeping.{reads_of};
 
 use crate::files::{state_of, store_with};
-use crate::words::{add_bytes, bytes_of, first_number};
 use io_traits::PageState;
 use slot_files::{Checkpoint, Slots};
 use std::alloc::AllocError;
 use store_memory::MemoryStore;
+use table_rows::{add_bytes, bytes_of, first_number};
 
 /// The name of the file.
 const NAME: &str = "checkpoint.head";

@@ -1,6 +1,5 @@
 // The tools for queues.
 
-use crate::words::{bytes_of, first_word};
 use crc_frame::crc32;
 use io_memory::{MemorySink, Script};
 use io_traits::Store;
@@ -9,6 +8,7 @@ use pq_tools::{ToolStatus, pqcheck, pqrepair};
 use std::alloc::{AllocError, Global};
 use std::str;
 use store_memory::{FileTable, MemoryStore};
+use table_rows::{bytes_of, first_word};
 
 /// The folders whose files are shown.
 const FOLDERS: [&str; 2] = ["data/main.repaired/", "data/main/"];

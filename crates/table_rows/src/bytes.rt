@@ -1,26 +1,23 @@
-// The words, numbers and bytes of a row.
+// Bytes in base 16.
 use hex;
 use std::alloc::{AllocError, Global};
 
-/// What stands before the first blank, and what stands behind it.
-pub fn first_word(line: &str) -> (&str, &str) {
-    line.split_once(' ').unwrap_or((line, ""))
-}
-
-/// The first number of a line, 0 where there is none, and what stands behind it.
-pub fn first_number(line: &str) -> (u64, &str) {
-    let (word, rest) = first_word(line);
-    (word.parse().unwrap_or(0), rest)
-}
-
-/// The bytes that a line has in base 16.
+/// The bytes of a line in base 16. Its words follow one another, and so do what `+` joins; `COUNT*DIGITS` stands for so many times
+/// these bytes.
 pub fn bytes_of(alloc: Global, line: &str) -> Result<Vec<u8>, AllocError> {
     let mut bytes = Vec::new(alloc);
     for word in line.split_whitespace() {
-        let (count, digits) = word.split_once('*').unwrap_or(("1", word));
-        add_times(&mut bytes, count.parse::<u32>().unwrap_or(0), digits)?;
+        add_word(&mut bytes, word)?;
     }
     Ok(bytes)
+}
+
+fn add_word(to: &mut Vec<u8>, word: &str) -> Result<(), AllocError> {
+    for piece in word.split('+') {
+        let (count, digits) = piece.split_once('*').unwrap_or(("1", piece));
+        add_times(to, count.parse::<u32>().unwrap_or(0), digits)?;
+    }
+    Ok(())
 }
 
 fn add_times(to: &mut Vec<u8>, count: u32, digits: &str) -> Result<(), AllocError> {
