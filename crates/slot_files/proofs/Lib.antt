@@ -2,6 +2,7 @@ pub mod Altering
 pub mod NewestSlots
 pub mod Saying
 pub mod EachFile
+pub mod SlotBytes
 pub mod PositionBytes
 pub mod PositionReads
 pub mod PositionWrites

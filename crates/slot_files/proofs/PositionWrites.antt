@@ -21,7 +21,7 @@ module _ (turn position : ℕ) (turn_fits : turn < 2 ^ 64) (position_fits : posi
   slot = slot_spelling turn position
 
   slot_says : position_said slot ≡ Position turn position
-  slot_says = ap₂ Position (spelling_is_slot turn position turn_fits).turn_is (read_position turn position position_fits)
+  slot_says = ap₂ Position (spelling_is_slot turn position turn_fits).turn_is (read_position turn position turn_fits position_fits)
 
   pub written_records : (old : List ℕ) → IsNextTurn (recorded_in old) turn → recorded_in (with_slot (place_of 24 turn) slot old) ≡ Position turn position
   written_records old comes = written_said position_said damaged_at_first Nothing 24 (omega arith) turn slot (spelling_is_slot turn position turn_fits) old (comes_next old turn comes) ∙ slot_says
