@@ -138,7 +138,7 @@ module _ (width turn : ℕ) (slot : List ℕ) (wide : 0 < width) (is : IsSlotOf 
   slot_long : length slot ≡ width
   slot_long = slot_length width (place_of width turn) slot is.intact
 
-  may_hold : (file : Option (List ℕ)) (f : FileImage) → TornFile (place_of width turn) slot (at_rest file) f → NoChance (passes (is_slot width)) f → MayHoldSlot width (place_of width turn) slot (bytes_of file) (bytes_of f.file)
+  pub may_hold : (file : Option (List ℕ)) (f : FileImage) → TornFile (place_of width turn) slot (at_rest file) f → NoChance (passes (is_slot width)) f → MayHoldSlot width (place_of width turn) slot (bytes_of file) (bytes_of f.file)
   may_hold file f torn chance = record {
     before = torn.torn.before;
     behind = subst (λ n. drop (place_of width turn + n) (bytes_of f.file) ≡ drop (place_of width turn + n) (bytes_of file)) slot_long torn.torn.after;
