@@ -1,15 +1,13 @@
 -- The bytes of a slot of `dead.seg`, and what such a file says.
-use Rattle.std.proofs.Common.{◌≡◌, ◌≢◌, inl, inr, ℕ, ◌<◌, ◌≤◌, ◌^◌, nat_lt, true, false, List, length, take, drop, Option, Some, None, refl, sym, ap, ◌∙◌, arith, subst}
+use Rattle.std.proofs.Common.{◌≡◌, ◌≢◌, inl, inr, ℕ, ◌<◌, ◌≤◌, ◌^◌, nat_lt, false, List, length, take, drop, Option, Some, None, refl, sym, ap, ◌∙◌, arith, subst}
 use Rattle.std.proofs.Math.Path.{ap₂}
-use Rattle.std.proofs.lemmas.Bool.{and_from, eq-eqb, cond-true, cond-false, cases_Bool}
+use Rattle.std.proofs.lemmas.Bool.{cond-true, cond-false, cases_Bool}
 use Rattle.std.proofs.lemmas.Bool.Decides.{nat_tests}
-use Rattle.std.proofs.lemmas.Nat.{mod_below}
 use Rattle.byteorder.specs.Numbers.{big_number-reads_back}
-use Rattle.crc_frame.specs.Crc.{is_checked}
-use Rattle.crc_frame.specs.Slots.{place_of, turn_of, is_slot, next_turn, IsSlotOf}
-use Rattle.crc_frame.proofs.CrcLemmas.{is_checked-append}
+use Rattle.crc_frame.specs.Slots.{turn_of, next_turn, IsSlotOf}
 use Rattle.slot_files.specs.Slots.{newest_bytes, ComesNext, next, broken_slot}
-use Rattle.slot_files.proofs.Saying.{by_slot, by_none, by_broken, broken_differs, slot_is_long}
+use Rattle.slot_files.proofs.SlotBytes.{is_slot_of}
+use Rattle.slot_files.proofs.Saying.{by_slot, without_slot, broken_differs, slot_has_room}
 use Rattle.dead_letters.specs.Segments.{segments, slot_body, slot_spelling, AreSegments, first_of, last_of, length_of, said_by, slot_says, damaged_at_first, counted_in, HasRoom, DamagesDiffer, CountedHaveRoom}
 use Rattle.dead_letters.specs.declared.segments.Segments.{Segments}
 use Rattle.dead_letters.specs.declared.segments.Counted.TheVariants.{Nothing, Count, Damaged}
@@ -20,10 +18,6 @@ module _ (turn : ℕ) (s : Segments) where
   pub length-spelling : length (slot_spelling turn s) ≡ 32
   unfolding slot_spelling slot_body
   length-spelling = refl
-
-  read_turn : turn < 2 ^ 64 → turn_of (slot_spelling turn s) ≡ turn
-  unfolding turn_of slot_spelling slot_body
-  read_turn fits = big_number-reads_back 8 turn (drop 10 (slot_spelling turn s)) fits
 
   read_first : s.first < 2 ^ 32 → first_of (slot_spelling turn s) ≡ s.first
   unfolding first_of slot_spelling slot_body
@@ -37,17 +31,10 @@ module _ (turn : ℕ) (s : Segments) where
   unfolding length_of slot_spelling slot_body
   read_length fits = big_number-reads_back 8 s.length (drop 26 (slot_spelling turn s)) fits
 
-  checked : is_checked (slot_spelling turn s) ≡ true
-  unfolding slot_spelling
-  checked = is_checked-append (slot_body turn s)
-
   -- it is an intact slot at the place of its turn
   pub spelling_is_slot : turn < 2 ^ 64 → IsSlotOf 32 turn (slot_spelling turn s)
-  unfolding is_slot
-  spelling_is_slot fits = record {
-    intact = and_from _ _ (and_from _ _ (eq-eqb _ _ length-spelling) checked) (eq-eqb _ _ (ap (place_of 32) (sym (read_turn fits))));
-    turn_is = read_turn fits;
-  }
+  unfolding slot_spelling slot_body turn_of
+  spelling_is_slot fits = is_slot_of 32 turn (slot_body turn s) refl (big_number-reads_back 8 turn (drop 10 (slot_spelling turn s)) fits)
 
   pub spelling_says : turn < 2 ^ 64 → AreSegments s → slot_says (slot_spelling turn s) ≡ Count turn s
   spelling_says fits are =
@@ -56,7 +43,7 @@ module _ (turn : ℕ) (s : Segments) where
       let same : segments (first_of (slot_spelling turn s)) (last_of (slot_spelling turn s)) (length_of (slot_spelling turn s)) ≡ s =
       ap (λ f. segments f (last_of (slot_spelling turn s)) (length_of (slot_spelling turn s))) (read_first are.first)
       ∙ ap (λ l. segments s.first l (length_of (slot_spelling turn s))) (read_last are.last) ∙ ap (segments s.first s.last) (read_length are.length) in
-      ap₂ said_by (read_turn fits) same ∙ cond-false _ _ _ test
+      ap₂ said_by (spelling_is_slot fits).turn_is same ∙ cond-false _ _ _ test
 
 -- ---- what is damaged differs, and what counts has room
 
@@ -87,18 +74,14 @@ said_damage turn found expected s is = elim (cases_Bool (nat_lt s.last s.first))
 damaged_by : (file : List ℕ) (found expected : ℕ) (slot : Option (List ℕ)) → newest_bytes 32 file ≡ slot → counted_in file ≡ Damaged found expected → found ≢ expected
 damaged_by file found expected (Some slot) is said =
     said_damage (turn_of slot) found expected (segments (first_of slot) (last_of slot) (length_of slot)) (sym (by_slot slot_says damaged_at_first Nothing 32 file slot is) ∙ said)
-damaged_by file found expected None is said = elim (cases_Bool (nat_lt 32 (length file))) [
-  | inl long ↦ λ same.
-      let longer : 32 < length file = grind (arith, nat_tests, long) in
+damaged_by file found expected None is said = elim (without_slot slot_says damaged_at_first Nothing 32 file is) [
+  | inl few ↦ let other : Nothing ≡ Damaged found expected = sym few.1 ∙ said in λ same. cc
+  | inr many ↦ λ same.
       let pair = broken_slot (take 32 file) in
-      let these : Damaged pair.0 pair.1 ≡ Damaged found expected = sym (by_broken slot_says damaged_at_first Nothing 32 file is longer) ∙ said in
+      let these : Damaged pair.0 pair.1 ≡ Damaged found expected = sym many.1 ∙ said in
       let one : pair.0 ≡ found = cc in
       let other : pair.1 ≡ expected = cc in
-      broken_differs 32 file (omega arith) longer is (one ∙ same ∙ sym other)
-  | inr not_long ↦
-      let shorter : length file ≤ 32 = grind (arith, nat_tests, not_long) in
-      let other : Nothing ≡ Damaged found expected = sym (by_none slot_says damaged_at_first Nothing 32 file is shorter) ∙ said in
-      λ same. cc
+      broken_differs 32 file (omega arith) many.0 is (one ∙ same ∙ sym other)
 ]
 
 pub damages_differ : DamagesDiffer
@@ -112,24 +95,16 @@ none_counts turn s e = cc
 
 -- a file without an intact slot counts no segments
 no_slot : (file : List ℕ) (turn : ℕ) (s : Segments) → newest_bytes 32 file ≡ None → counted_in file ≡ Count turn s → ⊥
-no_slot file turn s is said = elim (cases_Bool (nat_lt 32 (length file))) [
-  | inl long ↦
-      let longer : 32 < length file = grind (arith, nat_tests, long) in
-      let other : damaged_at_first (broken_slot (take 32 file)) ≡ Count turn s = sym (by_broken slot_says damaged_at_first Nothing 32 file is longer) ∙ said in
-      no_count (broken_slot (take 32 file)) turn s other
-  | inr not_long ↦
-      let shorter : length file ≤ 32 = grind (arith, nat_tests, not_long) in
-      let other : Nothing ≡ Count turn s = sym (by_none slot_says damaged_at_first Nothing 32 file is shorter) ∙ said in
-      none_counts turn s other
+no_slot file turn s is said = elim (without_slot slot_says damaged_at_first Nothing 32 file is) [
+  | inl few ↦ none_counts turn s (sym few.1 ∙ said)
+  | inr many ↦ no_count (broken_slot (take 32 file)) turn s (sym many.1 ∙ said)
 ]
 
 counted_by : (file : List ℕ) (turn : ℕ) (s : Segments) (slot : Option (List ℕ)) → newest_bytes 32 file ≡ slot → counted_in file ≡ Count turn s → HasRoom file s
-counted_by file turn s (Some slot) is said =
-    let long = slot_is_long 32 file slot (omega arith) is in
-    record {
-      order = said_order (turn_of slot) turn (segments (first_of slot) (last_of slot) (length_of slot)) s (sym (by_slot slot_says damaged_at_first Nothing 32 file slot is) ∙ said);
-      room = λ next. (let half = mod_below next 2 (omega arith) in omega (arith, long, half));
-    }
+counted_by file turn s (Some slot) is said = record {
+  order = said_order (turn_of slot) turn (segments (first_of slot) (last_of slot) (length_of slot)) s (sym (by_slot slot_says damaged_at_first Nothing 32 file slot is) ∙ said);
+  room = λ later. slot_has_room 32 file slot later (omega arith) is;
+}
 counted_by file turn s None is said = absurd (no_slot file turn s is said)
 
 pub counted_have_room : CountedHaveRoom

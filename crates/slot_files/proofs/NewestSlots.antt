@@ -79,7 +79,7 @@ pub record Within (width : ℕ) (file : List ℕ) (slot : Slot) : Type 0 where
   pub low : slot.place ≤ width
   pub inside : slot.place + width ≤ length file
 
-low_place : (width k : ℕ) → k < 2 → width * k ≤ width
+pub low_place : (width k : ℕ) → k < 2 → width * k ≤ width
 low_place width k few = elim (cases_eq k 0) [
   | inl zero ↦ let none : width * k ≡ 0 = ap (λ (n : ℕ). width * n) zero ∙ omega arith in omega (arith, none)
   | inr some ↦

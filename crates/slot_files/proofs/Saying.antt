@@ -1,9 +1,10 @@
 -- What a file of two slots says.
-use Rattle.std.proofs.Common.{◌≡◌, ◌≢◌, inl, inr, ⊎_elim, ℕ, ◌-◌, ◌<◌, ◌≤◌, ◌+◌, nat_lt, true, false, List, length, take, drop, Option, Some, None, refl, sym, ap, ◌∙◌, subst, arith, length-take, take-take}
+use Rattle.std.proofs.Common.{◌≡◌, ◌≢◌, ◌⊎◌, inl, inr, ⊎_elim, ℕ, ◌-◌, ◌%◌, ◌<◌, ◌≤◌, ◌+◌, nat_lt, true, false, List, length, take, drop, Option, Some, None, refl, sym, ap, ◌∙◌, subst, arith, length-take, take-take}
 use Rattle.std.proofs.Math.Path.{ap₂}
 use Rattle.std.proofs.lemmas.List.{take_rest}
 use Rattle.std.proofs.lemmas.Bool.{cond-true, cond-false, cases_Bool, eq-eqb, ne_eqb, false≢true}
 use Rattle.std.proofs.lemmas.Bool.Decides.{nat_tests}
+use Rattle.std.proofs.lemmas.Nat.{mod_below}
 use Rattle.byteorder.specs.Endian.{big_number}
 use Rattle.crc_frame.specs.Crc.{crc32, is_checked}
 use Rattle.io_traits.specs.Reads.{bytes_of}
@@ -15,7 +16,7 @@ use Rattle.io_traits.proofs.Moments.{weaker}
 use Rattle.crc_frame.proofs.TornSlots.{newest_stands_whole}
 use Rattle.slot_files.specs.Changes.{Alters}
 use Rattle.slot_files.specs.Slots.{newest_bytes, ComesNext, first, next, OldOrNew, OldOrNewSaid, broken_slot, said_by, said}
-use Rattle.slot_files.proofs.NewestSlots.{found, front_says, written_newest, misplaced_turn_is_odd}
+use Rattle.slot_files.proofs.NewestSlots.{found, low_place, front_says, written_newest, misplaced_turn_is_odd}
 
 module _ {R : Type 0} (says : List ℕ → R) (broken : ℕ × ℕ → R) (nothing : R) (width : ℕ) where
   -- by its newest slot, or none
@@ -32,20 +33,25 @@ module _ {R : Type 0} (says : List ℕ → R) (broken : ℕ × ℕ → R) (nothi
       let longer : nat_lt width (length file) ≡ true = grind (arith, nat_tests, long) in
       ap (said_by says broken nothing width file) is ∙ cond-true _ _ _ longer
 
+  -- a file without one is no longer than a slot, or damaged
+  pub without_slot : (file : List ℕ) → newest_bytes width file ≡ None
+      → ((length file ≤ width) × (said says broken nothing width file ≡ nothing)) ⊎ ((width < length file) × (said says broken nothing width file ≡ broken (broken_slot (take width file))))
+  without_slot file is = elim (cases_Bool (nat_lt width (length file))) [
+    | inl long ↦ let longer : width < length file = grind (arith, nat_tests, long) in inr (longer, by_broken file is longer)
+    | inr not_long ↦ let shorter : length file ≤ width = grind (arith, nat_tests, not_long) in inl (shorter, by_none file is shorter)
+  ]
+
   -- the front of a file is enough
   pub front_said : 0 < width → (file : List ℕ) → said says broken nothing width (take (width + width) file) ≡ said says broken nothing width file
   front_said wide file = front_by (newest_bytes width file) refl
     where
       front_by : (found : Option (List ℕ)) → newest_bytes width file ≡ found → said says broken nothing width (take (width + width) file) ≡ said says broken nothing width file
       front_by (Some slot) is = by_slot (take (width + width) file) slot (front_says width file wide ∙ is) ∙ sym (by_slot file slot is)
-      front_by None is = elim (cases_Bool (nat_lt width (length file))) [
-        | inl long ↦
-            let longer : width < length file = grind (arith, nat_tests, long) in
-            by_broken (take (width + width) file) (front_says width file wide ∙ is) (omega (arith, wide, longer, length-take (width + width) file))
-            ∙ ap (λ slot. broken (broken_slot slot)) (take-take width (width + width) file (omega arith)) ∙ sym (by_broken file is longer)
-        | inr not_long ↦
-            let shorter : length file ≤ width = grind (arith, nat_tests, not_long) in
-            by_none (take (width + width) file) (front_says width file wide ∙ is) (omega (arith, shorter, length-take (width + width) file)) ∙ sym (by_none file is shorter)
+      front_by None is = elim (without_slot file is) [
+        | inl few ↦ by_none (take (width + width) file) (front_says width file wide ∙ is) (omega (arith, few.0, length-take (width + width) file)) ∙ sym few.1
+        | inr many ↦
+            by_broken (take (width + width) file) (front_says width file wide ∙ is) (omega (arith, wide, many.0, length-take (width + width) file))
+            ∙ ap (λ slot. broken (broken_slot slot)) (take-take width (width + width) file (omega arith)) ∙ sym many.1
       ]
 
   -- ---- a slot that is written
@@ -134,3 +140,7 @@ slot_is_long width file slot wide is =
     let f = found width file slot wide is in
     let whole = newest_stands_whole width file f.newest wide f.is.is in
     omega (arith, whole.within)
+
+-- so that each slot that comes next has room
+pub slot_has_room : (width : ℕ) (file slot : List ℕ) (later : ℕ) → 0 < width → newest_bytes width file ≡ Some slot → place_of width later ≤ length file
+slot_has_room width file slot later wide is = omega (arith, slot_is_long width file slot wide is, low_place width (later % 2) (mod_below later 2 (omega arith)))
