@@ -11,7 +11,6 @@ pub mod Joining
 pub mod AppendRun
 pub mod Turns
 pub mod AppendedReads
-pub mod NumberTexts
 pub mod Cutting
 pub mod OpenedReads
 pub mod Listed

@@ -7,7 +7,7 @@ ghost use Rattle.dead_letters.specs.Queues.{name_in, segment, segment_name};
 use crate::queue::segment_name;
 use crate::segments::Segments;
 use event_tree::Text;
-use itoa::Buffer;
+use slot_files::number_of;
 use std::alloc::{AllocError, Global};
 
 /// The files of segments that are none of these, by the last parts of the names in a folder.
@@ -67,20 +67,4 @@ fn later_number_in(part: &str) -> Option<u32>
     let digits = behind.strip_suffix(".log")?;
     let number = number_of(digits)?;
     if number == 0 { None } else { Some(number) }
-}
-
-/// The number below 2^32 whose digits these are, none of them a zero in front.
-fn number_of(digits: &str) -> Option<u32>
-    ensures some { IfSome result (λ n. digits.now ≡ decimal n) }
-    ensures fits { IfSome result (λ n. n < 2 ^ 32) }
-    ensures all { (n : ℕ) → n < 2 ^ 32 → digits.now ≡ decimal n → result ≡ Some n }
-{
-    let Ok(number) = digits.parse::<u32>() else {
-        return None;
-    };
-    if Buffer::new().format(number) == digits {
-        Some(number)
-    } else {
-        None
-    }
 }

@@ -1,9 +1,8 @@
 -- The names in a folder, as the numbers of its files.
-use Rattle.std.proofs.Common.{◌≡◌, ⊎_elim, ℕ, ◌+◌, ◌<◌, ◌%◌, ◌^◌, ◌==◌, false, List, [], ◌∷◌, ◌++◌, length, take, get_or, IsSome, sym, ◌∙◌, ap, subst, arith, length-append}
+use Rattle.std.proofs.Common.{◌≡◌, ⊎_elim, ℕ, ◌+◌, ◌<◌, ◌%◌, ◌^◌, ◌==◌, false, List, [], ◌∷◌, ◌++◌, length, IsSome, sym, ◌∙◌, ap, subst, arith, length-append}
 use Rattle.std.proofs.lemmas.Bool.{false≢true}
 use Rattle.std.proofs.lemmas.Fmt.{decimal_by_steps, decimal_nonempty}
-use Rattle.std.proofs.lemmas.List.{take_more}
-use Rattle.std.proofs.lemmas.List.Elements.{Contains-push_cases, Contains-append_cases}
+use Rattle.std.proofs.lemmas.List.Elements.{Contains-append_cases}
 use Rattle.std.specs.List.{list_any}
 use Rattle.std.specs.List.Sorted.{IsStrictlyIncreasing}
 use Rattle.std.specs.Prelude.{Contains, ◌↔◌}
@@ -14,15 +13,6 @@ use Rattle.queue_files.specs.Marks.{read_in}
 use Rattle.queue_files.specs.Listing.{AreNumbers}
 use Rattle.queue_files.proofs.FileNumbers.{number_is}
 use Rattle.queue_files.proofs.Members.{any_decides, first_or_later}
-
--- the numbers of one name more are found
-pub more_found : (names : List (List ℕ)) (kind : List ℕ) (i : ℕ) (x : List ℕ) (numbers new : List ℕ) → i < length names → x ≡ get_or names i x
-    → ((n : ℕ) → Contains numbers n → Contains new n) → ((n : ℕ) → n < 2 ^ 32 → x ≡ kind ++ decimal n → Contains new n)
-    → ((n : ℕ) → n < 2 ^ 32 → Contains (take i names) (kind ++ decimal n) → Contains numbers n) → (n : ℕ) → n < 2 ^ 32 → Contains (take (i + 1) names) (kind ++ decimal n) → Contains new n
-more_found names kind i x numbers new within is kept here so_far n fits among = ⊎_elim
-    (λ earlier. kept n (so_far n fits earlier))
-    (λ same. here n fits same)
-    (Contains-push_cases (take i names) x (kind ++ decimal n) (subst (λ l. Contains l (kind ++ decimal n)) (take_more names i x within ∙ ap (λ (y : List ℕ). take i names ++ y ∷ []) (sym is)) among))
 
 -- ---- names without a slash
 

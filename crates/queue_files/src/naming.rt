@@ -5,6 +5,7 @@ ghost use Rattle.queue_files.specs.Folders.{page, checkpoint, head, names_in};
 
 use itoa::Buffer;
 use plain_data::Text;
+use slot_files::number_of;
 use std::alloc::{AllocError, Global};
 
 /// What the name of a page begins with.
@@ -52,19 +53,4 @@ pub(crate) fn number_in(name: &str, kind: &str) -> Option<u32>
 {
     let digits = name.strip_prefix(kind)?;
     number_of(digits)
-}
-
-/// The number below 2^32 whose digits these are, none of them a zero in front.
-fn number_of(digits: &str) -> Option<u32>
-    ensures some { IfSome result (λ n. digits.now ≡ decimal n) }
-    ensures all { (n : ℕ) → n < 2 ^ 32 → digits.now ≡ decimal n → result ≡ Some n }
-{
-    let Ok(number) = digits.parse::<u32>() else {
-        return None;
-    };
-    if Buffer::new().format(number) == digits {
-        Some(number)
-    } else {
-        None
-    }
 }

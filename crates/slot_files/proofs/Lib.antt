@@ -7,6 +7,7 @@ pub mod PositionBytes
 pub mod PositionReads
 pub mod PositionWrites
 pub mod PathNames
+pub mod FoundNames
 pub mod SyncedRuns
 pub mod CheckpointBytes
 pub mod CheckpointReads

@@ -1,10 +1,11 @@
 use Rattle.std.proofs.Common.{◌≡◌, ◌++◌, ◌∷◌, [], ℕ, List, All, refl, sym, ◌∙◌, ap, subst}
 use Rattle.std.proofs.lemmas.List.{take_all}
 use Rattle.std.proofs.lemmas.List.Elements.{All-push, Contains-push, Contains-append_left}
+use Rattle.std.proofs.lemmas.Option.{same_Some}
 use Rattle.std.specs.Prelude.{Contains}
 use Rattle.dead_letters.specs.Trimming.{IsOther, IsOfOther}
 use Rattle.dead_letters.specs.Queues.{name_in, segment, segment_name}
-use Rattle.dead_letters.proofs.NumberTexts.{some_number, one_found}
+use Rattle.slot_files.proofs.FoundNames.{one_found}
 use Rattle.dead_letters.proofs.listing.others.Goals.{in-Some+in_ok-segment_name+in_ok-push, in_default}
 use Rattle.dead_letters.proofs.listing.others.Goals as goal
 
@@ -27,7 +28,7 @@ loop-part-preserved c =
             all = λ m other among. one_found parts segment_name file (IsOther s) at x old c.match-other_in.gone.items c.loop-part-test.true c.part-item.is
                 (λ k has. subst (λ l. Contains l (file k)) (sym is) (Contains-append_left old (name ∷ []) (file k) has))
                 (λ k wanted same. subst (λ l. Contains l (file k)) (sym is)
-                (subst (λ j. Contains (old ++ name ∷ []) (file j)) (some_number n k (sym w.in-Some.is ∙ c.other_in.ensures.all k wanted (c.as_str.ensures ∙ same))) (Contains-push old name)))
+                (subst (λ j. Contains (old ++ name ∷ []) (file j)) (same_Some n k (sym w.in-Some.is ∙ c.other_in.ensures.all k wanted (c.as_str.ensures ∙ same))) (Contains-push old name)))
                 (λ k wanted has. inv.all k wanted has) m other among;
           }
       | in_default w ↦

@@ -1,10 +1,10 @@
 use Rattle.std.proofs.Common.{◌≡◌, ◌<◌, ◌^◌, ◌++◌, ◌∷◌, [], All, sym, ◌∙◌, ap, subst}
 use Rattle.std.proofs.lemmas.List.{take_all}
 use Rattle.std.proofs.lemmas.List.Elements.{All-push, Contains-push, Contains-append_left, Contains-get_or}
+use Rattle.std.proofs.lemmas.Option.{same_Some}
 use Rattle.std.specs.Prelude.{Contains}
 use Rattle.std.specs.Fmt.{decimal}
-use Rattle.queue_files.proofs.FileNumbers.{some_number}
-use Rattle.queue_files.proofs.Listings.{more_found}
+use Rattle.slot_files.proofs.FoundNames.{one_found}
 use Rattle.queue_files.proofs.listing.numbers_in.Goals.{in-Some+in_ok-push, in_default}
 use Rattle.queue_files.proofs.listing.numbers_in.Goals as goal
 
@@ -23,9 +23,9 @@ loop-name-preserved c =
           let here : x ≡ kind ++ decimal n = sym c.as_str.ensures ∙ w.in-Some.ensures.some in
           record {
             from = subst (All (λ n. (n < 2 ^ 32) × Contains names (kind ++ decimal n))) (sym is) (All-push (λ n. (n < 2 ^ 32) × Contains names (kind ++ decimal n)) c.loop-name.numbers.items n inv.from (w.in-Some.ensures.fits, subst (Contains names) here among));
-            all = more_found names kind at x c.loop-name.numbers.items c.match-number_in.numbers.items c.loop-name-test.true c.name-item.is
+            all = one_found names (λ m. kind ++ decimal m) (λ m. m) (λ m. m < 2 ^ 32) at x c.loop-name.numbers.items c.match-number_in.numbers.items c.loop-name-test.true c.name-item.is
                 (λ m has. subst (λ l. Contains l m) (sym is) (Contains-append_left c.loop-name.numbers.items (n ∷ []) m has))
-                (λ m fits same. subst (λ l. Contains l m) (sym is) (subst (Contains (c.loop-name.numbers.items ++ n ∷ [])) (some_number n m (sym w.in-Some.is ∙ c.number_in.ensures.all m fits (c.as_str.ensures ∙ same)))
+                (λ m fits same. subst (λ l. Contains l m) (sym is) (subst (Contains (c.loop-name.numbers.items ++ n ∷ [])) (same_Some n m (sym w.in-Some.is ∙ c.number_in.ensures.all m fits (c.as_str.ensures ∙ same)))
                 (Contains-push c.loop-name.numbers.items n)))
                 inv.all;
           }
@@ -33,7 +33,7 @@ loop-name-preserved c =
           let is : c.match-number_in.numbers.items ≡ c.loop-name.numbers.items = ap (λ v. v.items) w.numbers-is in
           record {
             from = subst (All (λ n. (n < 2 ^ 32) × Contains names (kind ++ decimal n))) (sym is) inv.from;
-            all = more_found names kind at x c.loop-name.numbers.items c.match-number_in.numbers.items c.loop-name-test.true c.name-item.is
+            all = one_found names (λ m. kind ++ decimal m) (λ m. m) (λ m. m < 2 ^ 32) at x c.loop-name.numbers.items c.match-number_in.numbers.items c.loop-name-test.true c.name-item.is
                 (λ m has. subst (λ l. Contains l m) (sym is) has)
                 (λ m fits same. absurd (w.in_default.not-Some m (c.number_in.ensures.all m fits (c.as_str.ensures ∙ same))))
                 inv.all;
