@@ -6,8 +6,13 @@ use Rattle.queue_files.specs.declared.marking.Mark.{Mark}
 use Rattle.queue_core.specs.Calls.{IsHeldQueue, behind_acknowledge, behind_mark, behind_purge, marks_of, tail_bytes, with_acknowledged, with_marked, with_recorded}
 use Rattle.queue_core.specs.Views.{OpenPageView, QueueView}
 use Rattle.queue_core.specs.declared.limits.Numbers.{Numbers}
+use Rattle.queue_core.specs.declared.queue.Queue.TheInside.{Inside}
 use Rattle.queue_core.proofs.MarkRuns.{Named, other_files}
 use Rattle.queue_core.proofs.PurgeRuns.{Goes, filed_left, named_left}
+
+-- the queue as it is seen
+abbrev pub view : Inside → QueueView
+view q = record { folder = q.folder; limits = q.limits; tails = q.tails.items; top = q.top; unread = q.unread; cursor = q.cursor }
 
 -- what pages have that no call changes
 pub same_map : {Y : Type 0} (f : OpenPageView → Y) (g : OpenPageView → OpenPageView) → ((o : OpenPageView) → f (g o) ≡ f o) → (tails : List OpenPageView) → map f (map g tails) ≡ map f tails
