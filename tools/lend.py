@@ -8,9 +8,11 @@ are proved so far. A crate is lent only with all below it, and from one FROM alo
 """
 import os
 import shutil
+import subprocess
 import sys
 
-sys.path.insert(0, "/opt/rattle/bin")
+KIT = os.path.dirname(subprocess.run(["rt", "doc"], capture_output=True, text=True, check=True).stdout.strip())
+sys.path.insert(0, os.path.join(KIT, "bin"))
 import rtlib  # the kit's own, by which rt knows what a library was made from
 
 TOP = os.path.abspath(os.path.join(os.path.dirname(os.path.abspath(__file__)), ".."))

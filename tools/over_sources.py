@@ -11,7 +11,8 @@ import os
 import subprocess
 import sys
 
-sys.path.insert(0, "/opt/rattle/bin")
+KIT = os.path.dirname(subprocess.run(["rt", "doc"], capture_output=True, text=True, check=True).stdout.strip())
+sys.path.insert(0, os.path.join(KIT, "bin"))
 import rtlib  # the kit's own, by which rt calls rattle
 
 TOP = os.path.abspath(os.path.join(os.path.dirname(os.path.abspath(__file__)), ".."))
