@@ -7,6 +7,7 @@ FROM is another checkout, or the copy on which a run of `rt ci` works (`/tmp/rt-
 are proved so far. A crate is lent only with all below it, and from one FROM alone: libraries fit those over which they were built.
 """
 import os
+import re
 import shutil
 import subprocess
 import sys
@@ -16,6 +17,12 @@ sys.path.insert(0, os.path.join(KIT, "bin"))
 import rtlib  # the kit's own, by which rt knows what a library was made from
 
 TOP = os.path.abspath(os.path.join(os.path.dirname(os.path.abspath(__file__)), ".."))
+
+
+def listed(top):
+    """The crates that stand in a checkout's crates.txt."""
+    with open(os.path.join(top, "crates.txt"), encoding="utf-8") as it:
+        return re.findall(r"^(\w+)(?: \S+=\S+)*:", it.read(), re.M)
 
 
 def crate_in(top, name):
@@ -46,7 +53,7 @@ def same_disk(one, other):
 
 def main():
     giver, taker = os.path.abspath(sys.argv[1]), os.path.abspath(sys.argv[2]) if len(sys.argv) > 2 else TOP
-    names = [name for name in sorted(os.listdir(os.path.join(taker, "crates"))) if os.path.isdir(os.path.join(giver, "crates", name))]
+    names = sorted(set(listed(taker)) & set(listed(giver)))
     lent = [name for name in names if lend(name, giver, taker)]
     print(len(lent), "lent:", " ".join(lent))
 
