@@ -1,5 +1,5 @@
 -- What one pipeline delivers to another arrives there.
-use Rattle.std.proofs.Common.{◌≡◌, ◌≢◌, inl, inr, ⊎_elim, ℕ, ◌<◌, ◌+◌, ◌==◌, Bool, true, false, if◌then◌else◌, List, [], ◌∷◌, ◌++◌, length, Option, Some, None, refl, sym, ap, ◌∙◌, subst, arith, append-nil}
+use Rattle.std.proofs.Common.{◌≡◌, ◌≢◌, inl, inr, ⊎_elim, ℕ, ◌<◌, ◌+◌, ◌==◌, Bool, true, false, if◌then◌else◌, List, [], ◌∷◌, ◌++◌, length, Option, Some, None, refl, sym, ap, ◌∙◌, subst, arith, append-nil, append_assoc}
 use Rattle.std.specs.Prelude.{flat_map}
 use Rattle.std.proofs.lemmas.Bool.{eqb-true}
 use Rattle.std.proofs.lemmas.Grind.{flat_map-append}
@@ -12,16 +12,16 @@ use Rattle.pipeline_bus.specs.declared.parcel.Parcel.{Parcel}
 use Rattle.event_flow.specs.Meaning.{Makes, Due}
 use Rattle.event_flow.specs.Meaning as due
 use Rattle.queue_files.specs.Found.{Found}
-use Rattle.history_book.specs.Deeds.{DeedOf, deeds_by, told_by, mail_of}
+use Rattle.history_book.specs.Deeds.{Deed, Send, DeedOf, Mail, told_of, sent_on, deeds_by, told_by, mail_of, IsNextFor}
 use Rattle.history_book.specs.Entries.{Entry, ParcelAt, Accept, Mark, Assure, Read, Back, Shed, Deliver, Letters, Ack, Purge, Adopt, Opened}
 use Rattle.history_book.specs.Legal.{Legal, Fits}
 use Rattle.history_book.specs.Links.{Listening, Link, IsPart, row_of, rows_of, is_same, IsMadeOf, AreMadeOf, AreSettled, assured, sending_on, IsSentBy, IsSentFrom, LinkSound, EachStands, StandsThere, AssuredArrived, ArrivalsWereDue}
 use Rattle.history_book.specs.Lists.{IsIn}
 use Rattle.history_book.specs.States.{Plan, Written, State, start, newest, reads, left_of, out_of, tells_letters, written, next, after}
 use Rattle.history_book.specs.Steps.{Step, NoOpening, one_more, steps}
-use Rattle.history_book.proofs.Histories.{settled_stays, settled_stand}
+use Rattle.history_book.proofs.Histories.{after_both, settled_stays, settled_stand}
 use Rattle.history_book.proofs.Lists.{in_front, in_behind, in_either}
-use Rattle.history_book.proofs.Mailing.{mail_numbered, was_sent}
+use Rattle.history_book.proofs.Mailing.{told_both, deeds_both, mail_numbered, mail_since, was_sent}
 use Rattle.history_book.proofs.Numbers.{and_first, and_second}
 
 -- ---- parcels with events have numbers of their own
@@ -180,13 +180,14 @@ each_stands makes told more found legal fits (w ∷ rows) are settled = (
 )
 
 pub assured_arrived : AssuredArrived
-assured_arrived makes listening done l k number events legal_deeds from sound was more found legal fits =
+assured_arrived makes listening first since l k number events entries legal_deeds from sound was more found legal fits =
+    let done = first ++ since in
     let takes = told_by l.to done in
     let taker = sound.taker in
     let settled = taker.answers (assured number) was.given in
     let sends = sending_on l.address (mail_of k done) in
     let was_sent = taken_sent sends l (sent_by makes listening done l k from sound).order sound.taken settled.parcel settled.is_taken in
-    let numbers = mail_numbered makes (deeds_by k done) legal_deeds l.address in
+    let numbers = subst (λ (m : Mail). numbered 0 (sent_on l.address m.sent) ≡ true) (sym (mail_since k first since entries)) (mail_numbered makes (told_by k first) (deeds_by k since) legal_deeds l.address) in
     let same = numbered_same sends.sent numbers was.parcel settled.parcel was.sent was_sent settled.some (was.number_is ∙ sym settled.number_is) in
     let is : settled.parcel.events ≡ events = ap (λ (p : Parcel). p.events) (sym same) ∙ was.events_are in
     let at : ParcelAt = record { place = l.place; number = number } in
@@ -213,16 +214,28 @@ some_of x [] i e = i
 some_of x (y ∷ ys) i e = cc
 
 pub arrivals_were_due : ArrivalsWereDue
-arrivals_were_due makes listening done l k number w legal_deeds from sound i =
+arrivals_were_due makes listening first since l k number w entries legal_deeds from sound i =
+    let done = first ++ since in
     let takes = told_by l.to done in
     let rows_at = (λ (n : ℕ). rows_of makes (record { place = l.place; number = n }) takes) in
     let known = sound.taker.known number (some_of w (rows_at number) i) in
     let made = made_of listening l.address (rows_at known.0.number) known.0.events (sound.taker.made known.0 known.1 known.3) w (subst (λ n. IsIn w (rows_at n)) (sym known.2) i) in
     let sent = taken_sent (sending_on l.address (mail_of k done)) l (sent_by makes listening done l k from sound).order sound.taken known.0 known.1 in
-    let was = was_sent makes l.address known.0 known.3 (deeds_by k done) legal_deeds sent in
+    let here = subst (λ (m : Mail). IsIn known.0 (sent_on l.address m.sent)) (mail_since k first since entries) sent in
+    let was = was_sent makes l.address known.0 known.3 (told_by k first) (deeds_by k since) legal_deeds here in
+    let before = deeds_by k first ++ was.before in
+    let stood = ap (after makes start) (told_both (deeds_by k first) was.before) ∙ after_both makes start (told_by k first) (told_of was.before) in
     record {
       events = known.0.events;
-      sent = record { before = was.before; parcel = known.0; rest = was.rest; parts = was.parts; unopened = was.unopened; events_are = refl; next = was.next };
+      sent = record {
+        before = before;
+        parcel = known.0;
+        rest = was.rest;
+        parts = deeds_both k first since ∙ ap (λ (l : List Deed). deeds_by k first ++ l) was.parts ∙ sym (append_assoc (deeds_by k first) was.before (Send l.address known.0 ∷ was.rest));
+        unopened = was.unopened;
+        events_are = refl;
+        next = subst (λ (s : State). IsNextFor s l.address known.0.events) (sym stood) was.next;
+      };
       event = made.0;
       has = made.1;
       made = made.2;

@@ -182,22 +182,18 @@ prefixes_are_legal makes told more legal = legal_first makes start told more leg
 pub acknowledged_were_delivered : AcknowledgedWereDelivered
 acknowledged_were_delivered makes told w legal has acked = from_start makes told legal w (has, acked)
 
-stays_end : (makes : Makes) (told more : List Entry) (w : Written) → Legal makes start (told ++ more) → IsIn w (after makes start told).rows → w.number ≤ (after makes start told).front
+-- a row that is settled stays one
+pub settled_stays : (makes : Makes) (told more : List Entry) (w : Written) → Legal makes start (told ++ more) → IsIn w (after makes start told).rows → w.number ≤ (after makes start told).front
     → IsIn w (after makes start (told ++ more)).rows × (w.number ≤ (after makes start (told ++ more)).front)
-stays_end makes told more w legal has settled =
+settled_stays makes told more w legal has settled =
     let now = after makes start told in
     let ahead : now.front < now.low = all_ahead makes start told (legal_first makes start told more legal) (omega arith) in
     let stays = all_stay makes w now more (legal_rest makes start told more legal) ahead (has, settled) in
     subst (λ (s : State). IsIn w s.rows × (w.number ≤ s.front)) (sym (after_both makes start told more)) stays
 
--- a row that is settled stays one
-pub settled_stays : (makes : Makes) (told more : List Entry) (w : Written) → Legal makes start (told ++ more) → IsIn w (after makes start told).rows → w.number ≤ (after makes start told).front
-    → IsIn w (after makes start (told ++ more)).rows
-settled_stays makes told more w legal has settled = (stays_end makes told more w legal has settled).0
-
 pub settled_stand : SettledStand
 settled_stand makes told more w found legal has settled fits =
-    let stays = stays_end makes told more w legal has settled in
+    let stays = settled_stays makes told more w legal has settled in
     ⊎_elim (λ x. inl x) (λ (i : IsIn w.number (after makes start (told ++ more)).acknowledged). inr (from_start makes _ legal w (stays.0, i)))
     (fits.rows.settled w stays.0 stays.1)
 

@@ -20,3 +20,4 @@ pub mod Unread
 pub mod Moments
 pub mod InputLists
 pub mod Running
+pub mod Stopping

@@ -1,5 +1,5 @@
 -- What a pipeline sent and heard while its deeds were legal.
-use Rattle.std.proofs.Common.{◌≡◌, ◌⊎◌, inl, inr, ⊎_elim, ℕ, not, Bool, true, false, List, [], ◌∷◌, ◌++◌, if◌then◌else◌, refl, sym, ap, ap₂, ◌∙◌, subst, append-nil}
+use Rattle.std.proofs.Common.{◌≡◌, ◌⊎◌, inl, inr, ⊎_elim, ℕ, ◌==◌, not, Bool, true, false, List, [], ◌∷◌, ◌++◌, if◌then◌else◌, refl, sym, ap, ap₂, ◌∙◌, subst, append-nil}
 use Rattle.std.specs.Prelude.{bytes_eq}
 use Rattle.std.proofs.lemmas.Bool.{eqb-true}
 use Rattle.std.proofs.lemmas.Slice.Eq.{bytes_eq-Decides}
@@ -14,7 +14,7 @@ use Rattle.pipeline_bus.specs.declared.parcel.Heard.TheVariants.{Assured, NotLis
 use Rattle.pipeline_bus.specs.declared.parcel.Parcel.{Parcel}
 use Rattle.pipeline_bus.proofs.Numbers.{numbered_more}
 use Rattle.event_flow.specs.Meaning.{Makes}
-use Rattle.history_book.specs.Deeds.{Deed, Tell, Send, Hear, SentTo, HeardFrom, Mail, Assurance, no_mail, told_of, mail_told, mail_next, mail_after, sent_on, heard_on, says_assured, assures, assured_by, Serves, ServesAt, LeavesUnused, IsNextFor, MaySend, Leaves, LegalDeeds, LegalDeedsTell, FrontsOfDeedsAreLegal, IsAnswered, DeliveriesAreAnswered}
+use Rattle.history_book.specs.Deeds.{Deed, Tell, Send, Hear, SentTo, HeardFrom, Mail, Assurance, DeedOf, no_mail, told_of, deeds_by, told_by, mail_of, AreTold, mail_told, mail_next, mail_after, sent_on, heard_on, says_assured, assures, assured_by, Serves, ServesAt, LeavesUnused, IsNextFor, MaySend, Leaves, LegalDeeds, LegalBehind, LegalDeedsTell, FrontsOfDeedsAreLegal, IsAnswered, DeliveriesAreAnswered}
 use Rattle.history_book.specs.Entries.{Entry, Accept, Mark, Assure, Read, Back, Shed, Deliver, Letters, Ack, Purge, Adopt, Opened}
 use Rattle.history_book.specs.Legal.{Legal}
 use Rattle.history_book.specs.Lists.{IsIn}
@@ -272,8 +272,8 @@ module _ (makes : Makes) where
   all_numbered s m unused left (Send address p ∷ deeds) legal are = all_numbered s (mail_next m (Send address p)) unused left deeds legal.1 (sent_numbered s m address p legal.0 are)
   all_numbered s m unused left (Hear address a ∷ deeds) legal are = all_numbered s (mail_next m (Hear address a)) _ left deeds legal.1 are
 
-  pub mail_numbered : (deeds : List Deed) → LegalDeeds makes deeds → (address : List ℕ) → numbered 0 (sent_on address (mail_after no_mail deeds).sent) ≡ true
-  mail_numbered deeds legal = all_numbered start no_mail [] legal.0 deeds legal.1 (λ address. none_numbered)
+  pub mail_numbered : (told : List Entry) (deeds : List Deed) → LegalBehind makes told deeds → (address : List ℕ) → numbered 0 (sent_on address (mail_after no_mail deeds).sent) ≡ true
+  mail_numbered told deeds legal = all_numbered (after makes start told) no_mail [] legal.0 deeds legal.1 (λ address. none_numbered)
 
   -- a delivery to an address that was told has its answer
   module _ (batch : ℕ) (address : List ℕ) (events : List Ev) (fates : List Fate) where
@@ -318,8 +318,8 @@ pub fronts_are_legal : FrontsOfDeedsAreLegal
 fronts_are_legal makes deeds more legal = let front = leaves_front makes start no_mail [] legal.0 deeds more legal.1 in (front.0, front.1)
 
 pub deliveries_are_answered : DeliveriesAreAnswered
-deliveries_are_answered makes deeds legal before batch address events fates rest is none =
-    answered_in makes batch address events fates start no_mail [] legal.0 deeds legal.1 (λ x i. absurd i) before rest is none
+deliveries_are_answered makes told deeds legal before batch address events fates rest is none =
+    answered_in makes batch address events fates (after makes start told) no_mail [] legal.0 deeds legal.1 (λ x i. absurd i) before rest is none
 
 -- ---- a parcel that was sent
 
@@ -376,5 +376,43 @@ module _ (makes : Makes) (address : List ℕ) (p : Parcel) (some : is_last p ≡
       by_answer (inl j) = inl j
       by_answer (inr j) = inr (record { before = Hear from a ∷ j.before; rest = j.rest; parts = ap (λ l. Hear from a ∷ l) j.parts; unopened = j.unopened; next = j.next })
 
-  pub was_sent : (deeds : List Deed) → LegalDeeds makes deeds → IsIn p (sent_on address (mail_after no_mail deeds).sent) → SentIn start deeds
-  was_sent deeds legal i = ⊎_elim (λ (j : IsIn p [] × NoOpening (told_of deeds)). absurd j.0) (λ (j : SentIn start deeds). j) (sent_among start no_mail [] legal.0 deeds legal.1 i)
+  pub was_sent : (told : List Entry) (deeds : List Deed) → LegalBehind makes told deeds → IsIn p (sent_on address (mail_after no_mail deeds).sent) → SentIn (after makes start told) deeds
+  was_sent told deeds legal i =
+      ⊎_elim (λ (j : IsIn p [] × NoOpening (told_of deeds)). absurd j.0) (λ (j : SentIn (after makes start told) deeds). j)
+      (sent_among (after makes start told) no_mail [] legal.0 deeds legal.1 i)
+
+-- ---- several pipelines
+
+pub deeds_both : (k : ℕ) (xs ys : List DeedOf) → deeds_by k (xs ++ ys) ≡ deeds_by k xs ++ deeds_by k ys
+deeds_both k [] ys = refl
+deeds_both k (d ∷ xs) ys = by_test (deeds_both k xs ys) (k == d.line)
+  where
+    by_test : deeds_by k (xs ++ ys) ≡ deeds_by k xs ++ deeds_by k ys → (b : Bool)
+        → (if b then d.deed ∷ deeds_by k (xs ++ ys) else deeds_by k (xs ++ ys)) ≡ (if b then d.deed ∷ deeds_by k xs else deeds_by k xs) ++ deeds_by k ys
+    by_test rest true = ap (λ l. d.deed ∷ l) rest
+    by_test rest false = rest
+
+pub told_by_both : (k : ℕ) (xs ys : List DeedOf) → told_by k (xs ++ ys) ≡ told_by k xs ++ told_by k ys
+told_by_both k xs ys = ap told_of (deeds_both k xs ys) ∙ told_both (deeds_by k xs) (deeds_by k ys)
+
+mail_both : (m : Mail) (xs ys : List Deed) → mail_after m (xs ++ ys) ≡ mail_after (mail_after m xs) ys
+mail_both m [] ys = refl
+mail_both m (d ∷ xs) ys = mail_both (mail_next m d) xs ys
+
+-- entries alone leave no mail
+none_told : (e : Entry) → mail_told no_mail e ≡ no_mail
+none_told e = ⊎_elim (λ (opens : (m : Mail) → mail_told m e ≡ no_mail). opens no_mail) (λ (l : LeavesMail e). l.same no_mail) (opens_or_not e)
+
+none_by : (k : ℕ) (first : List DeedOf) → AreTold first → mail_after no_mail (deeds_by k first) ≡ no_mail
+none_by k [] told = refl
+none_by k (d ∷ first) told = by_test (none_by k first told.1) (k == d.line)
+  where
+    by_test : mail_after no_mail (deeds_by k first) ≡ no_mail → (b : Bool) → mail_after no_mail (if b then d.deed ∷ deeds_by k first else deeds_by k first) ≡ no_mail
+    by_test rest true =
+        ap (λ (x : Deed). mail_after (mail_next no_mail x) (deeds_by k first)) told.0.1 ∙ ap (λ (m : Mail). mail_after m (deeds_by k first)) (none_told told.0.0) ∙ rest
+    by_test rest false = rest
+
+-- what a pipeline sent and heard is that of this run
+pub mail_since : (k : ℕ) (first since : List DeedOf) → AreTold first → mail_of k (first ++ since) ≡ mail_of k since
+mail_since k first since told =
+    ap (mail_after no_mail) (deeds_both k first since) ∙ mail_both no_mail (deeds_by k first) (deeds_by k since) ∙ ap (λ (m : Mail). mail_after m (deeds_by k since)) (none_by k first told)

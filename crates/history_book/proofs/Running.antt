@@ -13,8 +13,9 @@ use Rattle.history_book.specs.Runs.{Meanings, Bases, Outputs, TookSo, OutputsSou
 use Rattle.history_book.specs.Ends.{EmptyIsDelivered}
 
 pub settled_rows_stand : SettledRowsStand
-settled_rows_stand m bases steps around sound k before rest w told has settled =
-    everything_stands m.makes m.listening m.bytes bases.places around.images steps k before rest w sound.links (line_in m bases steps around sound) told has settled
+settled_rows_stand m bases first steps around sound links k before rest w told settled =
+    everything_stands m.makes m.listening m.bytes bases.places around.images first steps sound.last links k before rest w sound.entries sound.links
+    (line_in m bases first steps around sound) told settled
 
 -- with something in front, and something behind
 module _ {X : Type 0} where
@@ -35,22 +36,24 @@ took : (m : Meanings) (bases : Bases) (done : List DeedOf) (o : Outputs) → Out
 took m bases done o t = t
 
 pub stdout_holds : StdoutHolds
-stdout_holds m bases steps around o sound is k plan id events w none =
-    let t = took m bases (all_done steps) o (subst (OutputsSound m bases (all_done steps)) is sound.outputs) in
+stdout_holds m bases first steps around o sound is k plan id events w none =
+    let done = first ++ all_done steps in
+    let t = took m bases done o (subst (OutputsSound m bases done) is sound.outputs) in
     let part = m.bytes plan.config id events in
-    let told = runs_give_to_stdout m.makes m.bytes (all_done steps) k plan id events w none in
+    let told = runs_give_to_stdout m.makes m.bytes done k plan id events w none in
     subst (Stands part) (sym t.stdout_is) (behind part t.printed bases.stdout (⊎_elim
-    (λ (same : t.printed ≡ all_printed m.makes m.bytes (all_done steps)). subst (Stands part) (sym same) told)
-    (λ (more : TookMore m.makes m.bytes (all_done steps) t.printed). subst (Stands part) (sym more.took_is) (with_more part (all_printed m.makes m.bytes (all_done steps)) more.part told)) t.stdout))
+    (λ (same : t.printed ≡ all_printed m.makes m.bytes done). subst (Stands part) (sym same) told)
+    (λ (more : TookMore m.makes m.bytes done t.printed). subst (Stands part) (sym more.took_is) (with_more part (all_printed m.makes m.bytes done) more.part told)) t.stdout))
 
 pub boxes_hold : BoxesHold
-boxes_hold m bases steps around o sound is k n plan id events w none =
-    let t = took m bases (all_done steps) o (subst (OutputsSound m bases (all_done steps)) is sound.outputs) in
+boxes_hold m bases first steps around o sound is k n plan id events w none =
+    let done = first ++ all_done steps in
+    let t = took m bases done o (subst (OutputsSound m bases done) is sound.outputs) in
     let part = taken (fates_of w.entry) events in
-    let told = runs_give_to_boxes m.makes n (all_done steps) k plan id events w none in
+    let told = runs_give_to_boxes m.makes n done k plan id events w none in
     subst (Stands part) (sym (t.boxes_are n)) (behind part (t.given n) (bases.boxes n) (⊎_elim
-    (λ (same : t.given n ≡ all_given m.makes n (all_done steps)). subst (Stands part) (sym same) told)
-    (λ (more : BoxTookMore m.makes n (all_done steps) (t.given n)). subst (Stands part) (sym more.took_is) (with_more part (all_given m.makes n (all_done steps)) more.part told)) (t.boxes n)))
+    (λ (same : t.given n ≡ all_given m.makes n done). subst (Stands part) (sym same) told)
+    (λ (more : BoxTookMore m.makes n done (t.given n)). subst (Stands part) (sym more.took_is) (with_more part (all_given m.makes n done) more.part told)) (t.boxes n)))
 
 pub empty_is_delivered : EmptyIsDelivered
 empty_is_delivered makes listening sources bytes places told i w sound empty has =

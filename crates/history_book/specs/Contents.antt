@@ -10,6 +10,7 @@ use Rattle.foreign_parts.specs.declared.place.Place.TheVariants as place
 use Rattle.event_flow.specs.Meaning.{Makes, Due}
 use Rattle.event_flow.specs.Meaning as due
 use Rattle.dead_letters.specs.Appends.{kept_from, shed_of, append_to}
+use Rattle.dead_letters.specs.Letters.{AreLetters}
 use Rattle.dead_letters.specs.Shedding.{shedding}
 use Rattle.dead_letters.specs.Found.{Held}
 use Rattle.dead_letters.specs.declared.letter.DeadLetter.{DeadLetter}
@@ -64,10 +65,11 @@ is_box number place.Dead = false
 abbrev pub part_of : DeadLetter → DeadPart
 part_of l = record { kind = l.kind; id = l.id; reason = l.reason; event = l.event }
 
--- Letters with these parts were appended, each with a moment. What was shed is what the policy and the limit say; under `hold` nothing may be.
+-- Letters with these parts were appended, each with a moment, as records that read. What was shed is what the policy and the limit say; under `hold` nothing may be.
 pub record Appended (limits : Limits) (shed : Shedding) (parts : List DeadPart) (old new : Held) : Type 0 where
   pub letters : List DeadLetter
   pub parts_are : map part_of letters ≡ parts
+  pub are_letters : AreLetters letters
   pub shed_is : shed ≡ shed_of limits.policy limits.limit old letters
   pub none_held_back : limits.policy ≡ Hold → shed ≡ shedding 0 []
   pub new_is : new ≡ append_to limits.limit old shed letters

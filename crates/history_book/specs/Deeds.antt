@@ -1,5 +1,5 @@
 -- What a pipeline does that others can know of: it tells entries, sends parcels to addresses, and hears answers from there. Which runs of this are legal.
-use Rattle.std.specs.Prelude.{◌≡◌, ◌<◌, ◌==◌, ◌&&◌, not, ℕ, Bool, true, false, List, [], ◌∷◌, ◌++◌, length, bytes_eq, if◌then◌else◌}
+use Rattle.std.specs.Prelude.{◌≡◌, ◌<◌, ◌==◌, ◌&&◌, not, ℕ, Bool, true, false, List, [], ◌∷◌, ◌++◌, length, bytes_eq, if◌then◌else◌, ⊤}
 use Rattle.event_tree.specs.Events.{Ev}
 use Rattle.foreign_parts.specs.declared.output.Fate.{Fate}
 use Rattle.foreign_parts.specs.declared.place.Place.{Place}
@@ -14,7 +14,7 @@ use Rattle.event_flow.specs.Meaning as due
 use Rattle.history_book.specs.Entries.{Entry, Accept, Mark, Assure, Read, Back, Shed, Deliver, Letters, Ack, Purge, Adopt, Opened}
 use Rattle.history_book.specs.Legal.{Legal_at, Legal}
 use Rattle.history_book.specs.Lists.{IsIn}
-use Rattle.history_book.specs.States.{Out, State, start, next}
+use Rattle.history_book.specs.States.{Out, State, start, next, after}
 use Rattle.history_book.specs.Steps.{NoOpening}
 
 pub data Deed : Type 0 where
@@ -180,6 +180,10 @@ module _ (makes : Makes) where
   abbrev pub LegalDeeds : List Deed → Type 0
   LegalDeeds deeds = (left : List Assurance) × Leaves start no_mail [] deeds left
 
+  -- Behind entries of an earlier run, of which no parcel is on its way and no answer is left.
+  abbrev pub LegalBehind : List Entry → List Deed → Type 0
+  LegalBehind told deeds = (left : List Assurance) × Leaves (after makes start told) no_mail [] deeds left
+
 -- ---- several pipelines
 
 -- what one of them did, by its number
@@ -190,6 +194,17 @@ pub record DeedOf : Type 0 where
 abbrev pub deeds_by : ℕ → List DeedOf → List Deed
 deeds_by k [] = []
 deeds_by k (d ∷ done) = if k == d.line then d.deed ∷ deeds_by k done else deeds_by k done
+
+-- nothing was sent and nothing heard
+abbrev pub AreTold : List DeedOf → Type 0
+AreTold [] = ⊤
+AreTold (d ∷ done) = ((entry : Entry) × (d.deed ≡ Tell entry)) × AreTold done
+
+-- what a pipeline does first is its opening
+abbrev pub BeginsOpened : List Deed → Type 0
+BeginsOpened [] = ⊤
+BeginsOpened (Tell (Opened rows limit policy) ∷ deeds) = ⊤
+BeginsOpened (d ∷ deeds) = ⊥
 
 -- what this pipeline told
 abbrev pub told_by : ℕ → List DeedOf → List Entry
@@ -217,8 +232,8 @@ pub record IsAnswered (mail : Mail) (address : List ℕ) (events : List Ev) : Ty
   pub events_are : parcel.events ≡ events
   pub heard : IsIn (record { number = parcel.number; answer = Assured }) (heard_on address mail.heard)
 
--- Behind each delivery to an address that was told since the pipeline was last opened, it has such an answer.
+-- Behind each delivery to an address that was told since the pipeline was last opened, it has such an answer: whatever it had told in an earlier run.
 abbrev pub DeliveriesAreAnswered : Type 0
 DeliveriesAreAnswered =
-    (makes : Makes) (deeds : List Deed) → LegalDeeds makes deeds → (before : List Entry) (batch : ℕ) (address : List ℕ) (events : List Ev) (fates : List Fate) (rest : List Entry)
+    (makes : Makes) (told : List Entry) (deeds : List Deed) → LegalBehind makes told deeds → (before : List Entry) (batch : ℕ) (address : List ℕ) (events : List Ev) (fates : List Fate) (rest : List Entry)
     → told_of deeds ≡ before ++ Deliver batch (place.Address address) events fates ∷ rest → NoOpening rest → IsAnswered (mail_after no_mail deeds) address events

@@ -1,5 +1,5 @@
 -- Which histories of a pipeline are legal.
-use Rattle.std.specs.Prelude.{◌≡◌, ◌≢◌, ◌⊎◌, ◌≤◌, ◌<◌, ℕ, ◌+◌, ◌^◌, true, List, [], ◌∷◌, ◌++◌, length, Option, Some, None, bytes_eq, codes, if◌then◌else◌, ⊤}
+use Rattle.std.specs.Prelude.{◌≡◌, ◌≢◌, ◌⊎◌, ◌≤◌, ◌<◌, ℕ, ◌+◌, ◌^◌, ◌&&◌, not, Bool, true, List, [], ◌∷◌, ◌++◌, length, map, Option, Some, None, bytes_eq, codes, if◌then◌else◌, ⊤}
 use Rattle.std.specs.Fmt.{decimal}
 use Rattle.event_tree.specs.Events.{Ev}
 use Rattle.event_tree.specs.declared.lists.DeadPart.{DeadPart}
@@ -19,11 +19,12 @@ use Rattle.event_flow.specs.Ids.{plugin_id}
 use Rattle.event_flow.specs.Meaning.{Makes, Due, UsesExactly}
 use Rattle.event_flow.specs.Meaning as due
 use Rattle.event_flow.specs.Parts.{parts_of}
+use Rattle.event_flow.specs.Places.{Draws}
 use Rattle.queue_files.specs.Found.{Row, Found}
 use Rattle.dead_letters.specs.Appends.{kept_from}
 use Rattle.history_book.specs.Entries.{Entry, ParcelAt, Accept, Mark, Assure, Read, Back, Shed, Deliver, Letters, Ack, Purge, Adopt, Opened}
 use Rattle.history_book.specs.Inputs.{Input, IsInput, HasId}
-use Rattle.history_book.specs.Lists.{IsIn, Rise, AreBelow}
+use Rattle.history_book.specs.Lists.{IsIn, Rise, AreBelow, Differ}
 use Rattle.history_book.specs.States.{Plan, Written, Out, Between, Nothing, Shed_of, Rejecting, Limits, State, newest, unread, numbers_of, events_of, out_of, next, top_of, numbers_found}
 
 -- ---- rows that are found
@@ -224,6 +225,20 @@ abbrev pub MayAdopt : List Plan → ℕ → Config → Type 0
 MayAdopt [] generation config = ⊤
 MayAdopt (plan ∷ plans) generation config = (config ≢ plan.config) × (generation ≡ plan.generation + 1)
 
+-- outputs that aren't built in
+abbrev pub is_boxed : List ℕ → Bool
+is_boxed name = not (bytes_eq name (codes "stdout")) && not (bytes_eq name (codes "file")) && not (bytes_eq name (codes "pipeline")) && not (bytes_eq name (codes "sink"))
+
+-- the ids of these, the first output being the k-th
+abbrev pub boxed_from : ℕ → List Plugin → List (List ℕ)
+boxed_from k [] = []
+boxed_from k (p ∷ ps) = if is_boxed p.name then plugin_id (codes "output") k p ∷ boxed_from (k + 1) ps else boxed_from (k + 1) ps
+
+-- Each boxed output of a configuration has a box, by its number, and each box is that of one.
+pub record HasDraws (config : Config) (draws : Draws) : Type 0 where
+  pub ids : map (λ (d : List ℕ × ℕ). d.0) draws ≡ boxed_from 1 (parts_of config.outputs).plugins
+  pub differ : Differ (map (λ (d : List ℕ × ℕ). d.1) draws)
+
 -- the pipeline was opened
 abbrev pub WasOpened : Option Limits → Type 0
 WasOpened None = ⊥
@@ -249,7 +264,7 @@ module _ (makes : Makes) where
   Legal_at s (Letters batch letters) = MayTellLetters s batch letters
   Legal_at s (Ack batch) = IsRunning s × IsBack s batch []
   Legal_at s (Purge page) = IsRunning s
-  Legal_at s (Adopt generation config draws) = WasOpened s.limits × (s.between ≡ Nothing) × MayAdopt s.plans generation config
+  Legal_at s (Adopt generation config draws) = WasOpened s.limits × (s.between ≡ Nothing) × MayAdopt s.plans generation config × HasDraws config draws
   Legal_at s (Opened rows limit policy) = MayBeFound s rows
 
   abbrev pub Legal : State → List Entry → Type 0

@@ -20,3 +20,5 @@ pub mod Watched
 pub mod Runs
 pub mod Ends
 pub mod Premises
+pub mod Bases
+pub mod Headline

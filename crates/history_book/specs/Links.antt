@@ -14,7 +14,7 @@ use Rattle.event_flow.specs.Meaning.{Makes, Due}
 use Rattle.event_flow.specs.Meaning as due
 use Rattle.event_flow.specs.Places.{Draws}
 use Rattle.queue_files.specs.Found.{Found}
-use Rattle.history_book.specs.Deeds.{Deed, Tell, Send, DeedOf, Mail, sent_on, heard_on, told_of, told_by, deeds_by, mail_of, IsNextFor, LegalDeeds}
+use Rattle.history_book.specs.Deeds.{Deed, Tell, Send, DeedOf, Mail, sent_on, heard_on, told_of, told_by, deeds_by, mail_of, AreTold, IsNextFor, LegalBehind}
 use Rattle.history_book.specs.Entries.{Entry, ParcelAt, Accept, Adopt}
 use Rattle.history_book.specs.Inputs.{Input, IsInput, AreInputs, closed}
 use Rattle.history_book.specs.Laws.{WasDelivered}
@@ -220,18 +220,23 @@ pub record AllArrived (listening : Listening) (address : List ℕ) (events : Lis
   pub whole : length rows ≡ length events
   pub stand : EachStands stands rows
 
--- the row was written, and is found; or all was told of it that was due
+-- the row was written and is settled
+abbrev pub IsSettledRow : Makes → List Entry → Written → Type 0
+IsSettledRow makes told w = IsIn w (after makes start told).rows × (w.number ≤ (after makes start told).front)
+
+-- so it is, and the row is found; or all was told of it that was due
 abbrev pub StandsThere : Makes → List Entry → Found → Written → Type 0
-StandsThere makes told found w = IsIn w (after makes start told).rows × (IsFound found.rows w ⊎ WasDelivered makes start told w)
+StandsThere makes told found w = IsSettledRow makes told w × (IsFound found.rows w ⊎ WasDelivered makes start told w)
 
 -- The events of a parcel of which its sender heard that they stand with the listener arrived there: whatever that told since, and in each folder that a stop
 -- leaves of it that fits what it told.
 abbrev pub AssuredArrived : Type 0
 AssuredArrived =
-    (makes : Makes) (listening : Listening) (done : List DeedOf) (l : Link) (k number : ℕ) (events : List Ev) → LegalDeeds makes (deeds_by k done) → l.from ≡ Some k
-    → LinkSound makes listening done l → WasAssured (mail_of k done) l number events
-    → (more : List Entry) (found : Found) → Legal makes start (told_by l.to done ++ more) → Fits (after makes start (told_by l.to done ++ more)) found
-    → AllArrived listening l.address events (StandsThere makes (told_by l.to done ++ more) found)
+    (makes : Makes) (listening : Listening) (first since : List DeedOf) (l : Link) (k number : ℕ) (events : List Ev) → AreTold first
+    → LegalBehind makes (told_by k first) (deeds_by k since) → l.from ≡ Some k
+    → LinkSound makes listening (first ++ since) l → WasAssured (mail_of k (first ++ since)) l number events
+    → (more : List Entry) (found : Found) → Legal makes start (told_by l.to (first ++ since) ++ more) → Fits (after makes start (told_by l.to (first ++ since) ++ more)) found
+    → AllArrived listening l.address events (StandsThere makes (told_by l.to (first ++ since) ++ more) found)
 
 -- since the pipeline was last opened, these events were sent to the address, when they were the next delivery to there that was due of a batch
 pub record WasSent (makes : Makes) (address : List ℕ) (deeds : List Deed) (events : List Ev) : Type 0 where
@@ -254,5 +259,6 @@ pub record CameFrom (makes : Makes) (listening : Listening) (address : List ℕ)
 -- Nothing else arrives.
 abbrev pub ArrivalsWereDue : Type 0
 ArrivalsWereDue =
-    (makes : Makes) (listening : Listening) (done : List DeedOf) (l : Link) (k number : ℕ) (w : Written) → LegalDeeds makes (deeds_by k done) → l.from ≡ Some k
-    → LinkSound makes listening done l → IsIn w (rows_from makes listening (told_by l.to done) l number) → CameFrom makes listening l.address (deeds_by k done) w
+    (makes : Makes) (listening : Listening) (first since : List DeedOf) (l : Link) (k number : ℕ) (w : Written) → AreTold first
+    → LegalBehind makes (told_by k first) (deeds_by k since) → l.from ≡ Some k → LinkSound makes listening (first ++ since) l
+    → IsIn w (rows_from makes listening (told_by l.to (first ++ since)) l number) → CameFrom makes listening l.address (deeds_by k (first ++ since)) w

@@ -7,20 +7,18 @@ use Rattle.event_flow.specs.Meaning.{Makes}
 use Rattle.event_flow.specs.Meaning as due
 use Rattle.foreign_parts.specs.Delivering.{taken}
 use Rattle.foreign_parts.specs.declared.place.Place.TheVariants as place
-use Rattle.in_lines.specs.Sources.{Look}
 use Rattle.history_book.specs.Contents.{Bytes}
-use Rattle.history_book.specs.Deeds.{DeedOf, told_by}
+use Rattle.history_book.specs.Deeds.{DeedOf, told_by, AreTold}
 use Rattle.history_book.specs.Entries.{Entry}
 use Rattle.history_book.specs.Givings.{StdoutTook, BoxTook, WasDone, NoneOpened}
 use Rattle.history_book.specs.Laws.{fates_of}
-use Rattle.history_book.specs.Legal.{IsFound}
-use Rattle.history_book.specs.Links.{Listening}
+use Rattle.history_book.specs.Links.{Listening, Link, IsSettledRow}
 use Rattle.history_book.specs.Lists.{IsIn}
 use Rattle.history_book.specs.Sound.{Places, LineSound}
-use Rattle.history_book.specs.Sources.{Sources, InputsSound}
-use Rattle.history_book.specs.States.{Plan, Written, start, after}
+use Rattle.history_book.specs.Sources.{SourceLook, Sources, InputsSound}
+use Rattle.history_book.specs.States.{Plan, Written}
 use Rattle.history_book.specs.Watched.{WatchedFile, PositionSound}
-use Rattle.history_book.specs.Yards.{AreSteps, all_done, StandsEverywhere}
+use Rattle.history_book.specs.Yards.{AreSteps, all_done, StandsOver}
 
 -- what the program was told of configurations: what filters make of events, the bytes of events, what statements of inputs say, and what inputs make of their looks
 pub record Meanings : Type 0 where
@@ -47,7 +45,7 @@ pub record Outputs : Type 0 where
 pub record Around : Type 0 where
   pub images : ℕ → Image
   pub files : Content
-  pub looks : ℕ → Option (ℕ → List Look)
+  pub looks : ℕ → Option (ℕ → List SourceLook)
   pub outputs : Option Outputs
 
 module _ (m : Meanings) (bases : Bases) where
@@ -69,38 +67,40 @@ module _ (m : Meanings) (bases : Bases) where
     pub line : LineSound m.makes m.bytes (bases.places k) told i
     pub positions : (file : WatchedFile) → IsIn file (bases.watched k) → PositionSound m.listening m.sources m.makes told files i file
 
-  -- All pipelines, which did this in steps: each by itself, the links between them behind each step, what came to inputs, and what outputs took.
-  pub record RunSound (steps : List (List DeedOf)) (around : Around) : Type 0 where
-    pub pipelines : (k : ℕ) → PipelineSound k (told_by k (all_done steps)) around.files (around.images k)
-    pub links : AreSteps m.makes m.listening [] [] steps
-    pub inputs : (k : ℕ) (looks : ℕ → List Look) → around.looks k ≡ Some looks → InputsSound m.makes m.listening m.sources (told_by k (all_done steps)) looks
-    pub outputs : OutputsSound (all_done steps) around.outputs
+  -- All pipelines, which did this in steps behind what they told in earlier runs: each by itself, the links between them behind each step, of which these stand behind the
+  -- last, what came to inputs, and what outputs took.
+  pub record RunSound (first : List DeedOf) (steps : List (List DeedOf)) (around : Around) : Type 0 where
+    pub entries : AreTold first
+    pub pipelines : (k : ℕ) → PipelineSound k (told_by k (first ++ all_done steps)) around.files (around.images k)
+    pub last : List Link
+    pub links : AreSteps m.makes m.listening first [] [] steps last
+    pub inputs : (k : ℕ) (looks : ℕ → List SourceLook) → around.looks k ≡ Some looks → InputsSound m.makes m.listening m.sources (told_by k (first ++ all_done steps)) looks
+    pub outputs : OutputsSound (first ++ all_done steps) around.outputs
 
 -- ---- laws
 
 -- what stands of a pipeline where a run agrees with what stands around it
-abbrev pub line_in : (m : Meanings) (bases : Bases) (steps : List (List DeedOf)) (around : Around) → RunSound m bases steps around → (k : ℕ)
-    → LineSound m.makes m.bytes (bases.places k) (told_by k (all_done steps)) (around.images k)
-line_in m bases steps around sound k = (sound.pipelines k).line
+abbrev pub line_in : (m : Meanings) (bases : Bases) (first : List DeedOf) (steps : List (List DeedOf)) (around : Around) → RunSound m bases first steps around → (k : ℕ)
+    → LineSound m.makes m.bytes (bases.places k) (told_by k (first ++ all_done steps)) (around.images k)
+line_in m bases first steps around sound k = (sound.pipelines k).line
 
 -- A row that was settled at some moment stands unacknowledged in the queue of its pipeline, or all stands that its configuration derives from it, in files, in the dead
--- letters and in other pipelines.
+-- letters and in other pipelines, over any number of links.
 abbrev pub SettledRowsStand : Type 0
 SettledRowsStand =
-    (m : Meanings) (bases : Bases) (steps : List (List DeedOf)) (around : Around) (sound : RunSound m bases steps around) (k : ℕ) (before rest : List Entry) (w : Written)
-    → told_by k (all_done steps) ≡ before ++ rest → IsIn w (after m.makes start before).rows → w.number ≤ (after m.makes start before).front
-    → IsFound (line_in m bases steps around sound k).rows.rows w
-    ⊎ StandsEverywhere m.makes m.listening m.bytes bases.places around.images (all_done steps) (λ n. (line_in m bases steps around sound n).rows) k w
+    (m : Meanings) (bases : Bases) (first : List DeedOf) (steps : List (List DeedOf)) (around : Around) (sound : RunSound m bases first steps around) (links k : ℕ) (before rest : List Entry)
+    (w : Written) → told_by k (first ++ all_done steps) ≡ before ++ rest → IsSettledRow m.makes before w
+    → StandsOver m.makes m.listening m.bytes bases.places around.images first (all_done steps) (λ n. (line_in m bases first steps around sound n).rows) links k w
 
 -- What was delivered to stdout since any pipeline was last opened stands in what it holds, and so do the events that a box took.
 abbrev pub StdoutHolds : Type 0
 StdoutHolds =
-    (m : Meanings) (bases : Bases) (steps : List (List DeedOf)) (around : Around) (o : Outputs) → RunSound m bases steps around → around.outputs ≡ Some o
-    → (k : ℕ) (plan : Plan) (id : List ℕ) (events : List Ev) → (w : WasDone m.makes (all_done steps) k plan (due.Events id place.Stdout events)) → NoneOpened w.rest
+    (m : Meanings) (bases : Bases) (first : List DeedOf) (steps : List (List DeedOf)) (around : Around) (o : Outputs) → RunSound m bases first steps around → around.outputs ≡ Some o
+    → (k : ℕ) (plan : Plan) (id : List ℕ) (events : List Ev) → (w : WasDone m.makes (first ++ all_done steps) k plan (due.Events id place.Stdout events)) → NoneOpened w.rest
     → (front : List ℕ) × (back : List ℕ) × (o.stdout ≡ front ++ m.bytes plan.config id events ++ back)
 
 abbrev pub BoxesHold : Type 0
 BoxesHold =
-    (m : Meanings) (bases : Bases) (steps : List (List DeedOf)) (around : Around) (o : Outputs) → RunSound m bases steps around → around.outputs ≡ Some o
-    → (k n : ℕ) (plan : Plan) (id : List ℕ) (events : List Ev) → (w : WasDone m.makes (all_done steps) k plan (due.Events id (place.Foreign n) events)) → NoneOpened w.rest
+    (m : Meanings) (bases : Bases) (first : List DeedOf) (steps : List (List DeedOf)) (around : Around) (o : Outputs) → RunSound m bases first steps around → around.outputs ≡ Some o
+    → (k n : ℕ) (plan : Plan) (id : List ℕ) (events : List Ev) → (w : WasDone m.makes (first ++ all_done steps) k plan (due.Events id (place.Foreign n) events)) → NoneOpened w.rest
     → (front : List Ev) × (back : List Ev) × (o.boxes n ≡ front ++ taken (fates_of w.entry) events ++ back)

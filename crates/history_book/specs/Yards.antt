@@ -1,19 +1,20 @@
 -- Several pipelines in one run: what each did, and the links between them.
-use Rattle.std.specs.Prelude.{◌≡◌, ◌≢◌, ◌⊎◌, ◌≤◌, ℕ, List, [], ◌∷◌, ◌++◌, flat_map, Option, Some, None, ⊤}
+use Rattle.std.specs.Prelude.{◌≡◌, ◌≢◌, ◌⊎◌, ℕ, zero, suc, false, List, [], ◌∷◌, ◌++◌, flat_map, Option, Some, None, ⊤}
 use Rattle.io_traits.specs.Images.{Image}
 use Rattle.event_tree.specs.Events.{Ev}
 use Rattle.foreign_parts.specs.declared.place.Place.TheVariants as place
+use Rattle.pipeline_bus.specs.Parcels.{is_last}
 use Rattle.pipeline_bus.specs.declared.parcel.Parcel.{Parcel}
 use Rattle.event_flow.specs.Meaning.{Makes}
 use Rattle.event_flow.specs.Meaning as due
 use Rattle.queue_files.specs.Found.{Found}
 use Rattle.history_book.specs.Contents.{Bytes}
-use Rattle.history_book.specs.Deeds.{DeedOf, heard_on, deeds_by, told_by, mail_of, LegalDeeds}
+use Rattle.history_book.specs.Deeds.{DeedOf, heard_on, deeds_by, told_by, mail_of, AreTold, BeginsOpened, LegalBehind}
 use Rattle.history_book.specs.Entries.{Entry, ParcelAt, Accept}
 use Rattle.history_book.specs.Inputs.{Input, IsInput}
 use Rattle.history_book.specs.Laws.{WasTold}
 use Rattle.history_book.specs.Legal.{Legal, Fits, IsFound}
-use Rattle.history_book.specs.Links.{Listening, Link, LinkSound, AllArrived, StandsThere, assured}
+use Rattle.history_book.specs.Links.{Listening, Link, LinkSound, AllArrived, IsSettledRow, StandsThere, assured}
 use Rattle.history_book.specs.Lists.{IsIn}
 use Rattle.history_book.specs.Sound.{Places, LineSound, AllStands}
 use Rattle.history_book.specs.States.{Plan, Written, State, start, written, after}
@@ -92,51 +93,63 @@ CameIn listening links k w (Some at) = IsTakenBy links k at
 -- ---- steps
 
 module _ (makes : Makes) (listening : Listening) where
-  -- What each pipeline did up to this step is legal, and links behind it are sound; and of each pipeline that did something in the step, each answer that a parcel is
-  -- assured, heard since it was opened, was given by a listener of the address, and each event came as its input says. Behind a stop no link stands, and nothing
-  -- is asked of a pipeline until it is opened again.
-  pub record LinksSound (done step : List DeedOf) (links : List Link) : Type 0 where
-    pub legal : (k : ℕ) → LegalDeeds makes (deeds_by k done)
-    pub sound : (l : Link) → IsIn l links → LinkSound makes listening done l
-    pub heard : (k : ℕ) (address : List ℕ) (number : ℕ) → deeds_by k step ≢ [] → IsIn (assured number) (heard_on address (mail_of k done).heard) → IsGivenBy links k address number
-    pub came : (k : ℕ) (a : Accepted) → deeds_by k step ≢ [] → IsIn a (accepted makes (told_by k done)) → CameIn listening links k a.row a.parcel
+  -- What each pipeline did since the run began, up to this step, begins with its opening and is legal behind what it had told before, and links are sound behind the step;
+  -- what one listener took no other takes. Of each pipeline that did something in the step, each answer that a parcel is assured, heard since it was opened, was given
+  -- by a listener of the address, and each event came as its input says. Behind a stop no link stands, and nothing is asked of a pipeline until it is opened again.
+  pub record LinksSound (first since step : List DeedOf) (links : List Link) : Type 0 where
+    pub opened : (k : ℕ) → BeginsOpened (deeds_by k since)
+    pub legal : (k : ℕ) → LegalBehind makes (told_by k first) (deeds_by k since)
+    pub sound : (l : Link) → IsIn l links → LinkSound makes listening (first ++ since) l
+    pub owned : (l m : Link) → IsIn l links → IsIn m links → l.from ≡ m.from → l.address ≡ m.address → (p : Parcel) → is_last p ≡ false → IsIn p l.taken → IsIn p m.taken → l ≡ m
+    pub heard : (k : ℕ) (address : List ℕ) (number : ℕ) → deeds_by k step ≢ [] → IsIn (assured number) (heard_on address (mail_of k since).heard) → IsGivenBy links k address number
+    pub came : (k : ℕ) (a : Accepted) → deeds_by k step ≢ [] → IsIn a (accepted makes (told_by k (first ++ since))) → CameIn listening links k a.row a.parcel
 
-  -- so it is behind each step, and the links go on
-  abbrev pub AreSteps : List DeedOf → List Link → List (List DeedOf) → Type 0
-  AreSteps before old [] = ⊤
-  AreSteps before old (step ∷ steps) =
-      OpensFirst step × ((links : List Link) × LinksGoOn step old links × LinksSound (before ++ step) step links × AreSteps (before ++ step) links steps)
+  -- so it is behind each step, and the links go on: the last of them stand behind all steps
+  abbrev pub AreSteps : List DeedOf → List DeedOf → List Link → List (List DeedOf) → List Link → Type 0
+  AreSteps first since old [] last = last ≡ old
+  AreSteps first since old (step ∷ steps) last =
+      OpensFirst step × ((links : List Link) × LinksGoOn step old links × LinksSound first (since ++ step) step links × AreSteps first (since ++ step) links steps last)
 
 -- what was done in all steps
 abbrev pub all_done : List (List DeedOf) → List DeedOf
 all_done steps = flat_map (λ step. step) steps
 
--- What a pipeline told of a delivery to an address arrived at a pipeline: there each event stands in the queue, or all was told that is due of it; whatever
+-- What a pipeline told in this run of a delivery to an address arrived at a pipeline: there each event stands in the queue, or all was told that is due of it; whatever
 -- both told since, and in folders that stops leave of them that fit what they told.
 abbrev pub DeliveriesReach : Type 0
 DeliveriesReach =
-    (makes : Makes) (listening : Listening) (steps : List (List DeedOf)) (found : ℕ → Found) → AreSteps makes listening [] [] steps
-    → ((n : ℕ) → Legal makes start (told_by n (all_done steps))) → ((n : ℕ) → Fits (after makes start (told_by n (all_done steps))) (found n))
-    → (k : ℕ) (address : List ℕ) (plan : Plan) (id : List ℕ) (events : List Ev) → WasTold makes start (told_by k (all_done steps)) plan (due.Events id (place.Address address) events)
-    → (to : ℕ) × AllArrived listening address events (StandsThere makes (told_by to (all_done steps)) (found to))
+    (makes : Makes) (listening : Listening) (first : List DeedOf) (steps : List (List DeedOf)) (last : List Link) (found : ℕ → Found) → AreTold first
+    → AreSteps makes listening first [] [] steps last → ((n : ℕ) → Legal makes start (told_by n (first ++ all_done steps)))
+    → ((n : ℕ) → Fits (after makes start (told_by n (first ++ all_done steps))) (found n))
+    → (k : ℕ) (address : List ℕ) (plan : Plan) (id : List ℕ) (events : List Ev)
+    → WasTold makes start (told_by k (first ++ all_done steps)) plan (due.Events id (place.Address address) events)
+    → WasTold makes start (told_by k first) plan (due.Events id (place.Address address) events)
+    ⊎ ((to : ℕ) × AllArrived listening address events (StandsThere makes (told_by to (first ++ all_done steps)) (found to)))
 
 -- ---- all that an event is for
 
--- the row was written, and is found; or all stands that was due of it
-abbrev pub StandsWhole : Makes → Bytes → Places → List Entry → Image → Found → Written → Type 0
-StandsWhole makes bytes places told i found w = IsIn w (after makes start told).rows × (IsFound found.rows w ⊎ AllStands makes bytes places told i w)
+module _ (makes : Makes) (listening : Listening) (bytes : Bytes) (places : ℕ → Places) (images : ℕ → Image) (first since : List DeedOf) (found : ℕ → Found) where
+  -- All stands that was due of a row of this pipeline, as it stands by itself; and what was delivered in this run to other pipelines arrived there, and stands there in
+  -- this sense. (What was delivered in an earlier run was so when that ended.)
+  pub record StandsEverywhere (stands : ℕ → Written → Type 0) (k : ℕ) (w : Written) : Type 0 where
+    pub here : AllStands makes bytes (places k) (told_by k (first ++ since)) (images k) w
+    pub elsewhere : (id address : List ℕ) (events : List Ev) → IsIn (due.Events id (place.Address address) events) here.delivered.out.told
+        → WasTold makes start (told_by k first) here.delivered.out.plan (due.Events id (place.Address address) events)
+        ⊎ ((to : ℕ) × AllArrived listening address events (stands to))
 
--- All stands that was due of a row of this pipeline, as it stands by itself; and what was delivered to other pipelines arrived there, and stands there so.
-pub record StandsEverywhere (makes : Makes) (listening : Listening) (bytes : Bytes) (places : ℕ → Places) (images : ℕ → Image) (done : List DeedOf) (found : ℕ → Found) (k : ℕ) (w : Written) : Type 0 where
-  pub here : AllStands makes bytes (places k) (told_by k done) (images k) w
-  pub elsewhere : (id address : List ℕ) (events : List Ev) → IsIn (due.Events id (place.Address address) events) here.delivered.out.told
-      → (to : ℕ) × AllArrived listening address events (StandsWhole makes bytes (places to) (told_by to done) (images to) (found to))
+  -- A row that is settled stands unacknowledged in the queue of its pipeline, or all stands that was due of it; and so does each row that was made of it elsewhere, over
+  -- so many links.
+  abbrev pub StandsOver : ℕ → ℕ → Written → Type 0
+  StandsOver zero k w = IsSettledRow makes (told_by k (first ++ since)) w
+  StandsOver (suc links) k w = IsSettledRow makes (told_by k (first ++ since)) w × (IsFound (found k).rows w ⊎ StandsEverywhere (StandsOver links) k w)
 
 -- A row that is settled stands unacknowledged in the queue of its pipeline, or all stands that its configuration derives from it: in files, in the dead letters,
--- and in other pipelines; in whatever stops leave of all of them that agrees with what each told. So it is with an event that was acknowledged to its input.
+-- and in other pipelines, over any number of links; in whatever stops leave of all of them that agrees with what each told. So it is with an event that was
+-- acknowledged to its input.
 abbrev pub EverythingStands : Type 0
 EverythingStands =
-    (makes : Makes) (listening : Listening) (bytes : Bytes) (places : ℕ → Places) (images : ℕ → Image) (steps : List (List DeedOf)) (k : ℕ) (before rest : List Entry) (w : Written)
-    → AreSteps makes listening [] [] steps → (sound : (n : ℕ) → LineSound makes bytes (places n) (told_by n (all_done steps)) (images n))
-    → told_by k (all_done steps) ≡ before ++ rest → IsIn w (after makes start before).rows → w.number ≤ (after makes start before).front
-    → IsFound (sound k).rows.rows w ⊎ StandsEverywhere makes listening bytes places images (all_done steps) (λ n. (sound n).rows) k w
+    (makes : Makes) (listening : Listening) (bytes : Bytes) (places : ℕ → Places) (images : ℕ → Image) (first : List DeedOf) (steps : List (List DeedOf)) (last : List Link)
+    (links k : ℕ) (before rest : List Entry) (w : Written) → AreTold first → AreSteps makes listening first [] [] steps last
+    → (sound : (n : ℕ) → LineSound makes bytes (places n) (told_by n (first ++ all_done steps)) (images n))
+    → told_by k (first ++ all_done steps) ≡ before ++ rest → IsSettledRow makes before w
+    → StandsOver makes listening bytes places images first (all_done steps) (λ n. (sound n).rows) links k w

@@ -70,6 +70,9 @@ pub trait Meaning {
     /// The bytes of events by the codec of the output with this id.
     fn bytes(&self, config: &Config, id: &Text, events: &[Event]) -> Result<Vec<u8>, AllocError>;
 
+    /// The ids of the outputs that aren't built in, in the order of the text.
+    fn boxed(&self, config: &Config) -> Result<Vec<Text>, AllocError>;
+
     /// The id of the input that stands at this place of its configuration, counted from 0.
     fn input_id(&self, place: usize, statement: &Plugin) -> Result<Text, AllocError>;
 

@@ -53,6 +53,8 @@ pub enum Reason {
     Untold,
     /// The configuration is the one that was adopted last.
     Same,
+    /// A boxed output has no box, or a box isn't that of one, or two have one number.
+    Draws,
     /// A row was found that was never written so.
     Unknown,
     /// A row that is settled is neither found nor acknowledged.

@@ -286,6 +286,8 @@ impl<'a> State<'a> {
             let is_next = old.generation.checked_add(1) == Some(generation);
             want(is_next, Reason::Generation)?;
         }
+        let boxed = meaning.boxed(config)?;
+        want(are_drawn(boxed.as_slice(), draws), Reason::Draws)?;
         self.plan = Some(Plan {
             generation,
             config,
@@ -375,4 +377,13 @@ impl<'a> State<'a> {
     fn stands(&self, found: &[QueueRow], row: &Written) -> bool {
         self.acknowledged.contains(&row.number) || found.iter().any(|one| row.is(one))
     }
+}
+
+// Each of these ids has its number, in their order, and no two have the same.
+fn are_drawn(ids: &[Text], draws: &[(Text, u64)]) -> bool {
+    ids.len() == draws.len()
+        && ids.iter().zip(draws).all(|(id, (of, number))| {
+            let twice = draws.iter().filter(|(_, other)| other == number);
+            id == of && twice.count() == 1
+        })
 }

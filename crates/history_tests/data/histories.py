@@ -97,6 +97,12 @@ class Pipeline:
         else:
             getattr(self, "read_batch" if kind == "read" else kind)(words)
 
+    def undrawn(self, words):
+        self.adopt(words, 0)
+
+    def overdrawn(self, words):
+        self.adopt(words, 1)
+
     def opened(self, policy, words):
         found = [(int(number), *row) for number, *row in (word.split("=") for word in words)]
         numbers = [row[0] for row in found]
@@ -112,13 +118,15 @@ class Pipeline:
         self.read, self.used, self.out = set(), set(), {}
         self.low, self.plan, self.inputs, self.policy, self.between = top + 1, None, [], policy, None
 
-    def adopt(self, words):
+    def adopt(self, words, boxes=None):
         generation, name, config = int(words[0]), words[1], words[2:]
+        boxed = sum(1 for output in config if output == "box")
         want(self.policy is not None, "NotOpened")
         want(self.between is None, "Unfinished")
         if self.plan is not None:
             want((name, config) != self.plan[1:], "Same")
             want(generation == self.plan[0] + 1, "Generation")
+        want(boxes in (None, boxed), "Draws")
         self.plan = (generation, name, config)
         self.number(name)
 

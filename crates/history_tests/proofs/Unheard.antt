@@ -30,6 +30,6 @@ none_heard m (Hear address answer ∷ deeds) hears e = absurd hears
 
 pub unanswered_is_not_legal : UnansweredIsNotLegal
 unanswered_is_not_legal makes deeds before batch address events fates rest hears is none legal =
-    let a = deliveries_are_answered makes deeds legal before batch address events fates rest is none in
+    let a = deliveries_are_answered makes [] deeds legal before batch address events fates rest is none in
     let x : Answer = record { number = a.parcel.number; answer = Assured } in
     absurd (subst (λ (hs : List HeardFrom). IsIn x (heard_on address hs)) (none_heard no_mail deeds hears refl) a.heard)

@@ -17,7 +17,20 @@ pub const ADDRESS: &str = "q";
 /// The number of the box of the one output.
 pub const BOX: u64 = 3;
 
-/// The number of the box that each configuration has.
+/// The number of the box that a configuration has, if its output is one.
+pub fn draws_of(alloc: Global, config: &Config) -> Result<Items<(Text, u64)>, AllocError> {
+    match config.outputs.as_slice() {
+        [Statement::Plugin(output)] if is_boxed(output) => draws(alloc),
+        _ => Ok(Items::new(alloc)),
+    }
+}
+
+/// Whether an output isn't built in.
+pub fn is_boxed(output: &Plugin) -> bool {
+    !matches!(output.name.as_str(), "stdout" | "file" | "pipeline" | "sink")
+}
+
+/// The number of the box of the first output.
 pub fn draws(alloc: Global) -> Result<Items<(Text, u64)>, AllocError> {
     let mut draws = Items::with_capacity(alloc, 1)?;
     draws.push((Text::of(alloc, "output_1")?, BOX))?;

@@ -1,7 +1,7 @@
 //! Histories, one a row, and what the judges say of each: a name, and behind `:` entries with `;` between them. Events are
 //! written as their `message`, configurations by the names of what they have (see `configs`).
 
-use crate::configs::{ADDRESS, BOX, FILE, config_of, draws};
+use crate::configs::{ADDRESS, BOX, FILE, config_of, draws, draws_of};
 use crate::meaning::OneOutput;
 use element_code::Origin;
 use event_tree::{DeadList, DeadPart, Event, Events, Number, Path, Text, Value};
@@ -61,7 +61,7 @@ pub fn entry_of(alloc: Global, text: &str) -> Result<KeptEntry, AllocError> {
         "hold" => opened(alloc, rest, Policy::Hold),
         "drop_newer" => opened(alloc, rest, Policy::DropNewer),
         "drop_older" => opened(alloc, rest, Policy::DropOlder),
-        "adopt" => adopt(alloc, rest),
+        "adopt" | "undrawn" | "overdrawn" => adopt(alloc, kind, rest),
         "accept" => accept(alloc, rest),
         "read" => read(alloc, rest),
         _ => later_entry(alloc, kind, rest),
@@ -170,13 +170,19 @@ fn row_of(alloc: Global, number: u64, row: &str) -> Result<QueueRow, AllocError>
     })
 }
 
-// `GENERATION`, and behind it the configuration.
-fn adopt(alloc: Global, text: &str) -> Result<KeptEntry, AllocError> {
+// `GENERATION`, and behind it the configuration: with the box that its output has, with none, or with one in any case.
+fn adopt(alloc: Global, kind: &str, text: &str) -> Result<KeptEntry, AllocError> {
     let (generation, config) = first_number(text);
+    let config = config_of(alloc, config)?;
+    let draws = match kind {
+        "undrawn" => Items::new(alloc),
+        "overdrawn" => draws(alloc)?,
+        _ => draws_of(alloc, &config)?,
+    };
     Ok(KeptEntry::Adopt {
         generation,
-        config: config_of(alloc, config)?,
-        draws: draws(alloc)?,
+        config,
+        draws,
     })
 }
 

@@ -1,5 +1,6 @@
 // What configurations mean in histories that are written by hand.
 
+use crate::configs::is_boxed;
 use crate::judged::event_of;
 use crate::parting::{Parted, part};
 use config_tree::{Config, Plugin, SettingValue, Statement};
@@ -35,6 +36,16 @@ impl Meaning for OneOutput {
 
     fn bytes(&self, _config: &Config, _id: &Text, events: &[Event]) -> Result<Vec<u8>, AllocError> {
         spelling_of(self.alloc, events)
+    }
+
+    fn boxed(&self, config: &Config) -> Result<Vec<Text>, AllocError> {
+        let mut ids = Vec::new(self.alloc);
+        if let [Statement::Plugin(output)] = config.outputs.as_slice() {
+            if is_boxed(output) {
+                ids.push(Text::of(self.alloc, "output_1")?)?;
+            }
+        }
+        Ok(ids)
     }
 
     fn input_id(&self, place: usize, _statement: &Plugin) -> Result<Text, AllocError> {

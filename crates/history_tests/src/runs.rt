@@ -6,7 +6,7 @@
 //! - `N link TAKEN ANSWERS`: whether the link is sound, where so many of the parcels were taken and these answers given;
 //! - `N took EVENTS`: whether the box took these events;
 //! - `N done TEXTS`: whether the pipeline is done, where its input 0 found these texts and then its end, and that link
-//!   stands; and `N stopped`: whether it has stopped and drained.
+//!   stands; and `N stopped LINES`: whether it has stopped, where these pipelines drain.
 //!
 //! What isn't legal is said in place of all that follows.
 
@@ -30,7 +30,7 @@ enum Item {
     Link(LinkTraffic),
     Took(Events),
     Done(Vec<InputLooks>),
-    Stopped,
+    Stopped(Vec<u32>),
 }
 
 /// Adds what the judges say of the run of a row.
@@ -70,10 +70,10 @@ fn add_verdicts(to: &mut String, items: &[(u32, Item)]) -> Result<(), AllocError
                 write!(to, " took {took};")?;
                 Ok(())
             }
-            Item::Done(looks) => {
-                add_end(to, &run, *line, Some(looks.as_slice()), links.as_slice())
+            Item::Done(looks) => add_done(to, &run, *line, looks.as_slice(), links.as_slice()),
+            Item::Stopped(drains) => {
+                add_stopped(to, &run, *line, drains.as_slice(), links.as_slice())
             }
-            Item::Stopped => add_end(to, &run, *line, None, links.as_slice()),
         };
         match done {
             Ok(()) => {}
@@ -84,29 +84,35 @@ fn add_verdicts(to: &mut String, items: &[(u32, Item)]) -> Result<(), AllocError
     Ok(())
 }
 
-// Whether a pipeline without files is done, by these looks; or, without any, whether it has stopped.
-fn add_end(
+// Whether a pipeline without files is done, by these looks.
+fn add_done(
     to: &mut String,
     run: &Run,
     line: u32,
-    looks: Option<&[InputLooks]>,
+    looks: &[InputLooks],
     links: &[LinkTraffic],
 ) -> Result<(), Fault> {
     let alloc = *to.allocator();
-    let meaning = OneOutput { alloc };
     let image = FileTable::new(alloc);
-    let Some(line) = run.line(line) else {
-        return Ok(());
-    };
-    match looks {
-        Some(looks) => {
-            let is_done = line.is_done(&meaning, looks, links, "q/", &image)?;
-            write!(to, " done {is_done};")?;
-        }
-        None => {
-            let is_stopped = line.is_stopped(true, links, "q/", &image)?;
-            write!(to, " stopped {is_stopped};")?;
-        }
+    if let Some(line) = run.line(line) {
+        let is_done = line.is_done(&OneOutput { alloc }, looks, links, "q/", &image)?;
+        write!(to, " done {is_done};")?;
+    }
+    Ok(())
+}
+
+// Whether a pipeline without files has stopped, where these drain.
+fn add_stopped(
+    to: &mut String,
+    run: &Run,
+    line: u32,
+    drains: &[u32],
+    links: &[LinkTraffic],
+) -> Result<(), Fault> {
+    let image = FileTable::new(*to.allocator());
+    if let Some(line) = run.line(line) {
+        let is_stopped = line.is_stopped(drains, links, "q/", &image)?;
+        write!(to, " stopped {is_stopped};")?;
     }
     Ok(())
 }
@@ -134,6 +140,17 @@ fn look(alloc: Global, piece: Piece) -> Result<SourceLook, AllocError> {
     })
 }
 
+// The numbers of pipelines.
+fn lines_of(alloc: Global, text: &str) -> Result<Vec<u32>, AllocError> {
+    let mut lines = Vec::new(alloc);
+    for word in text.split(',') {
+        if let Ok(line) = word.parse::<u32>() {
+            lines.push(line)?;
+        }
+    }
+    Ok(lines)
+}
+
 fn item_of(alloc: Global, items: &[(u32, Item)], text: &str) -> Result<Item, AllocError> {
     let (kind, rest) = first_word(text);
     let (number, said) = first_number(rest);
@@ -147,7 +164,7 @@ fn item_of(alloc: Global, items: &[(u32, Item)], text: &str) -> Result<Item, All
         "link" => Ok(Item::Link(link_of(alloc, items, number, said)?)),
         "took" => Ok(Item::Took(events_of(alloc, rest)?)),
         "done" => Ok(Item::Done(looks_of(alloc, rest)?)),
-        "stopped" => Ok(Item::Stopped),
+        "stopped" => Ok(Item::Stopped(lines_of(alloc, rest)?)),
         _ => Ok(Item::Tell(entry_of(alloc, text)?)),
     }
 }

@@ -137,18 +137,20 @@ impl<'a> Line<'a> {
         Ok(
             known
                 && self.state.out.is_empty()
-                && self.are_answered(links)
+                && links.iter().all(|link| self.is_taken_answered(link))
+                && self.is_sent_answered()
                 && self.inputs_are_sound(meaning, looks, true)?
                 && self.is_empty(folder, image)?,
         )
     }
 
-    /// Whether the pipeline was told to stop and has stopped: no job is out; what was accepted since it was opened is
-    /// settled, and what came in no parcel was acknowledged to its input, unless that is closed. Where it drains nothing is
-    /// left in the queue, and the parcels that it took have their answers.
+    /// Whether the pipeline was told to stop and has stopped, where these pipelines drain: no job is out; what was accepted
+    /// since it was opened is settled, and what came in no parcel was acknowledged to its input, unless that is closed; and
+    /// what it took of a sender that drains has its answer. Where it drains itself nothing is left in the queue, and what
+    /// it sent has its answer.
     pub fn is_stopped(
         &self,
-        drains: bool,
+        drains: &[u32],
         links: &[LinkTraffic],
         folder: &str,
         image: &FileTable,
@@ -158,10 +160,15 @@ impl<'a> Line<'a> {
             !row.is_new || row.number <= self.state.front && (assured || self.is_closed(row.input))
         });
         let home = self.state.out.iter().all(|out| out.is_back);
-        if !known || !home || !drains {
-            return Ok(known && home);
+        let mut links = links.iter();
+        let answered = links.all(|link| {
+            let is_served = link.from.is_some_and(|sender| drains.contains(&sender));
+            !is_served || self.is_taken_answered(link)
+        });
+        if !known || !home || !answered || !drains.contains(&self.number) {
+            return Ok(known && home && answered);
         }
-        Ok(self.taken_are_answered(links) && self.is_empty(folder, image)?)
+        Ok(self.is_sent_answered() && self.is_empty(folder, image)?)
     }
 
     // Whether each row is acknowledged, and none is found.
@@ -202,27 +209,24 @@ impl<'a> Line<'a> {
         })
     }
 
-    // Whether each parcel with events that was taken here has its answer.
-    fn taken_are_answered(&self, links: &[LinkTraffic]) -> bool {
-        links.iter().all(|link| {
-            link.to != self.number
-                || link.taken.iter().all(|parcel| {
-                    let mut given = link.given.iter();
-                    parcel.is_last() || given.any(|answer| answer.number == parcel.number)
-                })
-        })
+    // Whether each parcel with events that was taken here, if the link ends here, has its answer.
+    fn is_taken_answered(&self, link: &LinkTraffic) -> bool {
+        link.to != self.number
+            || link.taken.iter().all(|parcel| {
+                let mut given = link.given.iter();
+                parcel.is_last() || given.any(|answer| answer.number == parcel.number)
+            })
     }
 
-    // The same, and whether each that was sent has its answer.
-    fn are_answered(&self, links: &[LinkTraffic]) -> bool {
-        self.taken_are_answered(links)
-            && self.sent.iter().all(|sent| {
-                let parcel = sent.parcel;
-                let mut heard = self.heard.iter();
-                parcel.is_last()
-                    || heard.any(|(address, answer)| {
-                        **address == parcel.address && answer.number == parcel.number
-                    })
-            })
+    // Whether each parcel with events that was sent has its answer.
+    fn is_sent_answered(&self) -> bool {
+        self.sent.iter().all(|sent| {
+            let parcel = sent.parcel;
+            let mut heard = self.heard.iter();
+            parcel.is_last()
+                || heard.any(|(address, answer)| {
+                    **address == parcel.address && answer.number == parcel.number
+                })
+        })
     }
 }
