@@ -247,10 +247,10 @@ module _ (makes : Makes) (listening : Listening) (bytes : Bytes) (places : Place
               (λ number. rows_now (record { place = a.next.taker.place; number = number })) front_is)
 
     pub answers_stand : (x : Step makes listening bytes i) → GoesOn makes listening bytes i x → LinksStand makes listening (told ++ (effect makes listening bytes i x).told) (effect makes listening bytes i x).line.takers (effect makes listening bytes i x).line.next_place
-    answers_stand (m.Accepts n c r) on = still makes listening told _ i.takers i.next_place tt tt is
-    answers_stand (m.Accepts_in_doubt n c r) on = absurd on
-    answers_stand (m.Accepts_parcel n a r) on = accepted_stands n a r
-    answers_stand (m.Accepts_parcel_in_doubt n a r) on = absurd on
+    answers_stand (m.Accepts n c r false) on = still makes listening told _ i.takers i.next_place tt tt is
+    answers_stand (m.Accepts n c r true) on = absurd on
+    answers_stand (m.Accepts_parcel n a r false) on = accepted_stands n a r
+    answers_stand (m.Accepts_parcel n a r true) on = absurd on
     answers_stand (m.Takes_alone n h address listens taken takers takes) on = quiet_still makes listening told takers i.next_place (taken_stand makes listening told (ends_served i) n taken i.takers takers i.next_place takes is)
     answers_stand (m.Reads t k) on = still makes listening told _ i.takers i.next_place tt tt is
     answers_stand (m.Works t k verdicts uses) on = still makes listening told _ i.takers i.next_place tt tt is
@@ -270,11 +270,9 @@ module _ (makes : Makes) (listening : Listening) (bytes : Bytes) (places : Place
     answers_stand (m.Marks front last marks) on =
         carried_on makes listening told (Mark front ∷ []) i.takers i.next_place (λ at. mark_same makes at told front)
         (let settled = stands.holds.queue.settled in let recorded = stands.holds.queue.recorded in let same = ap (λ (x : State). x.front) (after_both makes start told (Mark front ∷ [])) in omega (arith, settled, recorded, last, same)) is
-    answers_stand (m.Fails_to_mark marks) on = absurd on
     answers_stand (m.Assures n front h marks) on = still makes listening told _ i.takers i.next_place tt tt is
     answers_stand (m.Fails_to_assure n front h marks) on = absurd on
     answers_stand (m.Purges h) on = still makes listening told _ i.takers i.next_place tt tt is
-    answers_stand (m.Fails_to_purge h) on = absurd on
     answers_stand (m.Answers place t has may) on = quiet_still makes listening told _ i.next_place (one_changed makes listening told i.takers (assured may.oldest.number may.rest) place i.next_place (λ u. refl) is
         (λ u found has_it.
         subst (λ v. TakerStands makes listening told (assured may.oldest.number may.rest v)) (same_Some t u (sym has ∙ has_it))
@@ -289,7 +287,7 @@ module _ (makes : Makes) (listening : Listening) (bytes : Bytes) (places : Place
         still makes listening told _ (c.takers ++ c.new_takers) c.next_place tt tt
         (with_new told i.takers c.takers c.new_takers i.next_place c.next_place is (ends_behind told c.inputs i.takers c.takers c.goes_on is.each)
         (λ t has. let was = same_place c.inputs i.takers c.takers c.goes_on t has in let less = is.below was.0 was.1 in let same = was.2 in omega (arith, less, same)) c.new)
-    answers_stand (m.Fails_at_once x fails) on = absurd on
+    answers_stand (m.Only_fails x fails) on = absurd on
     answers_stand x on = quiet_still makes listening told i.takers i.next_place is
 
 pub answers_all_stand : (makes : Makes) (listening : Listening) (bytes : Bytes) (places : Places) → AnswersStand makes listening bytes places

@@ -13,36 +13,28 @@ use Rattle.history_book.specs.Sound.{FilePlace, Places, LineSound}
 use Rattle.history_book.specs.States.{start, next, after}
 use Rattle.history_book.proofs.Histories.{after_both}
 use Rattle.history_book.proofs.Moments.{left_is_sound, following_stands}
-use Rattle.line_machine.specs.Effects.{Effect, MayLeave, Before, On_the_way, Behind, with_queue}
+use Rattle.line_machine.specs.Effects.{Effect, MayLeave, Before, Behind}
 use Rattle.line_machine.specs.Laws.{FollowsAs}
 use Rattle.line_machine.specs.Stands.{Knows, Stands}
 use Rattle.line_machine.specs.Views.{LineView}
 
 module _ (makes : Makes) (bytes : Bytes) (places : Places) where
-  -- what its places hold, with another queue that is its own
-  pub with_other_queue : (told : List Entry) (h : Holdings places) (q : Queue) → HoldsTold makes bytes places told h → IsQueueAt (after makes start told) q
-      → HoldsTold makes bytes places told (with_queue q h)
-  with_other_queue told h q holds queue = record { legal = holds.legal; queue = queue; files = holds.files; dead = holds.dead }
-
-  -- Behind a call: what its places hold is what its history says, and so on the way.
+  -- behind a call what its places hold is what its history says
   pub arrives : (told : List Entry) (i : LineView places) (e : Effect places) (well : Type 0) → HoldsTold makes bytes places told i.holds
-      → HoldsTold makes bytes places (told ++ e.told) e.behind → ((q : Queue) → IsIn q e.ways → IsQueueAt (after makes start told) q)
-      → (well → Stands makes bytes places (told ++ e.told) e.line) → FollowsAs makes bytes places told i e well
-  arrives told i e well was now ways stands = record { legal = now.legal; holds = now; images = each; stands = stands }
+      → HoldsTold makes bytes places (told ++ e.told) e.behind → (well → Stands makes bytes places (told ++ e.told) e.line) → FollowsAs makes bytes places told i e well
+  arrives told i e well was now stands = record { legal = now.legal; holds = now; images = each; stands = stands }
     where
       each : (image : Image) → MayLeave makes bytes places told i e image → LineSound makes bytes places told image ⊎ LineSound makes bytes places (told ++ e.told) image
       each image (Before left) = inl (left_is_sound makes bytes places told i.holds image was left)
-      each image (On_the_way q has left) =
-          inl (left_is_sound makes bytes places told (with_queue q i.holds) image (with_other_queue told i.holds q was (ways q has)) left)
       each image (Behind left) = inr (left_is_sound makes bytes places (told ++ e.told) e.behind image now left)
 
   -- a call that tells nothing
   pub arrives_quietly : (told : List Entry) (i : LineView places) (e : Effect places) (well : Type 0) → Stands makes bytes places told i → e.told ≡ [] → e.behind ≡ i.holds
-      → ((q : Queue) → IsIn q e.ways → IsQueueAt (after makes start told) q) → (well → (e.line.holds ≡ i.holds) × Knows (after makes start told) e.line) → FollowsAs makes bytes places told i e well
-  arrives_quietly told i e well stands none same ways knows =
+      → (well → (e.line.holds ≡ i.holds) × Knows (after makes start told) e.line) → FollowsAs makes bytes places told i e well
+  arrives_quietly told i e well stands none same knows =
       let front : told ≡ told ++ e.told = sym (append-nil told) ∙ ap (λ l. told ++ l) (sym none) in
       arrives told i e well stands.holds
-      (subst (λ l. HoldsTold makes bytes places l e.behind) front (subst (HoldsTold makes bytes places told) (sym same) stands.holds)) ways
+      (subst (λ l. HoldsTold makes bytes places l e.behind) front (subst (HoldsTold makes bytes places told) (sym same) stands.holds))
       (λ w. let k = knows w in
       subst (λ l. Stands makes bytes places l e.line) front (record { holds = subst (HoldsTold makes bytes places told) (sym k.0) stands.holds; knows = k.1 }))
 

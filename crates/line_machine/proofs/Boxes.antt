@@ -39,6 +39,8 @@ module _ (makes : Makes) (listening : Listening) (bytes : Bytes) (places : Place
   boxes_stay i (m.Adopts c) w =
       let parts = weigh_parts w (is_wanted c.plan.generation i.batches) i.boxes in
       omega (arith, parts, weigh_both w (wanted c.plan.generation i.batches i.boxes) (boxes_of c.plan))
+  boxes_stay i (m.Accepts n c r true) w = refl
+  boxes_stay i (m.Accepts_parcel n a r true) w = refl
   boxes_stay i x w = refl
 
   not_true : (b : Bool) → not b ≡ true → b ≡ false
@@ -201,6 +203,8 @@ module _ (makes : Makes) (listening : Listening) (bytes : Bytes) (places : Place
           (λ (j : IsIn x (boxes_of c.plan)). newest_wanted c.plan.generation i.batches x (of_generation x c.plan j))
           (in_either x (wanted c.plan.generation i.batches i.boxes) (boxes_of c.plan) has);
     }
+    stand_still (m.Accepts n c r true) = is
+    stand_still (m.Accepts_parcel n a r true) = is
     stand_still x = same_boxes _ refl refl refl
 
   pub boxes_stand_still : BoxesStandStill makes listening bytes places

@@ -250,13 +250,13 @@ module _ (makes : Makes) (listening : Listening) (bytes : Bytes) (places : Place
     rows_of_it : (k : ℕ) → k ≡ n → rows_by k (told ++ entry ∷ []) ≡ rows_by k told ++ new_row ∷ []
     rows_of_it k same = told_more (row_accepted k) told (entry ∷ []) tt ∙ ap (λ (b : Bool). rows_by k told ++ ((if b then new_row ∷ [] else []) ++ [])) (eq-eqb k n same)
 
-    next_is : suc (next_in i.holds.queue) ≡ next_in (effect makes listening bytes i (m.Accepts n c r)).line.holds.queue
+    next_is : suc (next_in i.holds.queue) ≡ next_in (effect makes listening bytes i (m.Accepts n c r false)).line.holds.queue
     next_is = let next = next_with r.row r.before in let before = next_before listening i c.by.input c.first.event r in omega (arith, next, before)
 
     number_is : r.row.number ≡ next_in i.holds.queue
     number_is = r.number ∙ next_before listening i c.by.input c.first.event r
 
-    accepted_below : (k : ℕ) (x : RowIn) → IsIn x (rows_by k (told ++ entry ∷ [])) → x.number < next_in (effect makes listening bytes i (m.Accepts n c r)).line.holds.queue
+    accepted_below : (k : ℕ) (x : RowIn) → IsIn x (rows_by k (told ++ entry ∷ [])) → x.number < next_in (effect makes listening bytes i (m.Accepts n c r false)).line.holds.queue
     accepted_below k x has = ⊎_elim
         (λ (e : (k == n) ≡ true). ⊎_elim
         (λ (j : IsIn x (rows_by k told)). let less = is.below k x j in omega (arith, less, next_is))
@@ -450,8 +450,8 @@ module _ (makes : Makes) (listening : Listening) (bytes : Bytes) (places : Place
 
   inputs_stand : (x : Step makes listening bytes i) → GoesOn makes listening bytes i x
       → InputsStand listening (told ++ (effect makes listening bytes i x).told) (and_came came (effect makes listening bytes i x).came) (effect makes listening bytes i x).line
-  inputs_stand (m.Accepts n c r) on =
-      one_changed (effect makes listening bytes i (m.Accepts n c r)).line (entry n c r ∷ []) (record { input = n; events = c.came } ∷ []) n (accepted_now c.rest (new_at n c r)) tt c.by refl (λ v. refl)
+  inputs_stand (m.Accepts n c r false) on =
+      one_changed (effect makes listening bytes i (m.Accepts n c r false)).line (entry n c r ∷ []) (record { input = n; events = c.came } ∷ []) n (accepted_now c.rest (new_at n c r)) tt c.by refl (λ v. refl)
       (λ k other. (rows_of_others n c r k other, none_for k n c.came other))
       (λ v found number opens lines old. accepted_stands n c r v found number old)
       (λ v found not_read none. absurd (not_read_now v found not_read)) (accepted_below n c r)
@@ -460,21 +460,18 @@ module _ (makes : Makes) (listening : Listening) (bytes : Bytes) (places : Place
       not_read_now v found not_read =
           let one = same_Some c.by.input v (sym c.by.has ∙ found) in
           not_read (ap (λ (x : InputView). x.is_open) (sym one) ∙ c.reads.is_open, ap (λ (x : InputView). listening.address x.statement) (sym one) ∙ c.reads.no_address)
-  inputs_stand (m.Accepts_in_doubt n c r) on = absurd on
-  inputs_stand (m.Accepts_parcel n a r) on =
+  inputs_stand (m.Accepts n c r true) on = absurd on
+  inputs_stand (m.Accepts_parcel n a r false) on =
       let next = next_with r.row r.before in let before = next_before listening i a.by.input a.event r in
       quiet _ (Accept n (Some a.at) r.row.number r.row.event ∷ []) tt (λ k. refl) refl (omega (arith, next, before))
-  inputs_stand (m.Accepts_parcel_in_doubt n a r) on = absurd on
-  inputs_stand (m.Has_no_room n c) on = more_held n c.by c.came
-  inputs_stand (m.Has_no_number n c) on = more_held n c.by c.came
+  inputs_stand (m.Accepts_parcel n a r true) on = absurd on
   inputs_stand (m.Is_at_its_end n h opens lines none) on =
       one_changed (record i { inputs = change_input ended_now n i.inputs }) [] [] n ended_now tt h refl (λ v. refl) (λ k other. (refl, refl))
       (λ v found number opens_v lines_v old.
       same_stands listening (told ++ []) (came v.number) (and_came came [] v.number) (ended_now v) v refl refl refl refl (append-nil (came v.number))
       (quiet_stands listening told [] (came v.number) (came v.number) v tt refl refl old))
       (λ v found not_read no_rows. no_rows) (still_below [] tt (λ k. refl))
-  inputs_stand (m.Fails_to_come n h reads new) on = more_held n h new
-  inputs_stand (m.Has_no_memory n h reads new) on = more_held n h new
+  inputs_stand (m.Holds_more n h reads new answer none) on = more_held n h new
   inputs_stand (m.Tells n parts rest h a) on =
       quiet _ _ (unopened makes listening bytes i (m.Tells n parts rest h a)) (λ k. letters_each (row_accepted k) (λ b o w. refl) (λ b l. refl) n a.shed parts) refl (omega arith)
   inputs_stand (m.Is_rejected n id number events rest h fates fit some a) on =

@@ -43,7 +43,7 @@ next_rolled q = omega arith
 
 module _ (listening : Listening) {places : Places} (i : LineView places) (v : InputView) where
   pub next_before : (event : Ev) (r : IsRowFor listening i v event) → next_in r.before ≡ next_in i.holds.queue
-  next_before event r = ⊎_elim (λ e. ap next_in e.0) (λ e. ap next_in (e.0).new_is ∙ next_rolled i.holds.queue) r.room
+  next_before event r = ⊎_elim (λ e. ap next_in e) (λ e. ap next_in e.new_is ∙ next_rolled i.holds.queue) r.room
 
 -- ---- inputs and ends that are changed
 
@@ -176,12 +176,12 @@ module _ (makes : Makes) (listening : Listening) (bytes : Bytes) (places : Place
   -- ---- rows that were accepted
 
   covered_still : (x : Step makes listening bytes i) → GoesOn makes listening bytes i x → (n : ℕ) → IsCovered i n → IsCovered (effect makes listening bytes i x).line n
-  covered_still (m.Accepts k c r) on n covered =
-      let next = next_with r.row r.before in let before = next_before listening i c.by.input c.first.event r in no_cover (effect makes listening bytes i (m.Accepts k c r)).line (omega (arith, next, before)) refl n covered
-  covered_still (m.Accepts_in_doubt k c r) on n covered = absurd on
-  covered_still (m.Accepts_parcel k a r) on n covered =
-      let next = next_with r.row r.before in let before = next_before listening i a.by.input a.event r in no_cover (effect makes listening bytes i (m.Accepts_parcel k a r)).line (omega (arith, next, before)) refl n covered
-  covered_still (m.Accepts_parcel_in_doubt k a r) on n covered = absurd on
+  covered_still (m.Accepts k c r false) on n covered =
+      let next = next_with r.row r.before in let before = next_before listening i c.by.input c.first.event r in no_cover (effect makes listening bytes i (m.Accepts k c r false)).line (omega (arith, next, before)) refl n covered
+  covered_still (m.Accepts k c r true) on n covered = absurd on
+  covered_still (m.Accepts_parcel k a r false) on n covered =
+      let next = next_with r.row r.before in let before = next_before listening i a.by.input a.event r in no_cover (effect makes listening bytes i (m.Accepts_parcel k a r false)).line (omega (arith, next, before)) refl n covered
+  covered_still (m.Accepts_parcel k a r true) on n covered = absurd on
   covered_still (m.Acknowledges_it k h queue a) on n covered = let count = a.more.count in let least = a.more.least in no_cover (effect makes listening bytes i (m.Acknowledges_it k h queue a)).line (omega (arith, count, least)) refl n covered
   covered_still (m.Marks front last is_queue) on n covered = let less = covered.0 in (omega (arith, less), λ none. (front, refl, omega (arith, less, last)))
   covered_still x on n covered = same_cover (effect makes listening bytes i x).line refl refl refl n covered
@@ -202,9 +202,9 @@ module _ (makes : Makes) (listening : Listening) (bytes : Bytes) (places : Place
   with_held n f keeps = input_changed (IsCovered i) f (λ v have r j. have r (subst (IsIn r) (keeps v) j)) n i.inputs is.inputs
 
   pub cover_still : (x : Step makes listening bytes i) → GoesOn makes listening bytes i x → MarksCover (effect makes listening bytes i x).line
-  cover_still (m.Accepts n c r) on =
+  cover_still (m.Accepts n c r false) on =
       let next = next_with r.row r.before in let before = next_before listening i c.by.input c.first.event r in let number = r.number in
-      let now = (effect makes listening bytes i (m.Accepts n c r)).line in
+      let now = (effect makes listening bytes i (m.Accepts n c r false)).line in
       let covers = no_cover makes listening bytes places i now (omega (arith, next, before)) refl in
       let new : RowAt = record { number = r.row.number; at = c.first.at } in
       record {
@@ -216,10 +216,10 @@ module _ (makes : Makes) (listening : Listening) (bytes : Bytes) (places : Place
             (in_either x v.rows (new ∷ []) has)) n i.inputs (λ v has x j. covers x.number (is.inputs v has x j));
         takers = λ t has w j k l. covers k (is.takers t has w j k l);
       }
-  cover_still (m.Accepts_in_doubt n c r) on = absurd on
-  cover_still (m.Accepts_parcel n a r) on =
+  cover_still (m.Accepts n c r true) on = absurd on
+  cover_still (m.Accepts_parcel n a r false) on =
       let next = next_with r.row r.before in let before = next_before listening i a.by.input a.event r in let number = r.number in
-      let now = (effect makes listening bytes i (m.Accepts_parcel n a r)).line in
+      let now = (effect makes listening bytes i (m.Accepts_parcel n a r false)).line in
       let covers = no_cover makes listening bytes places i now (omega (arith, next, before)) refl in
       record {
         counted = λ none. absurd (differs none);
@@ -228,14 +228,11 @@ module _ (makes : Makes) (listening : Listening) (bytes : Bytes) (places : Place
             (row_made_has (IsCovered now) a.at.number r.row.number (omega (arith, number, next), λ none. absurd (differs none))) a.at.place a.takers
             (takes_have (IsCovered now) (ends_served i) n a.taken i.takers a.takers a.takes (λ t has w j k l. covers k (is.takers t has w j k l)));
       }
-  cover_still (m.Accepts_parcel_in_doubt n a r) on = absurd on
+  cover_still (m.Accepts_parcel n a r true) on = absurd on
   cover_still (m.Takes_alone n h address listens taken takers takes) on =
       with_parts _ refl refl refl refl refl is.inputs (takes_have (IsCovered i) (ends_served i) n taken i.takers takers takes is.takers)
-  cover_still (m.Has_no_room n c) on = with_parts _ refl refl refl refl refl (with_held n (held_now (c.by.input.held ++ c.came)) (λ v. refl)) is.takers
-  cover_still (m.Has_no_number n c) on = with_parts _ refl refl refl refl refl (with_held n (held_now (c.by.input.held ++ c.came)) (λ v. refl)) is.takers
   cover_still (m.Is_at_its_end n h opens lines none) on = with_parts _ refl refl refl refl refl (with_held n ended_now (λ v. refl)) is.takers
-  cover_still (m.Fails_to_come n h reads came) on = with_parts _ refl refl refl refl refl (with_held n (held_now (h.input.held ++ came)) (λ v. refl)) is.takers
-  cover_still (m.Has_no_memory n h reads came) on = with_parts _ refl refl refl refl refl (with_held n (held_now (h.input.held ++ came)) (λ v. refl)) is.takers
+  cover_still (m.Holds_more n h reads came answer none) on = with_parts _ refl refl refl refl refl (with_held n (held_now (h.input.held ++ came)) (λ v. refl)) is.takers
   cover_still (m.Fails_to_deliver n left h f why printed out given took) on = absurd on
   cover_still (m.Acknowledges_it n h queue a) on =
       let count = a.more.count in let least = a.more.least in
@@ -250,12 +247,10 @@ module _ (makes : Makes) (listening : Listening) (bytes : Bytes) (places : Place
     inputs = λ v has r j. let less = (is.inputs v has r j).0 in (omega (arith, less), λ none. (front, refl, omega (arith, less, last)));
     takers = λ t has w j n k. let less = (is.takers t has w j n k).0 in (omega (arith, less), λ none. (front, refl, omega (arith, less, last)));
   }
-  cover_still (m.Fails_to_mark is_queue) on = absurd on
   cover_still (m.Assures n front h marks) on =
       with_parts _ refl refl refl refl refl
       (input_changed (IsCovered i) (assured_now front) (λ v have r j. have r (filter_has r (λ (x : RowAt). nat_lt front x.number) v.rows j)) n i.inputs is.inputs) is.takers
   cover_still (m.Fails_to_assure n front h marks) on = absurd on
-  cover_still (m.Fails_to_purge h) on = absurd on
   cover_still (m.Answers place t has may) on =
       let its = is.takers t (taker_in place t i.takers has).0 in
       with_parts _ refl refl refl refl refl is.inputs
@@ -268,7 +263,7 @@ module _ (makes : Makes) (listening : Listening) (bytes : Bytes) (places : Place
   cover_still (m.Connects takers next_place new listen senders unused) on =
       with_parts _ refl refl refl refl refl is.inputs (with_new (IsCovered i) i.takers takers i.next_place next_place i.takers new is.takers)
   cover_still (m.Releases place t has free) on = with_parts _ refl refl refl refl refl is.inputs (without_has (IsCovered i) place i.takers is.takers)
-  cover_still (m.Fails_at_once x fails) on = absurd on
+  cover_still (m.Only_fails x fails) on = absurd on
   cover_still x on = with_parts _ refl refl refl refl refl is.inputs is.takers
 
 module _ (makes : Makes) (listening : Listening) (bytes : Bytes) (places : Places) (told : List Entry) (i : LineView places) (is : RowsAreCovered told i) where
@@ -284,15 +279,15 @@ module _ (makes : Makes) (listening : Listening) (bytes : Bytes) (places : Place
 
   rows_still : (covers : (x : Step makes listening bytes i) → GoesOn makes listening bytes i x → (n : ℕ) → IsCovered i n → IsCovered (effect makes listening bytes i x).line n) (x : Step makes listening bytes i)
       → GoesOn makes listening bytes i x → RowsAreCovered (told ++ (effect makes listening bytes i x).told) (effect makes listening bytes i x).line
-  rows_still covers (m.Accepts n c r) on =
+  rows_still covers (m.Accepts n c r false) on =
       let next = next_with r.row r.before in let number = r.number in
-      with_row_more (effect makes listening bytes i (m.Accepts n c r)).line (Accept n None r.row.number r.row.event) r.row.number tt refl (omega (arith, number, next), λ none. absurd (differs none)) (covers (m.Accepts n c r) on)
-  rows_still covers (m.Accepts_in_doubt n c r) on = absurd on
-  rows_still covers (m.Accepts_parcel n a r) on =
+      with_row_more (effect makes listening bytes i (m.Accepts n c r false)).line (Accept n None r.row.number r.row.event) r.row.number tt refl (omega (arith, number, next), λ none. absurd (differs none)) (covers (m.Accepts n c r false) on)
+  rows_still covers (m.Accepts n c r true) on = absurd on
+  rows_still covers (m.Accepts_parcel n a r false) on =
       let next = next_with r.row r.before in let number = r.number in
-      with_row_more (effect makes listening bytes i (m.Accepts_parcel n a r)).line (Accept n (Some a.at) r.row.number r.row.event) r.row.number tt refl (omega (arith, number, next), λ none. absurd (differs none))
-      (covers (m.Accepts_parcel n a r) on)
-  rows_still covers (m.Accepts_parcel_in_doubt n a r) on = absurd on
+      with_row_more (effect makes listening bytes i (m.Accepts_parcel n a r false)).line (Accept n (Some a.at) r.row.number r.row.event) r.row.number tt refl (omega (arith, number, next), λ none. absurd (differs none))
+      (covers (m.Accepts_parcel n a r false) on)
+  rows_still covers (m.Accepts_parcel n a r true) on = absurd on
   rows_still covers (m.Tells n parts rest h a) on =
       with_no_more (effect makes listening bytes i (m.Tells n parts rest h a)).line _ (unopened makes listening bytes i (m.Tells n parts rest h a)) (letters_each number_accepted (λ b o w. refl) (λ b l. refl) n a.shed parts) (covers (m.Tells n parts rest h a) on)
   rows_still covers (m.Is_rejected n id number events rest h fates fit some a) on =

@@ -705,8 +705,8 @@ module _ (makes : Makes) (listening : Listening) (bytes : Bytes) (places : Place
 
   does : (x : Step makes listening bytes i) → GoesOn makes listening bytes i x
       → DoesLegally makes (deeds ++ deeds_of makes listening bytes places i x) (effect makes listening bytes i x).line.batches (effect makes listening bytes i x).line.senders
-  does (m.Accepts_in_doubt n c r) on = absurd on
-  does (m.Accepts_parcel_in_doubt n a r) on = absurd on
+  does (m.Accepts n c r true) on = absurd on
+  does (m.Accepts_parcel n a r true) on = absurd on
   does (m.Reads t k) on = tells_so (m.Reads t k) _ (one_more_waits makes deeds i.batches i.senders is (new_batch i t.rows (Some k.kit)) new_batch_number refl) tt
   does (m.Works t k verdicts uses) on =
       tells_so (m.Works t k verdicts uses) _ (one_more_waits makes deeds i.batches i.senders is (back_with makes verdicts (new_batch i t.rows None)) new_batch_number refl) tt
@@ -746,14 +746,12 @@ module _ (makes : Makes) (listening : Listening) (bytes : Bytes) (places : Place
   does (m.Acknowledges_it n h queue a) on =
       tells_so (m.Acknowledges_it n h queue a) _
       (none_left makes deeds i.batches i.senders is n h.batch h.has (no_parcel makes deeds i.batches i.senders is h.batch (its_place n h.batch h.has) [] h.left_is refl)) tt
-  does (m.Fails_to_mark is_queue) on = absurd on
   does (m.Fails_to_assure n front h marks) on = absurd on
-  does (m.Fails_to_purge h) on = absurd on
   does (m.Sends_last address p last may ends) on =
       last_sent makes deeds i.batches i.senders is address p may (λ some. absurd (differs (sym last ∙ some))) last
   does (m.Adopts c) on = with_ends makes deeds i.batches i.senders is c.new_senders c.unused (effect makes listening bytes i (m.Adopts c)).told (legal_then (m.Adopts c)) tt tt
   does (m.Connects takers next_place new listen senders unused) on = with_ends makes deeds i.batches i.senders is senders unused [] tt tt tt
-  does (m.Fails_at_once x fails) on = absurd on
+  does (m.Only_fails x fails) on = absurd on
   does x on = tells_so x i.batches (as_before makes deeds i.batches i.senders is) tt
 
 pub does_legally_still : (makes : Makes) (listening : Listening) (bytes : Bytes) (places : Places) → DoesLegallyStill makes listening bytes places

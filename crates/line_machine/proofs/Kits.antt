@@ -127,6 +127,8 @@ module _ (makes : Makes) (listening : Listening) (bytes : Bytes) (places : Place
   kits_stay i (m.Is_not_heard n id address events rest h number is was) w = ap (λ l. weigh w (i.kits ++ l) + 0) (outs_kept (in_parcel None) (λ b. refl) n i.batches)
   kits_stay i (m.Acknowledges_it n h queue a) w = ap (λ l. weigh w (i.kits ++ l) + 0) (outs_without n h.batch i.batches h.has h.no_kit)
   kits_stay i (m.Adopts c) w = omega (arith, weigh_both w c.kits (kits_out i.batches), weigh_both w i.kits (kits_out i.batches))
+  kits_stay i (m.Accepts n c r true) w = refl
+  kits_stay i (m.Accepts_parcel n a r true) w = refl
   kits_stay i x w = refl
 
   -- ---- each of its own generation
@@ -213,6 +215,8 @@ module _ (makes : Makes) (listening : Listening) (bytes : Bytes) (places : Place
       record { home = are.home; out = changed_out (in_parcel None) n i.batches (λ b k is. (is, refl, refl)) are.out }
   kits_are_theirs i (m.Acknowledges_it n h queue a) are = record { home = are.home; out = without_out n i.batches are.out }
   kits_are_theirs i (m.Adopts c) are = record { home = c.made_of; out = are.out }
+  kits_are_theirs i (m.Accepts n c r true) are = are
+  kits_are_theirs i (m.Accepts_parcel n a r true) are = are
   kits_are_theirs i x are = record { home = are.home; out = are.out }
 
   pub opened_kits : OpenedKitsAreTheirs makes listening bytes places

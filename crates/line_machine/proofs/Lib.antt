@@ -3,7 +3,6 @@ pub mod Inputs
 pub mod Covering
 pub mod Coming
 pub mod Serving
-pub mod Numbering
 pub mod Boxes
 pub mod Outputs
 pub mod Batches

@@ -17,7 +17,6 @@ use Rattle.line_machine.specs.Covering.{RowsAreCovered}
 use Rattle.line_machine.specs.Doing.{deeds_of}
 use Rattle.line_machine.specs.Effects.{Effect}
 use Rattle.line_machine.specs.Lines.{LineStands, OpenedStandsWhole, StandsWholeStill, deeds_of_parts, CallsStandWhole}
-use Rattle.line_machine.specs.Numbering.{BatchesRise}
 use Rattle.line_machine.specs.Openings.{opening}
 use Rattle.line_machine.specs.Settling.{Settles}
 use Rattle.line_machine.specs.Stands.{Stands}
@@ -30,7 +29,6 @@ use Rattle.line_machine.proofs.Coming.{inputs_stand_still, opened_inputs_stand}
 use Rattle.line_machine.proofs.Covering.{marks_cover_still, opened_marks_cover, rows_are_covered_still, opened_rows_are_covered}
 use Rattle.line_machine.proofs.Doing.{does_legally_still, opened_does_legally}
 use Rattle.line_machine.proofs.Kits.{kits_are_theirs, opened_kits}
-use Rattle.line_machine.proofs.Numbering.{batches_rise_still, opened_batches_rise}
 use Rattle.line_machine.proofs.Openings.{opened_line_stands}
 use Rattle.line_machine.proofs.Serving.{ends_stand_still, opened_ends_stand}
 use Rattle.line_machine.proofs.Settling.{steps_settle, opened_settles}
@@ -65,7 +63,6 @@ module _ (makes : Makes) (listening : Listening) (bytes : Bytes) (places : Place
         marks = marks_cover_still makes listening bytes places i x is.marks on;
         kits = kits_are_theirs makes listening bytes places i x is.kits;
         boxes = boxes_stand_still makes listening bytes places i x is.boxes;
-        batches = subst (λ l. BatchesRise l e.line.next_batch) now (batches_rise_still makes listening bytes places told i x is.batches);
       }
 
   pub opened_stands_whole : OpenedStandsWhole makes listening bytes places
@@ -84,7 +81,6 @@ module _ (makes : Makes) (listening : Listening) (bytes : Bytes) (places : Place
         marks = opened_marks_cover makes listening bytes places told image sound i is;
         kits = opened_kits makes listening bytes places told image sound i is;
         boxes = opened_boxes_stand makes listening bytes places told image sound i is;
-        batches = subst (λ l. BatchesRise l i.next_batch) now (opened_batches_rise makes listening bytes places told image sound i is);
       }
 
   -- ---- calls

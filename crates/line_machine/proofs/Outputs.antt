@@ -1,5 +1,5 @@
 -- What stdout and boxes took is what was told of them, behind each step.
-use Rattle.std.proofs.Common.{◌≡◌, ℕ, zero, suc, List, [], ◌∷◌, ◌++◌, Option, Some, None, refl, sym, ap, ap₂, ◌∙◌, append-nil, append_assoc}
+use Rattle.std.proofs.Common.{◌≡◌, ℕ, zero, suc, true, false, List, [], ◌∷◌, ◌++◌, Option, Some, None, refl, sym, ap, ap₂, ◌∙◌, append-nil, append_assoc}
 use Rattle.std.specs.Prelude.{flat_map}
 use Rattle.std.proofs.lemmas.Grind.{flat_map-append}
 use Rattle.std.proofs.lemmas.List.Concat.{flat_map-cons}
@@ -126,8 +126,8 @@ module _ (makes : Makes) (listening : Listening) (bytes : Bytes) (places : Place
       ap left_of o.has ∙ o.is.left ∙ h.left_is
 
   outputs_took : (x : Step makes listening bytes i) → GoesOn makes listening bytes i x → Both x
-  outputs_took (m.Accepts_in_doubt n c r) on = absurd on
-  outputs_took (m.Accepts_parcel_in_doubt n a r) on = absurd on
+  outputs_took (m.Accepts n c r true) on = absurd on
+  outputs_took (m.Accepts_parcel n a r true) on = absurd on
   outputs_took (m.Tells n parts rest h a) on =
       by_each (m.Tells n parts rest h a) (letters_give makes (printed_in bytes) (λ t b o w. refl) (λ t b l. refl) s n a.shed parts)
       (λ number. letters_give makes (λ t. given_in number) (λ t b o w. refl) (λ t b l. refl) s n a.shed parts)

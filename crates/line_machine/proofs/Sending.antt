@@ -137,8 +137,8 @@ module _ (makes : Makes) (listening : Listening) (bytes : Bytes) (places : Place
       differs e = cc
 
   pub parcels_due : (x : Step makes listening bytes i) → GoesOn makes listening bytes i x → SendersStand makes (told ++ (effect makes listening bytes i x).told) (effect makes listening bytes i x).line.senders
-  parcels_due (m.Accepts_in_doubt n c r) on = absurd on
-  parcels_due (m.Accepts_parcel_in_doubt n a r) on = absurd on
+  parcels_due (m.Accepts n c r true) on = absurd on
+  parcels_due (m.Accepts_parcel n a r true) on = absurd on
   parcels_due (m.Tells n parts rest h a) on =
       still makes told (letters_told n a.shed parts) i.senders (unopened makes listening bytes i (m.Tells n parts rest h a)) are
   parcels_due (m.Is_rejected n id number events rest h fates fit some a) on =
@@ -151,12 +151,10 @@ module _ (makes : Makes) (listening : Listening) (bytes : Bytes) (places : Place
   parcels_due (m.Sends_last address p last may ends) on =
       quiet_still makes told (change_sender (with_sent p) address i.senders) (sent_more address p may (λ some. last_none p p.events address last some))
   parcels_due (m.Fails_to_deliver n left h f why printed out given took) on = absurd on
-  parcels_due (m.Fails_to_mark is) on = absurd on
   parcels_due (m.Fails_to_assure n front h marks) on = absurd on
-  parcels_due (m.Fails_to_purge h) on = absurd on
   parcels_due (m.Adopts c) on = still makes told _ (i.senders ++ c.new_senders) tt (with_none makes told i.senders c.new_senders are c.unused)
   parcels_due (m.Connects takers next_place new listen senders unused) on = quiet_still makes told (i.senders ++ senders) (with_none makes told i.senders senders are unused)
-  parcels_due (m.Fails_at_once x fails) on = absurd on
+  parcels_due (m.Only_fails x fails) on = absurd on
   parcels_due x on = still makes told _ i.senders (unopened makes listening bytes i x) are
 
 pub parcels_were_due : (makes : Makes) (listening : Listening) (bytes : Bytes) (places : Places) → ParcelsWereDue makes listening bytes places

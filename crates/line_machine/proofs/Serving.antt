@@ -193,16 +193,15 @@ module _ (makes : Makes) (listening : Listening) (bytes : Bytes) (places : Place
   with_input n f keeps = with_inputs listening i.inputs (change_input f n i.inputs) (view_behind f keeps n i.inputs) i.takers is
 
   pub ends_still : (x : Step makes listening bytes i) → EndsStand listening (effect makes listening bytes i x).line.inputs (effect makes listening bytes i x).line.takers
-  ends_still (m.Accepts n c r) = with_input n (accepted_now c.rest (record { number = r.row.number; at = c.first.at })) (λ v. refl)
-  ends_still (m.Accepts_parcel n a r) =
+  ends_still (m.Accepts n c r false) = with_input n (accepted_now c.rest (record { number = r.row.number; at = c.first.at })) (λ v. refl)
+  ends_still (m.Accepts n c r true) = is
+  ends_still (m.Accepts_parcel n a r true) = is
+  ends_still (m.Accepts_parcel n a r false) =
       changed_ends listening i.inputs (row_made a.at.number r.row.number) a.at.place a.takers (ends_took (ends_served i) n a.taken i.takers a.takers a.takes is)
       (λ t found end. same_end listening i.inputs t (row_made a.at.number r.row.number t) refl refl refl refl refl end)
   ends_still (m.Takes_alone n h address listens taken takers takes) = ends_took (ends_served i) n taken i.takers takers takes is
-  ends_still (m.Has_no_room n c) = with_input n (held_now (c.by.input.held ++ c.came)) (λ v. refl)
-  ends_still (m.Has_no_number n c) = with_input n (held_now (c.by.input.held ++ c.came)) (λ v. refl)
   ends_still (m.Is_at_its_end n h opens lines none) = with_input n ended_now (λ v. refl)
-  ends_still (m.Fails_to_come n h reads came) = with_input n (held_now (h.input.held ++ came)) (λ v. refl)
-  ends_still (m.Has_no_memory n h reads came) = with_input n (held_now (h.input.held ++ came)) (λ v. refl)
+  ends_still (m.Holds_more n h reads came answer none) = with_input n (held_now (h.input.held ++ came)) (λ v. refl)
   ends_still (m.Assures n front h marks) = with_input n (assured_now front) (λ v. refl)
   ends_still (m.Answers place t has may) =
       changed_ends listening i.inputs (assured may.oldest.number may.rest) place i.takers is (λ u found end. same_end listening i.inputs u (assured may.oldest.number may.rest u) refl refl refl refl refl end)

@@ -136,11 +136,11 @@ module _ (makes : Makes) (listening : Listening) (bytes : Bytes) (places : Place
 
   module _ (v : InputView) (event : Ev) (r : IsRowFor listening i v event) where
     room_there : There s.acknowledged r.before
-    room_there = ⊎_elim (λ e. subst (There s.acknowledged) (sym e.0) is.there)
-        (λ e. subst (There s.acknowledged) (sym e.0.new_is) (rolled_there (marked queue) s.acknowledged (marked_there queue s.acknowledged stands.holds.queue.is is.there))) r.room
+    room_there = ⊎_elim (λ e. subst (There s.acknowledged) (sym e) is.there)
+        (λ e. subst (There s.acknowledged) (sym e.new_is) (rolled_there (marked queue) s.acknowledged (marked_there queue s.acknowledged stands.holds.queue.is is.there))) r.room
 
     next_before : next_in queue ≤ next_in r.before
-    next_before = ⊎_elim (λ e. let one = ap next_in e.0 in omega (arith, one)) (λ e. let one = ap next_in e.0.new_is in omega (arith, one)) r.room
+    next_before = ⊎_elim (λ e. let one = ap next_in e in omega (arith, one)) (λ e. let one = ap next_in e.new_is in omega (arith, one)) r.room
 
     -- the new row isn't acknowledged
     row_there : (n : ℕ) (parcel : Option ParcelAt) → There (after makes start (told ++ Accept n parcel r.row.number r.row.event ∷ [])).acknowledged (with_row r.row r.before)
@@ -157,10 +157,10 @@ module _ (makes : Makes) (listening : Listening) (bytes : Bytes) (places : Place
   -- ---- the steps
 
   pub settle : (x : Step makes listening bytes i) → GoesOn makes listening bytes i x → Settles (after makes start (told ++ (effect makes listening bytes i x).told)) (effect makes listening bytes i x).line
-  settle (m.Accepts n c r) on = record { there = row_there c.by.input c.first.event r n None; recorded = λ covered. absurd (true_false covered); last = λ covered. absurd (true_false covered) }
-  settle (m.Accepts_in_doubt n c r) on = absurd on
-  settle (m.Accepts_parcel n a r) on = record { there = row_there a.by.input a.event r n (Some a.at); recorded = λ covered. absurd (true_false covered); last = λ covered. absurd (true_false covered) }
-  settle (m.Accepts_parcel_in_doubt n a r) on = absurd on
+  settle (m.Accepts n c r false) on = record { there = row_there c.by.input c.first.event r n None; recorded = λ covered. absurd (true_false covered); last = λ covered. absurd (true_false covered) }
+  settle (m.Accepts n c r true) on = absurd on
+  settle (m.Accepts_parcel n a r false) on = record { there = row_there a.by.input a.event r n (Some a.at); recorded = λ covered. absurd (true_false covered); last = λ covered. absurd (true_false covered) }
+  settle (m.Accepts_parcel n a r true) on = absurd on
   settle (m.Reads t k) on = same _ _ tt refl refl refl
   settle (m.Works t k verdicts uses) on = same _ _ tt refl refl refl
   settle (m.Collects n a verdicts uses) on = same _ _ tt refl refl refl
@@ -190,7 +190,6 @@ module _ (makes : Makes) (listening : Listening) (bytes : Bytes) (places : Place
     recorded = λ covered. record { tails = marked_recorded queue.tails; top = refl; all = refl };
     last = λ covered f e. ap (λ n. n + 1) (sym (same_Some front f e)) ∙ last;
   }
-  settle (m.Fails_to_mark marks) on = absurd on
   settle (m.Assures n front h marks) on = same _ _ tt refl refl refl
   settle (m.Fails_to_assure n front h marks) on = absurd on
   settle (m.Purges h) on = record {
@@ -202,9 +201,8 @@ module _ (makes : Makes) (listening : Listening) (bytes : Bytes) (places : Place
         record { tails = recorded_without h.before h.behind h.page (subst AreRecorded h.tails all.tails); top = all.top; all = all.all };
     last = λ covered front marks. is.last covered front marks;
   }
-  settle (m.Fails_to_purge h) on = absurd on
   settle (m.Adopts c) on = same _ _ tt refl refl refl
-  settle (m.Fails_at_once x fails) on = absurd on
+  settle (m.Only_fails x fails) on = absurd on
   settle x on = quiet_same _ refl refl refl
 
 pub steps_settle : (makes : Makes) (listening : Listening) (bytes : Bytes) (places : Places) → StepsSettle makes listening bytes places

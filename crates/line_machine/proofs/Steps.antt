@@ -1,5 +1,5 @@
 -- Each step of the machine leaves the line where its history does.
-use Rattle.std.proofs.Common.{◌≡◌, ◌∙◌, inl, inr, Bool, true, ℕ, List, [], ◌∷◌, ◌++◌, length, Some, None, refl, sym, ap, subst, append-nil, append_assoc}
+use Rattle.std.proofs.Common.{◌≡◌, ◌∙◌, inl, inr, Bool, true, false, ℕ, List, [], ◌∷◌, ◌++◌, length, Some, None, refl, sym, ap, subst, append-nil, append_assoc}
 use Rattle.std.specs.Prelude.{⊤}
 use Rattle.event_tree.specs.Events.{Ev}
 use Rattle.io_traits.specs.Images.{Image}
@@ -20,7 +20,7 @@ use Rattle.history_book.specs.Lists.{IsIn}
 use Rattle.history_book.specs.Queues.{IsQueueAt, AreRowsOf}
 use Rattle.history_book.specs.Sound.{Places}
 use Rattle.history_book.specs.States.{Out, State, numbers_found, start, unread, after}
-use Rattle.line_machine.specs.Effects.{Effect, MayLeave, Before, On_the_way, Behind, with_queue, quiet, nothing, in_doubt, in_part, holds_more, held_now, accepted_now, ended_now, without_kit, in_parcel, new_batch, with_batch, back_with, home_with, reading, working, collecting, losing, telling, giving, boxing, rejecting, hearing, failing, acknowledging, marking, assuring, failing_to_assure, purging, adopting, accepting_line, accepting_parcel}
+use Rattle.line_machine.specs.Effects.{Effect, MayLeave, Before, Behind, quiet, nothing, in_doubt, holds_more, held_now, accepted_now, ended_now, without_kit, in_parcel, new_batch, with_batch, back_with, home_with, reading, working, collecting, losing, telling, giving, boxing, rejecting, hearing, failing, acknowledging, marking, assuring, failing_to_assure, purging, adopting, accepting_line, accepting_parcel}
 use Rattle.line_machine.specs.Finds.{IsPlain, HasInput, TakesRows, Uses, without_page}
 use Rattle.line_machine.specs.Ends.{TakerView, SenderView, without_taker, change_sender, with_sent, with_heard, change_taker, row_made, assured, refused}
 use Rattle.line_machine.specs.declared.calls.Call.{Call}
@@ -57,13 +57,12 @@ module _ (makes : Makes) (listening : Listening) (bytes : Bytes) (places : Place
   -- more is held there
   with_more : (n : ℕ) (h : HasInput i n) (came : List Incoming) (well : Type 0) → FollowsAs makes bytes places told i (holds_more i n h came) well
   with_more n h came well =
-      arrives_quietly makes bytes places told i (holds_more i n h came) well stands refl refl (λ q has. absurd has)
-      (λ w. (refl, with_input (held_now (h.input.held ++ came)) (λ v. refl) n))
+      arrives_quietly makes bytes places told i (holds_more i n h came) well stands refl refl (λ w. (refl, with_input (held_now (h.input.held ++ came)) (λ v. refl) n))
 
   -- nothing is made of the line, and its places hold what they held, or another queue that is its own
-  as_it_was : (e : Effect places) (well : Type 0) → e.told ≡ [] → e.behind ≡ i.holds → e.line ≡ i → ((q : Queue) → IsIn q e.ways → IsQueueAt s q) → FollowsAs makes bytes places told i e well
-  as_it_was e well none same line ways =
-      arrives_quietly makes bytes places told i e well stands none same ways
+  as_it_was : (e : Effect places) (well : Type 0) → e.told ≡ [] → e.behind ≡ i.holds → e.line ≡ i → FollowsAs makes bytes places told i e well
+  as_it_was e well none same line =
+      arrives_quietly makes bytes places told i e well stands none same
       (λ w. (ap (λ (l : LineView places). l.holds) line, subst (Knows s) (sym line) stands.knows))
 
   kept_batch : (t : TakesRows i) → Knows s (record i { kept = t.rows; unread = t.rest })
@@ -94,15 +93,8 @@ module _ (makes : Makes) (listening : Listening) (bytes : Bytes) (places : Place
   }
 
   -- what one call tells, where the line stands behind it
-  told_well : (e : Effect places) (well : Type 0) → Stands makes bytes places (told ++ e.told) e.line → e.line.holds ≡ e.behind → ((q : Queue) → IsIn q e.ways → IsQueueAt s q) → FollowsAs makes bytes places told i e well
-  told_well e well now same ways = arrives makes bytes places told i e well stands.holds (subst (HoldsTold makes bytes places (told ++ e.told)) same now.holds) ways (λ w. now)
-
-  none_on_the_way : (q : Queue) → IsIn q [] → IsQueueAt s q
-  none_on_the_way q has = absurd has
-
-  one_on_the_way : (p q : Queue) → IsQueueAt s p → IsIn q (p ∷ []) → IsQueueAt s q
-  one_on_the_way p q is (inl e) = subst (IsQueueAt s) (sym e) is
-  one_on_the_way p q is (inr never) = absurd never
+  told_well : (e : Effect places) (well : Type 0) → Stands makes bytes places (told ++ e.told) e.line → e.line.holds ≡ e.behind → FollowsAs makes bytes places told i e well
+  told_well e well now same = arrives makes bytes places told i e well stands.holds (subst (HoldsTold makes bytes places (told ++ e.told)) same now.holds) (λ w. now)
 
   -- the line itself does the work of a batch
   module _ (r : TakesRows i) (verdicts : List Verdict) (uses : Uses makes (new_batch i r.rows None) verdicts) where
@@ -126,7 +118,7 @@ module _ (makes : Makes) (listening : Listening) (bytes : Bytes) (places : Place
 
   -- the ends of links alone are others
   same_but_ends : (takers : List TakerView) → FollowsAs makes bytes places told i (quiet i (record i { takers = takers })) ⊤
-  same_but_ends takers = arrives_quietly makes bytes places told i (quiet i (record i { takers = takers })) ⊤ stands refl refl none_on_the_way (λ w. (
+  same_but_ends takers = arrives_quietly makes bytes places told i (quiet i (record i { takers = takers })) ⊤ stands refl refl (λ w. (
     refl,
     record {
       running = stands.knows.running;
@@ -142,7 +134,7 @@ module _ (makes : Makes) (listening : Listening) (bytes : Bytes) (places : Place
   ))
 
   both_ends : (takers : List TakerView) (next_place : ℕ) (senders : List SenderView) → FollowsAs makes bytes places told i (quiet i (record i { takers = takers; next_place = next_place; senders = senders })) ⊤
-  both_ends takers next_place senders = arrives_quietly makes bytes places told i (quiet i (record i { takers = takers; next_place = next_place; senders = senders })) ⊤ stands refl refl none_on_the_way (λ w. (
+  both_ends takers next_place senders = arrives_quietly makes bytes places told i (quiet i (record i { takers = takers; next_place = next_place; senders = senders })) ⊤ stands refl refl (λ w. (
     refl,
     record {
       running = stands.knows.running;
@@ -163,7 +155,7 @@ module _ (makes : Makes) (listening : Listening) (bytes : Bytes) (places : Place
   -- the history says nothing of the parcel in which a batch was sent
   parcel_changed : (n : ℕ) (f : Batch → Batch) → ((b : Batch) (o : Out) → IsBatchOf b o → IsBatchOf (f b) o) → ((b : Batch) → (f b).number ≡ b.number) → (senders : List SenderView)
       → FollowsAs makes bytes places told i (quiet i (record i { senders = senders; batches = change_batch f n i.batches })) ⊤
-  parcel_changed n f keeps numbers senders = arrives_quietly makes bytes places told i (quiet i (record i { senders = senders; batches = change_batch f n i.batches })) ⊤ stands refl refl none_on_the_way (λ w. (
+  parcel_changed n f keeps numbers senders = arrives_quietly makes bytes places told i (quiet i (record i { senders = senders; batches = change_batch f n i.batches })) ⊤ stands refl refl (λ w. (
     refl,
     record {
       running = stands.knows.running;
@@ -203,80 +195,69 @@ module _ (makes : Makes) (listening : Listening) (bytes : Bytes) (places : Place
   some_none at e = cc
 
   follow : (x : Step makes listening bytes i) → FollowsAs makes bytes places told i (effect makes listening bytes i x) (GoesOn makes listening bytes i x)
-  follow (m.Accepts n c r) =
+  follow (m.Accepts n c r false) =
       told_well (accepting_line listening i n c r) _
       (t.accepts makes listening bytes places told i stands c.by.input c.first.event r n c.by.has None (inl c.reads.is_open) (change_input (accepted_now c.rest (record { number = r.row.number; at = c.first.at })) n i.inputs)
-      (inputs_same (accepted_now c.rest (record { number = r.row.number; at = c.first.at })) (λ v. refl) n i.inputs) i.takers) refl (t.ways_at makes listening bytes places told i stands c.by.input c.first.event r)
-  follow (m.Accepts_in_doubt n c r) =
-      arrives makes bytes places told i (in_doubt i (accepting_line listening i n c r)) ⊥ stands.holds
+      (inputs_same (accepted_now c.rest (record { number = r.row.number; at = c.first.at })) (λ v. refl) n i.inputs) i.takers) refl
+  follow (m.Accepts n c r true) =
+      arrives makes bytes places told i (in_doubt true i (accepting_line listening i n c r)) ⊥ stands.holds
       (t.accepts makes listening bytes places told i stands c.by.input c.first.event r n c.by.has None (inl c.reads.is_open) (change_input (accepted_now c.rest (record { number = r.row.number; at = c.first.at })) n i.inputs)
-      (inputs_same (accepted_now c.rest (record { number = r.row.number; at = c.first.at })) (λ v. refl) n i.inputs) i.takers).holds (t.ways_at makes listening bytes places told i stands c.by.input c.first.event r) (λ never. absurd never)
-  follow (m.Accepts_parcel n a r) =
+      (inputs_same (accepted_now c.rest (record { number = r.row.number; at = c.first.at })) (λ v. refl) n i.inputs) i.takers).holds (λ never. absurd never)
+  follow (m.Accepts_parcel n a r false) =
       told_well (accepting_parcel listening i n a r) _
       (t.accepts makes listening bytes places told i stands a.by.input a.event r n a.by.has (Some a.at) (inr (some_none a.at)) i.inputs refl (change_taker (row_made a.at.number r.row.number) a.at.place a.takers)) refl
-      (t.ways_at makes listening bytes places told i stands a.by.input a.event r)
-  follow (m.Accepts_parcel_in_doubt n a r) =
-      arrives makes bytes places told i (in_doubt i (accepting_parcel listening i n a r)) ⊥ stands.holds
-      (t.accepts makes listening bytes places told i stands a.by.input a.event r n a.by.has (Some a.at) (inr (some_none a.at)) i.inputs refl (change_taker (row_made a.at.number r.row.number) a.at.place a.takers)).holds
-      (t.ways_at makes listening bytes places told i stands a.by.input a.event r) (λ never. absurd never)
+  follow (m.Accepts_parcel n a r true) =
+      arrives makes bytes places told i (in_doubt true i (accepting_parcel listening i n a r)) ⊥ stands.holds
+      (t.accepts makes listening bytes places told i stands a.by.input a.event r n a.by.has (Some a.at) (inr (some_none a.at)) i.inputs refl (change_taker (row_made a.at.number r.row.number) a.at.place a.takers)).holds (λ never. absurd never)
   follow (m.Takes_alone n h address listens taken takers takes) = same_but_ends takers
-  follow (m.Has_no_room n c) = with_more n c.by c.came _
-  follow (m.Has_no_number n c) = with_more n c.by c.came _
   follow (m.Is_at_its_end n h opens lines none) =
-      arrives_quietly makes bytes places told i (quiet i (record i { inputs = change_input ended_now n i.inputs })) _ stands refl refl none_on_the_way (λ w. (refl, with_input ended_now (λ v. refl) n))
-  follow (m.Fails_to_come n h reads came) = with_more n h came _
-  follow (m.Has_no_memory n h reads came) = with_more n h came _
-  follow (m.Reads r k) = told_well (reading i r k) _ (t.reads_it makes listening bytes places told i stands r (Some k.kit) (k.front ++ k.back)) refl none_on_the_way
-  follow (m.Works r k verdicts uses) = told_well (working makes i r verdicts) _ (works r verdicts uses) refl none_on_the_way
+      arrives_quietly makes bytes places told i (quiet i (record i { inputs = change_input ended_now n i.inputs })) _ stands refl refl (λ w. (refl, with_input ended_now (λ v. refl) n))
+  follow (m.Holds_more n h reads came answer none) = with_more n h came _
+  follow (m.Reads r k) = told_well (reading i r k) _ (t.reads_it makes listening bytes places told i stands r (Some k.kit) (k.front ++ k.back)) refl
+  follow (m.Works r k verdicts uses) = told_well (working makes i r verdicts) _ (works r verdicts uses) refl
   follow (m.Keeps_a_batch r) =
-      arrives_quietly makes bytes places told i (quiet i (record i { kept = r.rows; unread = r.rest })) _ stands refl refl none_on_the_way (λ w. (refl, kept_batch r))
+      arrives_quietly makes bytes places told i (quiet i (record i { kept = r.rows; unread = r.rest })) _ stands refl refl (λ w. (refl, kept_batch r))
   follow (m.Collects n a verdicts uses) =
-      told_well (collecting makes i n a verdicts) _ (t.comes_back makes listening bytes places told i stands n a.batch a.has a.away verdicts uses (home_with i.plan.generation a.kit i.kits)) refl none_on_the_way
+      told_well (collecting makes i n a verdicts) _ (t.comes_back makes listening bytes places told i stands n a.batch a.has a.away verdicts uses (home_with i.plan.generation a.kit i.kits)) refl
   follow (m.Loses_a_result n a) =
-      arrives_quietly makes bytes places told i (losing i n a) _ stands refl refl none_on_the_way (λ w. (refl, kit_lost n (home_with i.plan.generation a.kit i.kits)))
+      arrives_quietly makes bytes places told i (losing i n a) _ stands refl refl (λ w. (refl, kit_lost n (home_with i.plan.generation a.kit i.kits)))
   follow (m.Tells n parts rest h a) =
-      told_well (telling i n parts rest a) _ (tells makes listening bytes places told i stands n parts rest h a.new a.shed.older a.shed.newer a.appends) refl none_on_the_way
+      told_well (telling i n parts rest a) _ (tells makes listening bytes places told i stands n parts rest h a.new a.shed.older a.shed.newer a.appends) refl
   follow (m.Gives n id at events rest h plain) =
       told_well (giving bytes i n h.batch at events (due.Events id at events ∷ rest) rest) _
       (gives makes listening bytes places told i stands n id at events [] rest h (plain_fits at events plain) refl
-      (λ file m. i.holds.content file m ++ bytes_at bytes (is_file file.path) h.batch.plan.config (due.Events id at events ∷ rest)) (λ file m. refl)) refl none_on_the_way
+      (λ file m. i.holds.content file m ++ bytes_at bytes (is_file file.path) h.batch.plan.config (due.Events id at events ∷ rest)) (λ file m. refl)) refl
   follow (m.Is_taken n id number events rest h fates are none) =
       told_well (boxing i n number events fates rest) _
-      (gives makes listening bytes places told i stands n id (place.Foreign number) events fates rest h are none i.holds.content (λ file m. sym (append-nil (i.holds.content file m)))) refl none_on_the_way
+      (gives makes listening bytes places told i stands n id (place.Foreign number) events fates rest h are none i.holds.content (λ file m. sym (append-nil (i.holds.content file m)))) refl
   follow (m.Is_rejected n id number events rest h fates are some a) =
       told_well (rejecting i n number events fates rest (rejections h.batch.plan.config id fates events) a) _
-      (rejects makes listening bytes places told i stands n id number events rest h fates are some a.new a.shed.older a.shed.newer a.appends) refl none_on_the_way
+      (rejects makes listening bytes places told i stands n id number events rest h fates are some a.new a.shed.older a.shed.newer a.appends) refl
   follow (m.Sends n id address events rest h none p is some may) = parcel_changed n (in_parcel (Some p.number)) (λ b o is. record { number = is.number; plan = is.plan; rows = is.rows; verdicts = is.verdicts; left = is.left }) (λ b. refl) (change_sender (with_sent p) address i.senders)
   follow (m.Hears address a s has turn waits) = parcel_changed_none (change_sender (with_heard a) address i.senders)
   follow (m.Is_not_heard n id address events rest h number is was) = parcel_changed n (in_parcel None) (λ b o is. record { number = is.number; plan = is.plan; rows = is.rows; verdicts = is.verdicts; left = is.left }) (λ b. refl) i.senders
   follow (m.Sends_last address p last may ends) = parcel_changed_none (change_sender (with_sent p) address i.senders)
   follow (m.Is_heard n id address events rest h number is was) =
       told_well (hearing i n address events rest) _
-      (gives makes listening bytes places told i stands n id (place.Address address) events [] rest h refl refl i.holds.content (λ file m. sym (append-nil (i.holds.content file m)))) refl none_on_the_way
-  follow (m.Fails_to_deliver n left h f why printed out given took) = as_it_was (failing i printed given) _ refl refl refl none_on_the_way
+      (gives makes listening bytes places told i stands n id (place.Address address) events [] rest h refl refl i.holds.content (λ file m. sym (append-nil (i.holds.content file m)))) refl
+  follow (m.Fails_to_deliver n left h f why printed out given took) = as_it_was (failing i printed given) _ refl refl refl
   follow (m.Acknowledges_it n h queue a) =
-      told_well (acknowledging i n queue (length h.batch.rows)) _ (t.acknowledges makes listening bytes places told i stands n h queue a) refl none_on_the_way
+      told_well (acknowledging i n queue (length h.batch.rows)) _ (t.acknowledges makes listening bytes places told i stands n h queue a) refl
   follow (m.Marks front last is) =
       told_well (marking i front) _ (t.marks makes listening bytes places told i stands front last is) refl
-      (λ q has. one_on_the_way (marked i.holds.queue) q (t.marked_at makes listening bytes places told i stands is) has)
-  follow (m.Fails_to_mark is) =
-      as_it_was (in_part i (marked i.holds.queue)) _ refl refl refl (λ q has. one_on_the_way (marked i.holds.queue) q (t.marked_at makes listening bytes places told i stands is) has)
-  follow (m.Assures n front h is) = told_well (assuring i n h front) _ (t.assures makes listening bytes places told i stands n front is) refl none_on_the_way
-  follow (m.Fails_to_assure n front h marks) = as_it_was (failing_to_assure i n h front) _ refl refl refl none_on_the_way
+  follow (m.Assures n front h is) = told_well (assuring i n h front) _ (t.assures makes listening bytes places told i stands n front is) refl
+  follow (m.Fails_to_assure n front h marks) = as_it_was (failing_to_assure i n h front) _ refl refl refl
   follow (m.Purges h) =
       told_well (purging i h) _ (t.purges makes listening bytes places told i stands h) refl
-      (λ q has. one_on_the_way (without_page i.holds.queue h) q (t.purged_at makes listening bytes places told i stands h) has)
-  follow (m.Fails_to_purge h) =
-      as_it_was (in_part i (without_page i.holds.queue h)) _ refl refl refl (λ q has. one_on_the_way (without_page i.holds.queue h) q (t.purged_at makes listening bytes places told i stands h) has)
   follow (m.Answers place t has may) = same_but_ends (change_taker (assured may.oldest.number may.rest) place i.takers)
   follow (m.Refuses place t has may) = same_but_ends (change_taker (refused may.rest) place i.takers)
   follow (m.Connects takers next_place are listen senders unused) = both_ends (i.takers ++ takers) next_place (i.senders ++ senders)
   follow (m.Releases place t has free) = same_but_ends (without_taker place i.takers)
-  follow (m.Stops drains) = arrives_quietly makes bytes places told i (quiet i (record i { stopped = true; drains = drains })) _ stands refl refl none_on_the_way (λ w. (refl, stopped_knows true drains i.going))
-  follow (m.Goes_on_with place t has) = arrives_quietly makes bytes places told i (quiet i (record i { going = place ∷ i.going })) _ stands refl refl none_on_the_way (λ w. (refl, stopped_knows i.stopped i.drains (place ∷ i.going)))
-  follow (m.Adopts c) = told_well (adopting listening i c) _ (t.adopts makes listening bytes places told i stands c) refl none_on_the_way
-  follow (m.Leaves_all x leaves) = as_it_was (nothing i) _ refl refl refl none_on_the_way
-  follow (m.Fails_at_once x fails) = as_it_was (nothing i) _ refl refl refl none_on_the_way
+  follow (m.Stops drains) = arrives_quietly makes bytes places told i (quiet i (record i { stopped = true; drains = drains })) _ stands refl refl (λ w. (refl, stopped_knows true drains i.going))
+  follow (m.Goes_on_with place t has) = arrives_quietly makes bytes places told i (quiet i (record i { going = place ∷ i.going })) _ stands refl refl (λ w. (refl, stopped_knows i.stopped i.drains (place ∷ i.going)))
+  follow (m.Adopts c) = told_well (adopting listening i c) _ (t.adopts makes listening bytes places told i stands c) refl
+  follow (m.Leaves_all x leaves) = as_it_was (nothing i) _ refl refl refl
+  follow (m.Only_fails x fails) = as_it_was (nothing i) _ refl refl refl
 
 pub steps_follow : (makes : Makes) (listening : Listening) (bytes : Bytes) (places : Places) → StepsFollow makes bytes places listening
 steps_follow makes listening bytes places told i x stands = follow makes listening bytes places told i stands x
@@ -302,7 +283,6 @@ module _ (makes : Makes) (listening : Listening) (bytes : Bytes) (places : Place
 
   may_leave : (i j : LineView places) (e : Effect places) (image : Image) → j.holds ≡ i.holds → MayLeave makes bytes places told i e image → MayLeave makes bytes places told j e image
   may_leave i j e image same (Before left) = Before (subst (λ h. StopLeaves makes bytes places told h image) (sym same) left)
-  may_leave i j e image same (On_the_way q has left) = On_the_way q has (subst (λ h. StopLeaves makes bytes places told (with_queue q h) image) (sym same) left)
   may_leave i j e image same (Behind left) = Behind left
 
 pub calls_follow : (makes : Makes) (listening : Listening) (bytes : Bytes) (places : Places) → CallsFollow makes bytes places listening

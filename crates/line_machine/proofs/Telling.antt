@@ -43,20 +43,12 @@ module _ (makes : Makes) (listening : Listening) (bytes : Bytes) (places : Place
   module _ (v : InputView) (event : Ev) (r : IsRowFor listening i v event) where
     -- the queue with room for it
     room_at : IsQueueAt s r.before
-    room_at = ⊎_elim (λ e. subst (IsQueueAt s) (sym e.0) stands.holds.queue) (λ e. rolled_at e.0) r.room
+    room_at = ⊎_elim (λ e. subst (IsQueueAt s) (sym e) stands.holds.queue) rolled_at r.room
       where
         rolled_at : Rolls i.holds.queue r.before → IsQueueAt s r.before
         rolled_at rolls =
             let marked_at = (rolled_is_of s i.holds.queue stands.holds.queue).0 rolls.recorded in
             subst (IsQueueAt s) (sym rolls.new_is) ((rolled_is_of s (marked i.holds.queue) marked_at).1 rolls.can rolls.is)
-
-    pub ways_at : (q : Queue) → IsIn q r.ways → IsQueueAt s q
-    ways_at q has = ⊎_elim (λ e. absurd (subst (IsIn q) e.1 has)) (λ e. of_rolls e.0 (subst (IsIn q) e.1 has)) r.room
-      where
-        of_rolls : Rolls i.holds.queue r.before → IsIn q (marked i.holds.queue ∷ r.before ∷ []) → IsQueueAt s q
-        of_rolls rolls (inl e) = subst (IsQueueAt s) (sym e) ((rolled_is_of s i.holds.queue stands.holds.queue).0 rolls.recorded)
-        of_rolls rolls (inr (inl e)) = subst (IsQueueAt s) (sym e) room_at
-        of_rolls rolls (inr (inr never)) = absurd never
 
     module _ (n : ℕ) (has : input_at n i.inputs ≡ Some v) (parcel : Option ParcelAt) (comes : (v.is_open ≡ true) ⊎ (parcel ≢ None)) (inputs : List InputView) (same : inputs_of inputs ≡ inputs_of i.inputs) (takers : List TakerView) where
       abbrev entry : Entry

@@ -1,5 +1,5 @@
 -- A turn ends: each refusal leaves fewer calls that can be refused.
-use Rattle.std.proofs.Common.{◌≡◌, inl, inr, ℕ, suc, ◌≤◌, ◌==◌, ◌||◌, Bool, true, false, List, [], ◌∷◌, map, Option, Some, None, if◌then◌else◌, refl, sym, ap, ◌∙◌, subst, arith}
+use Rattle.std.proofs.Common.{◌≡◌, inl, inr, ℕ, suc, ◌≤◌, ◌==◌, ◌||◌, Bool, true, false, List, [], ◌∷◌, ◌++◌, map, Option, Some, None, if◌then◌else◌, refl, sym, ap, ◌∙◌, subst, arith}
 use Rattle.std.proofs.lemmas.Bool.{eq-eqb}
 use Rattle.event_flow.specs.Meaning.{Makes}
 use Rattle.history_book.specs.Contents.{Bytes}
@@ -112,13 +112,15 @@ module _ (makes : Makes) (listening : Listening) (bytes : Bytes) {places : Place
 
   last_keeps : (x : Call) (i : LineView places) (s : Step makes listening bytes i) → IsCall makes listening bytes i s x → IsRefusal x → Keeps i (effect makes listening bytes i s).line
   last_keeps x i (m.Takes_alone n h address listens taken takers takes) is refusal = record { batches = refl; inputs = refl; ends = taken_same _ n taken i.takers takers takes }
-  last_keeps x i (m.Has_no_room n c) is refusal = record { batches = refl; inputs = inputs_same (held_now _) (λ v. refl) n i.inputs; ends = refl }
+  last_keeps x i (m.Holds_more n h reads came answer none) is refusal = record { batches = refl; inputs = inputs_same (held_now (h.input.held ++ came)) (λ v. refl) n i.inputs; ends = refl }
   last_keeps x i (m.Is_not_heard n id address events rest h number was heard) is refusal = record { batches = numbers_kept (in_parcel None) (λ b. refl) n i.batches; inputs = refl; ends = refl }
   last_keeps x i (m.Leaves_all y leaves) is refusal = keeps_all i
-  last_keeps x i (m.Fails_at_once y fails) is refusal = keeps_all i
+  last_keeps x i (m.Only_fails y fails) is refusal = keeps_all i
   last_keeps x i (m.Sends n id address events rest h none p same some may) is refusal = absurd is
   last_keeps x i (m.Hears address a s has turn waits) is refusal = absurd is
   last_keeps x i (m.Sends_last address p last may due) is refusal = absurd is
+  last_keeps x i (m.Accepts n c r true) is refusal = absurd (subst IsRefusal is refusal)
+  last_keeps x i (m.Accepts_parcel n a r true) is refusal = absurd (subst IsRefusal is refusal)
   last_keeps x i s is refusal = absurd (subst IsRefusal is refusal)
 
   -- ---- the law

@@ -5,6 +5,7 @@ use Rattle.event_flow.specs.Meaning.{Makes}
 use Rattle.history_book.specs.Contents.{Bytes}
 use Rattle.history_book.specs.Links.{Listening}
 use Rattle.history_book.specs.Sound.{Places}
+use Rattle.line_machine.specs.declared.calls.Accepted.{Accepted}
 use Rattle.line_machine.specs.declared.calls.Accepted.TheVariants as accepted
 use Rattle.line_machine.specs.declared.calls.Call.{Call}
 use Rattle.line_machine.specs.declared.calls.Call.TheVariants as call
@@ -20,6 +21,11 @@ use Rattle.line_machine.specs.Steps as m
 use Rattle.line_machine.specs.Steps.{Step, effect}
 use Rattle.line_machine.specs.Views.{LineView}
 
+-- what an accept answers of its row: its number, and where the row is in doubt that the store failed
+abbrev pub row_answer : Bool → ℕ → Result Accepted LineFault
+row_answer true number = Err fault.Store
+row_answer false number = Ok (accepted.Row number)
+
 -- An accept that takes what lay in the rings and writes no row. Where no event is left there is none yet; or, of an open input, the end, where a parcel without events
 -- came last at each of its ends. Where one is left, there was no room for it.
 abbrev pub TakesAnswer : Option (List ℕ) → ℕ → Bool → List TakerView → Call → Type 0
@@ -32,16 +38,11 @@ TakesAnswer only n is_open ts c =
 module _ (makes : Makes) (listening : Listening) (bytes : Bytes) {places : Places} where
   -- the last step of the call with this answer
   abbrev pub IsCall : (i : LineView places) → Step makes listening bytes i → Call → Type 0
-  IsCall i (m.Accepts n c r) x = x ≡ call.Accept n (Ok (accepted.Row r.row.number))
-  IsCall i (m.Accepts_in_doubt n c r) x = x ≡ call.Accept n (Err fault.Store)
-  IsCall i (m.Accepts_parcel n a r) x = x ≡ call.Accept n (Ok (accepted.Row r.row.number))
-  IsCall i (m.Accepts_parcel_in_doubt n a r) x = x ≡ call.Accept n (Err fault.Store)
+  IsCall i (m.Accepts n c r doubt) x = x ≡ call.Accept n (row_answer doubt r.row.number)
+  IsCall i (m.Accepts_parcel n a r doubt) x = x ≡ call.Accept n (row_answer doubt r.row.number)
   IsCall i (m.Takes_alone n h address listens taken takers takes) x = TakesAnswer (ends_served i) n h.input.is_open takers x
-  IsCall i (m.Has_no_room n c) x = x ≡ call.Accept n (Ok accepted.Full)
-  IsCall i (m.Has_no_number n c) x = x ≡ call.Accept n (Err fault.NumbersSpent)
+  IsCall i (m.Holds_more n h reads came answer none) x = x ≡ call.Accept n answer
   IsCall i (m.Is_at_its_end n h opens lines none) x = x ≡ call.Accept n (Ok accepted.Ended)
-  IsCall i (m.Fails_to_come n h reads came) x = x ≡ call.Accept n (Err (fault.Input n))
-  IsCall i (m.Has_no_memory n h reads came) x = x ≡ call.Accept n (Err fault.Memory)
   IsCall i (m.Reads t k) x = x ≡ call.Read (Ok (read.Given i.next_batch))
   IsCall i (m.Works t k verdicts uses) x = x ≡ call.Read (Ok (read.Given i.next_batch))
   IsCall i (m.Keeps_a_batch t) x = x ≡ call.Read (Err fault.Memory)
@@ -58,11 +59,9 @@ module _ (makes : Makes) (listening : Listening) (bytes : Bytes) {places : Place
   IsCall i (m.Fails_to_deliver n left h f is printed out given took) x = x ≡ call.Deliver n (Err f)
   IsCall i (m.Acknowledges_it n h queue a) x = x ≡ call.Acknowledge n
   IsCall i (m.Marks front last is) x = x ≡ call.Mark (Ok front)
-  IsCall i (m.Fails_to_mark is) x = x ≡ call.Mark (Err fault.Store)
   IsCall i (m.Assures n front h is) x = x ≡ call.Assure n (Ok front)
   IsCall i (m.Fails_to_assure n front h is) x = x ≡ call.Assure n (Err fault.Store)
   IsCall i (m.Purges h) x = x ≡ call.Purge (Ok (Some h.page.number))
-  IsCall i (m.Fails_to_purge h) x = x ≡ call.Purge (Err fault.Store)
   IsCall i (m.Answers place t has may) x = x ≡ call.AnswerLink place (Some (record { number = may.oldest.number; answer = Assured }))
   IsCall i (m.Refuses place t has may) x = x ≡ call.AnswerLink place (Some (record { number = t.next; answer = NotListening }))
   IsCall i (m.Sends_last address p last may is) x = ⊥
@@ -72,7 +71,7 @@ module _ (makes : Makes) (listening : Listening) (bytes : Bytes) {places : Place
   IsCall i (m.Stops drains) x = x ≡ call.Stop drains
   IsCall i (m.Goes_on_with place t has) x = x ≡ call.GoOn place
   IsCall i (m.Leaves_all y leaves) x = x ≡ y
-  IsCall i (m.Fails_at_once y fails) x = x ≡ y
+  IsCall i (m.Only_fails y fails) x = x ≡ y
 
   -- A step that a call makes before its last: in the delivery of a batch its parcel is sent, and answers are heard; and last parcels are sent one by one.
   abbrev pub IsPart : (i : LineView places) → Step makes listening bytes i → Call → Type 0

@@ -36,13 +36,12 @@ pub record Came : Type 0 where
   pub input : ℕ
   pub events : List Incoming
 
--- The line behind the step; what it told; the queues that its folder may hold on the way, before anything of that is so; what its places hold once it is
+-- The line behind the step; what it told; what its places hold once that is
 -- so; the events that came to an input; what was given to stdout, and to boxes; the places of watched files that were recorded; and the kits, and the boxes of
 -- outputs, that were closed.
 pub record Effect (places : Places) : Type 0 where
   pub line : LineView places
   pub told : List Entry
-  pub ways : List Queue
   pub behind : Holdings places
   pub came : List Came
   pub printed : List ℕ
@@ -172,7 +171,6 @@ module _ {places : Places} where
   quiet i now = record {
     line = now;
     told = [];
-    ways = [];
     behind = i.holds;
     came = [];
     printed = [];
@@ -189,9 +187,9 @@ module _ {places : Places} where
   abbrev pub tells : LineView places → LineView places → List Entry → Effect places
   tells i now told = record (quiet i now) { told = told; behind = now.holds }
 
-  -- it may be so: the line takes no further call
-  abbrev pub in_doubt : LineView places → Effect places → Effect places
-  in_doubt i e = record e { line = i }
+  -- where it is in doubt whether it is so, the line is said to be as it was, and takes no further call
+  abbrev pub in_doubt : Bool → LineView places → Effect places → Effect places
+  in_doubt doubt i e = record e { line = if doubt then i else e.line }
 
   -- ---- accepting
 
@@ -277,7 +275,7 @@ module _ {places : Places} where
   with_mark front i = record i { holds = with_queue (marked i.holds.queue) i.holds; mark = Some front; uncovered = false; written = 0; acknowledged = 0 }
 
   abbrev pub marking : LineView places → ℕ → Effect places
-  marking i front = record (tells i (with_mark front i) (Mark front ∷ [])) { ways = marked i.holds.queue ∷ [] }
+  marking i front = tells i (with_mark front i) (Mark front ∷ [])
 
   -- of a watched file the place behind the last row of which the input is told is recorded
   abbrev pub assuring : (i : LineView places) → (n : ℕ) → HasInput i n → ℕ → Effect places
@@ -288,11 +286,7 @@ module _ {places : Places} where
   failing_to_assure i n h front = record (quiet i i) { recorded = last_places (rows_up_to front h.input.rows) }
 
   abbrev pub purging : (i : LineView places) → HasSpent i.holds.queue → Effect places
-  purging i h = record (tells i (record i { holds = with_queue (without_page i.holds.queue h) i.holds }) (Purge h.page.number ∷ [])) { ways = without_page i.holds.queue h ∷ [] }
-
-  -- a part of it may be so
-  abbrev pub in_part : LineView places → Queue → Effect places
-  in_part i queue = record (quiet i i) { ways = queue ∷ [] }
+  purging i h = tells i (record i { holds = with_queue (without_page i.holds.queue h) i.holds }) (Purge h.page.number ∷ [])
 
 module _ (makes : Makes) where
   -- what is due of a batch of these rows
@@ -340,7 +334,7 @@ module _ (listening : Listening) {places : Places} where
 
   abbrev pub accepting : (i : LineView places) (n : ℕ) (v : InputView) (event : Ev) → Option ParcelAt → IsRowFor listening i v event → List InputView → List TakerView → List Came → Effect places
   accepting i n v event parcel r inputs takers came =
-      record (tells i (with_written i inputs takers r.row r.before) (Accept n parcel r.row.number r.row.event ∷ [])) { ways = r.ways; came = came }
+      record (tells i (with_written i inputs takers r.row r.before) (Accept n parcel r.row.number r.row.event ∷ [])) { came = came }
 
   abbrev pub accepting_line : (i : LineView places) (n : ℕ) (c : Comes listening i n) → IsRowFor listening i c.by.input c.first.event → Effect places
   accepting_line i n c r =
@@ -351,9 +345,7 @@ module _ (listening : Listening) {places : Places} where
   accepting_parcel i n a r = accepting i n a.by.input a.event (Some a.at) r i.inputs (change_taker (row_made a.at.number r.row.number) a.at.place a.takers) []
 
 module _ (makes : Makes) (bytes : Bytes) (places : Places) where
-  -- What a stop within the step may leave, where these were told before it: what its places held, with the queue of before or one on the way; or what they hold
-  -- behind it.
+  -- What a stop within the step may leave, where these were told before it: what its places held, or what they hold behind it.
   pub data MayLeave (told : List Entry) (i : LineView places) (e : Effect places) (image : Image) : Type 0 where
     Before : StopLeaves makes bytes places told i.holds image → MayLeave told i e image
-    On_the_way : (q : Queue) → IsIn q e.ways → StopLeaves makes bytes places told (with_queue q i.holds) image → MayLeave told i e image
     Behind : StopLeaves makes bytes places (told ++ e.told) e.behind image → MayLeave told i e image

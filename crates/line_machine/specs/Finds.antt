@@ -1,5 +1,5 @@
 -- What a step of a line finds before it: an event that comes, rows and a kit for a batch, a batch that is out, a page that is spent, a configuration.
-use Rattle.std.specs.Prelude.{◌≡◌, ◌≢◌, ◌⊎◌, ◌≤◌, ◌<◌, ◌+◌, ℕ, suc, true, false, List, [], ◌∷◌, ◌++◌, length, map, Option, Some, None, if◌then◌else◌, ⊤}
+use Rattle.std.specs.Prelude.{◌≡◌, ◌≢◌, ◌⊎◌, ◌≤◌, ◌<◌, ◌+◌, ℕ, suc, true, false, List, [], ◌∷◌, ◌++◌, length, map, Option, Some, None, Result, Ok, Err, if◌then◌else◌, ⊤}
 use Rattle.std.specs.List.{sum}
 use Rattle.event_tree.specs.Events.{Ev}
 use Rattle.event_tree.specs.declared.lists.DeadPart.{DeadPart}
@@ -33,6 +33,8 @@ use Rattle.history_book.specs.Lists.{IsIn}
 use Rattle.history_book.specs.Queues.{acknowledged_in, next_in, AcknowledgesMore}
 use Rattle.history_book.specs.Sound.{Places}
 use Rattle.history_book.specs.States.{Plan}
+use Rattle.line_machine.specs.declared.calls.Accepted.{Accepted}
+use Rattle.line_machine.specs.declared.calls.Accepted.TheVariants as accepted
 use Rattle.line_machine.specs.declared.calls.LineFault.{LineFault}
 use Rattle.line_machine.specs.declared.calls.LineFault.TheVariants as fault
 use Rattle.line_machine.specs.Ends.{TakerView, SenderView, AreApart, IsUnused, Taken, Takes, HasNext, IsServed, IsPartlyAccepted, AreEnded}
@@ -121,7 +123,16 @@ AreEndsOf listening inputs ts = (t : TakerView) → IsIn t ts → IsEndOf listen
 abbrev pub AreUnused : List SenderView → Type 0
 AreUnused ss = (s : SenderView) → IsIn s ss → IsUnused s
 
--- ---- deliveries that fail
+-- ---- calls that fail
+
+-- An accept writes no row, though it may hold more of its input then: there was an event, and the queue had no room or no number for it; the input failed; or there was no
+-- memory.
+abbrev pub WritesNone : ℕ → List Incoming → Result Accepted LineFault → Type 0
+WritesNone n held (Ok accepted.Full) = held ≢ []
+WritesNone n held (Err fault.NumbersSpent) = held ≢ []
+WritesNone n held (Err (fault.Input input)) = input ≡ n
+WritesNone n held (Err fault.Memory) = ⊤
+WritesNone n held answer = ⊥
 
 -- what the box of the next delivery took of it before that failed: nothing, or of its first events those that it didn't reject
 abbrev pub BoxTook : List Due → List Given → Type 0
@@ -229,8 +240,7 @@ module _ (listening : Listening) {places : Places} where
   -- The row of an event that an input accepts: it has the next number, names the input, and has the event as the settings of that make it.
   pub record IsRowFor (i : LineView places) (v : InputView) (event : Ev) : Type 0 where
     pub before : Queue
-    pub ways : List Queue
-    pub room : ((before ≡ i.holds.queue) × (ways ≡ [])) ⊎ (Rolls i.holds.queue before × (ways ≡ marked i.holds.queue ∷ before ∷ []))
+    pub room : (before ≡ i.holds.queue) ⊎ Rolls i.holds.queue before
     pub row : PageRow
     pub is : IsQueue (with_row row before)
     pub number : row.number ≡ next_in before

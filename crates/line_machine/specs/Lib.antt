@@ -16,7 +16,6 @@ pub mod Answering
 pub mod Serving
 pub mod Sending
 pub mod Doing
-pub mod Numbering
 pub mod Coming
 pub mod Covering
 pub mod Outputs

@@ -16,7 +16,6 @@ use Rattle.line_machine.specs.Covering.{MarksCover, RowsAreCovered}
 use Rattle.line_machine.specs.Doing.{DoesLegally, deeds_of}
 use Rattle.line_machine.specs.Effects.{Effect}
 use Rattle.line_machine.specs.Kits.{AreOfTheirs}
-use Rattle.line_machine.specs.Numbering.{BatchesRise}
 use Rattle.line_machine.specs.Openings.{IsOpenedLine, opening}
 use Rattle.line_machine.specs.Serving.{EndsStand}
 use Rattle.line_machine.specs.Settling.{Settles}
@@ -37,7 +36,6 @@ module _ (makes : Makes) (listening : Listening) (bytes : Bytes) (places : Place
     pub marks : MarksCover i
     pub kits : AreOfTheirs i
     pub boxes : BoxesStand i
-    pub batches : BatchesRise (told_of deeds) i.next_batch
 
   -- So it is once a line was opened, behind legal deeds, and behind each step.
   abbrev pub OpenedStandsWhole : Type 0

@@ -1,6 +1,6 @@
 -- What a line's calls may do: each step with what it finds, and what it makes of the line. There is no step for an answer that can't come. A call makes one step; the
 -- delivery of a batch to an address may make several, as a parcel goes and its answer comes.
-use Rattle.std.specs.Prelude.{◌≡◌, ◌≢◌, ◌⊎◌, ◌<◌, ℕ, Bool, ◌+◌, true, false, List, [], ◌∷◌, ◌++◌, length, Some, None, ⊤}
+use Rattle.std.specs.Prelude.{◌≡◌, ◌≢◌, ◌⊎◌, ◌<◌, ℕ, Bool, ◌+◌, true, false, List, [], ◌∷◌, ◌++◌, length, Some, None, Result, ⊤}
 use Rattle.event_tree.specs.Events.{Ev}
 use Rattle.event_tree.specs.declared.lists.DeadPart.{DeadPart}
 use Rattle.foreign_parts.specs.declared.filter.Verdict.{Verdict}
@@ -21,28 +21,24 @@ use Rattle.history_book.specs.Links.{Listening}
 use Rattle.history_book.specs.Queues.{next_in}
 use Rattle.history_book.specs.Sound.{Places}
 use Rattle.history_book.specs.States.{numbers_found}
+use Rattle.line_machine.specs.declared.calls.Accepted.{Accepted}
 use Rattle.line_machine.specs.declared.calls.Call.{Call}
 use Rattle.line_machine.specs.declared.calls.LineFault.{LineFault}
-use Rattle.line_machine.specs.Effects.{Effect, quiet, nothing, in_doubt, in_part, holds_more, ended_now, in_parcel, new_batch, reading, working, collecting, losing, telling, giving, boxing, rejecting, hearing, failing, acknowledging, marking, assuring, failing_to_assure, purging, adopting, accepting_line, accepting_parcel}
+use Rattle.line_machine.specs.Effects.{Effect, quiet, nothing, in_doubt, holds_more, ended_now, in_parcel, new_batch, reading, working, collecting, losing, telling, giving, boxing, rejecting, hearing, failing, acknowledging, marking, assuring, failing_to_assure, purging, adopting, accepting_line, accepting_parcel}
 use Rattle.line_machine.specs.Ends.{TakerView, SenderView, Taken, Takes, MayAssure, MayRefuse, IsFree, without_taker, taker_at, change_taker, assured, refused, sender_at, change_sender, with_sent, with_heard, MaySend, WasHeard}
-use Rattle.line_machine.specs.Finds.{IsPlain, Acknowledges, HasSpent, without_page, AreNew, AreEndsOf, AreUnused, HasInput, ends_served, IsAway, IsHome, TakesKit, TakesRows, AppendsNow, FailsSo, BoxTook, StdoutTook, Uses, IsRead, Comes, IsRowFor, Arrives, IsLastDue, Changes}
-use Rattle.line_machine.specs.Unchanged.{LeavesAll, FailsAtOnce}
+use Rattle.line_machine.specs.Finds.{IsPlain, Acknowledges, HasSpent, without_page, AreNew, AreEndsOf, AreUnused, HasInput, ends_served, IsAway, IsHome, TakesKit, TakesRows, AppendsNow, FailsSo, WritesNone, BoxTook, StdoutTook, Uses, IsRead, Comes, IsRowFor, Arrives, IsLastDue, Changes}
+use Rattle.line_machine.specs.Unchanged.{LeavesAll, OnlyFails}
 use Rattle.line_machine.specs.Views.{Incoming, Given, LineView, inputs_of, change_input, change_batch}
 
 module _ (makes : Makes) (listening : Listening) (bytes : Bytes) {places : Places} where
   pub data Step (i : LineView places) : Type 0 where
-    -- accept
-    Accepts : (n : ℕ) (c : Comes listening i n) → IsRowFor listening i c.by.input c.first.event → Step i
-    Accepts_in_doubt : (n : ℕ) (c : Comes listening i n) → IsRowFor listening i c.by.input c.first.event → Step i
-    Accepts_parcel : (n : ℕ) (a : Arrives listening i n) → IsRowFor listening i a.by.input a.event → Step i
-    Accepts_parcel_in_doubt : (n : ℕ) (a : Arrives listening i n) → IsRowFor listening i a.by.input a.event → Step i
+    -- accept; where the store fails, it is in doubt whether the row is there
+    Accepts : (n : ℕ) (c : Comes listening i n) → IsRowFor listening i c.by.input c.first.event → (doubt : Bool) → Step i
+    Accepts_parcel : (n : ℕ) (a : Arrives listening i n) → IsRowFor listening i a.by.input a.event → (doubt : Bool) → Step i
     Takes_alone : (n : ℕ) (h : HasInput i n) (address : List ℕ) → listening.address h.input.statement ≡ Some address → (taken : List Taken) (takers : List TakerView)
         → Takes (ends_served i) n taken i.takers takers → Step i
-    Has_no_room : (n : ℕ) → Comes listening i n → Step i
-    Has_no_number : (n : ℕ) → Comes listening i n → Step i
+    Holds_more : (n : ℕ) (h : HasInput i n) → IsRead listening i h.input → (came : List Incoming) (answer : Result Accepted LineFault) → WritesNone n (h.input.held ++ came) answer → Step i
     Is_at_its_end : (n : ℕ) (h : HasInput i n) → h.input.is_open ≡ true → listening.address h.input.statement ≡ None → (h.input.held ≡ []) ⊎ (i.stopped ≡ true) → Step i
-    Fails_to_come : (n : ℕ) (h : HasInput i n) → IsRead listening i h.input → (came : List Incoming) → Step i
-    Has_no_memory : (n : ℕ) (h : HasInput i n) → IsRead listening i h.input → (came : List Incoming) → Step i
     -- read
     Reads : TakesRows i → TakesKit i → Step i
     Works : (t : TakesRows i) → TakesKit i → (verdicts : List Verdict) → Uses makes (new_batch i t.rows None) verdicts → Step i
@@ -69,11 +65,9 @@ module _ (makes : Makes) (listening : Listening) (bytes : Bytes) {places : Place
     -- acknowledge, mark, assure, purge
     Acknowledges_it : (n : ℕ) (h : IsHome i n []) (queue : Queue) → Acknowledges (numbers_found h.batch.rows) i.holds.queue queue → Step i
     Marks : (front : ℕ) → front + 1 ≡ next_in i.holds.queue → IsQueue (marked i.holds.queue) → Step i
-    Fails_to_mark : IsQueue (marked i.holds.queue) → Step i
     Assures : (n front : ℕ) → HasInput i n → i.mark ≡ Some front → Step i
     Fails_to_assure : (n front : ℕ) → HasInput i n → i.mark ≡ Some front → Step i
     Purges : HasSpent i.holds.queue → Step i
-    Fails_to_purge : HasSpent i.holds.queue → Step i
     -- answer a parcel, and send a last one
     Answers : (place : ℕ) (t : TakerView) → taker_at place i.takers ≡ Some t → MayAssure i.mark t → Step i
     Refuses : (place : ℕ) (t : TakerView) → taker_at place i.takers ≡ Some t → MayRefuse t → Step i
@@ -86,22 +80,17 @@ module _ (makes : Makes) (listening : Listening) (bytes : Bytes) {places : Place
     -- stop
     Stops : (drains : Bool) → Step i
     Goes_on_with : (place : ℕ) (t : TakerView) → taker_at place i.takers ≡ Some t → Step i
-    -- any call whose answer leaves all as it was, and any that fails before anything is done
+    -- any call whose answer leaves all as it was, and any that only fails
     Leaves_all : (x : Call) → LeavesAll listening i x → Step i
-    Fails_at_once : (x : Call) → FailsAtOnce listening i x → Step i
+    Only_fails : (x : Call) → OnlyFails listening i x → Step i
 
   -- what the step makes of the line
   abbrev pub effect : (i : LineView places) → Step i → Effect places
-  effect i (Accepts n c r) = accepting_line listening i n c r
-  effect i (Accepts_in_doubt n c r) = in_doubt i (accepting_line listening i n c r)
-  effect i (Accepts_parcel n a r) = accepting_parcel listening i n a r
-  effect i (Accepts_parcel_in_doubt n a r) = in_doubt i (accepting_parcel listening i n a r)
+  effect i (Accepts n c r doubt) = in_doubt doubt i (accepting_line listening i n c r)
+  effect i (Accepts_parcel n a r doubt) = in_doubt doubt i (accepting_parcel listening i n a r)
   effect i (Takes_alone n h address listens taken takers takes) = quiet i (record i { takers = takers })
-  effect i (Has_no_room n c) = holds_more i n c.by c.came
-  effect i (Has_no_number n c) = holds_more i n c.by c.came
+  effect i (Holds_more n h reads came answer none) = holds_more i n h came
   effect i (Is_at_its_end n h opens lines none) = quiet i (record i { inputs = change_input ended_now n i.inputs })
-  effect i (Fails_to_come n h reads came) = holds_more i n h came
-  effect i (Has_no_memory n h reads came) = holds_more i n h came
   effect i (Reads t k) = reading i t k
   effect i (Works t k verdicts uses) = working makes i t verdicts
   effect i (Keeps_a_batch t) = quiet i (record i { kept = t.rows; unread = t.rest })
@@ -119,11 +108,9 @@ module _ (makes : Makes) (listening : Listening) (bytes : Bytes) {places : Place
   effect i (Fails_to_deliver n left h f is printed out given took) = failing i printed given
   effect i (Acknowledges_it n h queue a) = acknowledging i n queue (length h.batch.rows)
   effect i (Marks front last is) = marking i front
-  effect i (Fails_to_mark is) = in_part i (marked i.holds.queue)
   effect i (Assures n front h is) = assuring i n h front
   effect i (Fails_to_assure n front h is) = failing_to_assure i n h front
   effect i (Purges h) = purging i h
-  effect i (Fails_to_purge h) = in_part i (without_page i.holds.queue h)
   effect i (Answers place t has may) = quiet i (record i { takers = change_taker (assured may.oldest.number may.rest) place i.takers })
   effect i (Refuses place t has may) = quiet i (record i { takers = change_taker (refused may.rest) place i.takers })
   effect i (Sends_last address p last may is) = quiet i (record i { senders = change_sender (with_sent p) address i.senders })
@@ -133,15 +120,13 @@ module _ (makes : Makes) (listening : Listening) (bytes : Bytes) {places : Place
   effect i (Stops drains) = quiet i (record i { stopped = true; drains = drains })
   effect i (Goes_on_with place t has) = quiet i (record i { going = place ∷ i.going })
   effect i (Leaves_all x leaves) = nothing i
-  effect i (Fails_at_once x fails) = nothing i
+  effect i (Only_fails x fails) = nothing i
 
   -- the line takes further calls behind it
   abbrev pub GoesOn : (i : LineView places) → Step i → Type 0
-  GoesOn i (Accepts_in_doubt n c r) = ⊥
-  GoesOn i (Accepts_parcel_in_doubt n a r) = ⊥
+  GoesOn i (Accepts n c r true) = ⊥
+  GoesOn i (Accepts_parcel n a r true) = ⊥
   GoesOn i (Fails_to_deliver n left h f is printed out given took) = ⊥
-  GoesOn i (Fails_to_mark is) = ⊥
   GoesOn i (Fails_to_assure n front h is) = ⊥
-  GoesOn i (Fails_to_purge h) = ⊥
-  GoesOn i (Fails_at_once x fails) = ⊥
+  GoesOn i (Only_fails x fails) = ⊥
   GoesOn i s = ⊤

@@ -102,8 +102,11 @@ module _ (listening : Listening) {places : Places} where
   LeavesAll i (call.Skipped a) = CanDo i a → ⊥
   LeavesAll i x = ⊥
 
-  -- The call with this answer fails before anything is done, and the line takes no further one: an input that begins can't be opened, or rows can't be read.
-  abbrev pub FailsAtOnce : LineView places → Call → Type 0
-  FailsAtOnce i (call.Accept n (Err fault.Store)) = ReadsAt i n
-  FailsAtOnce i (call.Read (Err fault.Store)) = ⊤
-  FailsAtOnce i x = ⊥
+  -- The call with this answer only fails, and the line takes no further one: an input that begins can't be opened, rows can't be read, or a mark or the removal of a page
+  -- doesn't get through, whose places hold then what they held, as far as a history sees them.
+  abbrev pub OnlyFails : LineView places → Call → Type 0
+  OnlyFails i (call.Accept n (Err fault.Store)) = ReadsAt i n
+  OnlyFails i (call.Read (Err fault.Store)) = ⊤
+  OnlyFails i (call.Mark (Err fault.Store)) = ⊤
+  OnlyFails i (call.Purge (Err fault.Store)) = ⊤
+  OnlyFails i x = ⊥

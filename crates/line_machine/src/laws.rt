@@ -10,7 +10,6 @@ ghost use Rattle.line_machine.specs.Covering.{MarksCoverStill, OpenedMarksCover,
 ghost use Rattle.line_machine.specs.Doing.{DoesLegallyStill, OpenedDoesLegally};
 ghost use Rattle.line_machine.specs.Kits.{KitsStay, KitsAreTheirs, OpenedKitsAreTheirs};
 ghost use Rattle.line_machine.specs.Laws.{CallsFollow, StepsFollow};
-ghost use Rattle.line_machine.specs.Numbering.{BatchesRiseStill, OpenedBatchesRise};
 ghost use Rattle.line_machine.specs.Openings.{OpenedLineStands, RunsStand};
 ghost use Rattle.line_machine.specs.Outputs.{OutputsTookWhatWasTold};
 ghost use Rattle.line_machine.specs.Lines.{CallsStandWhole, OpenedStandsWhole, StandsWholeStill};
@@ -137,14 +136,6 @@ pub fn boxes_are_closed_once()
         → OpenedBoxesStand makes listening bytes places }
     ensures kept { (makes : Makes) (listening : Listening) (bytes : Bytes) (places : Places)
         → BoxesStandStill makes listening bytes places }
-{}
-
-/// Since a line was opened each batch that was read has a greater number than those before it.
-pub fn batches_rise()
-    ensures opened { (makes : Makes) (listening : Listening) (bytes : Bytes) (places : Places)
-        → OpenedBatchesRise makes listening bytes places }
-    ensures kept { (makes : Makes) (listening : Listening) (bytes : Bytes) (places : Places)
-        → BatchesRiseStill makes listening bytes places }
 {}
 
 /// What a step gave to stdout and to boxes is what it tells of them.
