@@ -19,7 +19,7 @@ use Rattle.line_machine.specs.Unchanged.{IsAsked, CanDo}
 use Rattle.line_machine.specs.Views.{Batch, RowAt, InputView, LineView, batch_of, input_at}
 use Rattle.line_machine.specs.declared.summary.Summary.{Summary}
 use Rattle.line_machine.specs.Choices.{choice, IsRefused, ChoicesCanBeDone, ChoicesAreNew}
-use Rattle.line_machine.specs.Summaries.{Given, Refused, least, has_some, is_empty, is_away, is_home, is_due, is_finished, is_due_answer, is_served, is_up_to, is_part, has_event, holds, holds_by, polls, polls_by, wants, wants_by, batches_of, inputs_of, places_of, drains_on, summary_of}
+use Rattle.line_machine.specs.Summaries.{Given, Refused, least, has_some, is_empty, is_away, is_home, is_due, is_finished, is_due_answer, is_served, is_up_to, is_part, has_event, holds, holds_by, polls, polls_by, wants, wants_by, batches_of, inputs_of, places_of, drains_on, has_few_out, unread_now, summary_of}
 use Rattle.line_machine.specs.Turns.{or_else, when, next_of, IsPossible}
 use Rattle.line_machine.proofs.Least.{none_some, true_false, not_both, both_of, least_found, next_found}
 
@@ -47,11 +47,12 @@ possible_of s a is =
     (λ (e : when s.due act.Mark ≡ Some a). let w = when_some s.due act.Mark a e in subst (IsPossible s) (sym w.1) (inl w.0)) (λ e5. ⊎_elim
     (λ (e : option_map act.Assure s.assure ≡ Some a). let w = mapped_some act.Assure s.assure a e in subst (IsPossible s) (sym w.2) w.1) (λ e6. ⊎_elim
     (λ (e : when s.purge act.Purge ≡ Some a). let w = when_some s.purge act.Purge a e in subst (IsPossible s) (sym w.1) w.0) (λ e7. ⊎_elim
-    (λ (e : option_map act.Accept s.held ≡ Some a). let w = mapped_some act.Accept s.held a e in subst (IsPossible s) (sym w.2) (inl w.1)) (λ e8. ⊎_elim
-    (λ (e : when (nat_lt 0 s.unread) act.Read ≡ Some a). let w = when_some (nat_lt 0 s.unread) act.Read a e in subst (IsPossible s) (sym w.1) (ltb-true 0 s.unread w.0)) (λ e9. ⊎_elim
+    (λ (e : when s.whole_batch act.Read ≡ Some a). let w = when_some s.whole_batch act.Read a e in subst (IsPossible s) (sym w.1) (inl w.0)) (λ e8. ⊎_elim
+    (λ (e : option_map act.Accept s.held ≡ Some a). let w = mapped_some act.Accept s.held a e in subst (IsPossible s) (sym w.2) (inl w.1)) (λ e9. ⊎_elim
+    (λ (e : when (nat_lt 0 s.unread) act.Read ≡ Some a). let w = when_some (nat_lt 0 s.unread) act.Read a e in subst (IsPossible s) (sym w.1) (inr (ltb-true 0 s.unread w.0))) (λ e10. ⊎_elim
     (λ (e : when s.uncovered act.Mark ≡ Some a). let w = when_some s.uncovered act.Mark a e in subst (IsPossible s) (sym w.1) (inr w.0))
     (λ (e : option_map act.Accept s.poll ≡ Some a). let w = mapped_some act.Accept s.poll a e in subst (IsPossible s) (sym w.2) (inr w.1))
-    (either_of _ _ a e9)) (either_of _ _ a e8)) (either_of _ _ a e7)) (either_of _ _ a e6)) (either_of _ _ a e5)) (either_of _ _ a e4)) (either_of _ _ a e3)) (either_of _ _ a e2)) (either_of _ _ a e1)) (either_of _ _ a is)
+    (either_of _ _ a e10)) (either_of _ _ a e9)) (either_of _ _ a e8)) (either_of _ _ a e7)) (either_of _ _ a e6)) (either_of _ _ a e5)) (either_of _ _ a e4)) (either_of _ _ a e3)) (either_of _ _ a e2)) (either_of _ _ a e1)) (either_of _ _ a is)
 
 -- ---- members
 
@@ -132,14 +133,14 @@ module _ (listening : Listening) {places : Places} (i : LineView places) where
       by_input None has e = absurd (true_false (sym e))
       by_input (Some v) has e = (record { input = v; has = has }, asked v (listening.address v.statement) e)
 
-  polls_of : (n : ℕ) → polls listening i (input_at n i.inputs) ≡ true → (h : HasInput i n) × IsAsked i h.input
-  polls_of n is = by_input (input_at n i.inputs) refl is
+  polls_of : (showing : List ℕ) (n : ℕ) → polls listening showing i (input_at n i.inputs) ≡ true → (h : HasInput i n) × IsAsked i h.input
+  polls_of showing n is = by_input (input_at n i.inputs) refl is
     where
-      opens : (v : InputView) (address : Option (List ℕ)) → polls_by listening i v address ≡ true → v.is_open ≡ true
+      opens : (v : InputView) (address : Option (List ℕ)) → polls_by listening showing i v address ≡ true → v.is_open ≡ true
       opens v None e = (both_of v.is_open _ e).0
       opens v (Some address) e = (both_of v.is_open _ e).0
 
-      by_input : (o : Option InputView) → input_at n i.inputs ≡ o → polls listening i o ≡ true → (h : HasInput i n) × IsAsked i h.input
+      by_input : (o : Option InputView) → input_at n i.inputs ≡ o → polls listening showing i o ≡ true → (h : HasInput i n) × IsAsked i h.input
       by_input None has e = absurd (true_false (sym e))
       by_input (Some v) has e = (record { input = v; has = has }, inl (opens v (listening.address v.statement) e))
 
@@ -160,27 +161,27 @@ module _ (listening : Listening) {places : Places} (i : LineView places) where
 
   -- ---- the laws
 
-  can_of : (g : Given) (r : Refused) (a : Act) → IsPossible (summary_of listening g r i) a → CanDo i a
-  can_of g r act.Take is =
+  can_of : (g : Given) (r : Refused) (showing : List ℕ) (a : Act) → IsPossible (summary_of listening g r showing i) a → CanDo i a
+  can_of g r showing act.Take is =
       let some = some_of (least (λ n. is_away (batch_of n i.batches)) (batches_of i)) (both_of _ (not r.take) is).0 in
       (some.0, away_of i some.0 (least_found (λ n. is_away (batch_of n i.batches)) (batches_of i) some.0 some.1).1)
-  can_of g r (act.Deliver n) is =
+  can_of g r showing (act.Deliver n) is =
       let test = (least_found (λ k. drains_on i && (is_due (batch_of k i.batches) && not (is_among k r.deliveries))) (batches_of i) n is).1 in
       due_of i n (both_of (is_due (batch_of n i.batches)) _ (both_of (drains_on i) _ test).1).0
-  can_of g r (act.Acknowledge n) is = finished_of i n (least_found (λ k. is_finished (batch_of k i.batches)) (batches_of i) n is).1
-  can_of g r (act.Answer place) is =
+  can_of g r showing (act.Acknowledge n) is = finished_of i n (least_found (λ k. is_finished (batch_of k i.batches)) (batches_of i) n is).1
+  can_of g r showing (act.Answer place) is =
       let test = (next_found (λ k. is_served (ends_served i) k && (is_due_answer i.mark (taker_at k i.takers) && not (is_among k r.answers))) (places_of i) g.answer place is).1 in
       end_of i place (both_of (is_due_answer i.mark (taker_at place i.takers)) _ (both_of (is_served (ends_served i) place) _ test).1).0
-  can_of g r act.Mark is = tt
-  can_of g r (act.Assure n) is = wants_of n (next_found (λ k. wants listening i (input_at k i.inputs)) (inputs_of i) g.assure n is).1
-  can_of g r act.Purge is = tt
-  can_of g r (act.Accept n) (inl is) =
+  can_of g r showing act.Mark is = tt
+  can_of g r showing (act.Assure n) is = wants_of n (next_found (λ k. wants listening i (input_at k i.inputs)) (inputs_of i) g.assure n is).1
+  can_of g r showing act.Purge is = tt
+  can_of g r showing (act.Accept n) (inl is) =
       let test = (next_found (λ k. holds listening i (input_at k i.inputs) && not (is_among k r.accepts)) (inputs_of i) g.held n is).1 in
       holds_of n (both_of (holds listening i (input_at n i.inputs)) _ test).0
-  can_of g r (act.Accept n) (inr is) =
-      let test = (next_found (λ k. polls listening i (input_at k i.inputs) && not (is_among k r.accepts)) (inputs_of i) g.poll n is).1 in
-      polls_of n (both_of (polls listening i (input_at n i.inputs)) _ test).0
-  can_of g r act.Read is = tt
+  can_of g r showing (act.Accept n) (inr is) =
+      let test = (next_found (λ k. polls listening showing i (input_at k i.inputs) && not (is_among k r.accepts)) (inputs_of i) g.poll n is).1 in
+      polls_of showing n (both_of (polls listening showing i (input_at n i.inputs)) _ test).0
+  can_of g r showing act.Read is = tt
 
 -- ---- and it wasn't refused
 
@@ -196,13 +197,13 @@ IsFresh i r (act.Deliver n) = IsIn n (batches_of i) × NotAmong r.deliveries n
 IsFresh i r (act.Answer place) = IsIn place (places_of i) × NotAmong r.answers place
 IsFresh i r a = ⊤
 
-read_new : (drains read : Bool) (n : ℕ) → 0 < (if drains && not read then n else 0) → read ≡ false
-read_new true true n is = absurd (omega (arith, is))
-read_new true false n is = refl
-read_new false read n is = absurd (omega (arith, is))
+read_new : (drains read few : Bool) (n : ℕ) → 0 < (if drains && (not read && few) then n else 0) → read ≡ false
+read_new true true few n is = absurd (omega (arith, is))
+read_new true false few n is = refl
+read_new false read few n is = absurd (omega (arith, is))
 
-module _ (listening : Listening) {places : Places} (i : LineView places) (g : Given) (r : Refused) where
-  fresh_of : (a : Act) → IsPossible (summary_of listening g r i) a → IsFresh i r a
+module _ (listening : Listening) {places : Places} (i : LineView places) (g : Given) (r : Refused) (showing : List ℕ) where
+  fresh_of : (a : Act) → IsPossible (summary_of listening g r showing i) a → IsFresh i r a
   fresh_of act.Take is = not-true r.take (both_of _ (not r.take) is).1
   fresh_of (act.Deliver n) is =
       let found = least_found (λ k. drains_on i && (is_due (batch_of k i.batches) && not (is_among k r.deliveries))) (batches_of i) n is in
@@ -218,12 +219,13 @@ module _ (listening : Listening) {places : Places} (i : LineView places) (g : Gi
       let found = next_found (λ k. holds listening i (input_at k i.inputs) && not (is_among k r.accepts)) (inputs_of i) g.held n is in
       (found.0, not-true _ (both_of (holds listening i (input_at n i.inputs)) _ found.1).1)
   fresh_of (act.Accept n) (inr is) =
-      let found = next_found (λ k. polls listening i (input_at k i.inputs) && not (is_among k r.accepts)) (inputs_of i) g.poll n is in
-      (found.0, not-true _ (both_of (polls listening i (input_at n i.inputs)) _ found.1).1)
-  fresh_of act.Read is = read_new (drains_on i) r.read _ is
+      let found = next_found (λ k. polls listening showing i (input_at k i.inputs) && not (is_among k r.accepts)) (inputs_of i) g.poll n is in
+      (found.0, not-true _ (both_of (polls listening showing i (input_at n i.inputs)) _ found.1).1)
+  fresh_of act.Read (inl is) = read_new (drains_on i) r.read (has_few_out i) _ (ltb-true 0 (unread_now r i) (both_of (nat_lt 0 (unread_now r i)) _ is).0)
+  fresh_of act.Read (inr is) = read_new (drains_on i) r.read (has_few_out i) _ is
 
-  pub choice_fresh : (a : Act) → choice listening g r i ≡ Some a → IsFresh i r a
-  choice_fresh a is = fresh_of a (possible_of (summary_of listening g r i) a is)
+  pub choice_fresh : (a : Act) → choice listening g r showing i ≡ Some a → IsFresh i r a
+  choice_fresh a is = fresh_of a (possible_of (summary_of listening g r showing i) a is)
 
 fresh_new : {places : Places} (i : LineView places) (r : Refused) (a : Act) → IsFresh i r a → IsRefused r a → ⊥
 fresh_new i r (act.Accept n) fresh was = not_both (is_among n r.accepts) (among_in n r.accepts was) fresh.1
@@ -234,7 +236,7 @@ fresh_new i r (act.Answer place) fresh was = not_both (is_among place r.answers)
 fresh_new i r a fresh was = absurd was
 
 pub choices_can_be_done : (listening : Listening) (places : Places) → ChoicesCanBeDone listening places
-choices_can_be_done listening places g r i a is = can_of listening i g r a (possible_of (summary_of listening g r i) a is)
+choices_can_be_done listening places g r showing i a is = can_of listening i g r showing a (possible_of (summary_of listening g r showing i) a is)
 
 pub choices_are_new : (listening : Listening) (places : Places) → ChoicesAreNew listening places
-choices_are_new listening places g r i a is was = fresh_new i r a (choice_fresh listening i g r a is) was
+choices_are_new listening places g r showing i a is was = fresh_new i r a (choice_fresh listening i g r showing a is) was

@@ -1,5 +1,5 @@
 -- Where nothing is chosen and nothing was refused, a line has nothing to do.
-use Rattle.std.proofs.Common.{◌≡◌, ◌⊎◌, inl, inr, ⊎_elim, ℕ, ◌+◌, ◌≤◌, ◌<◌, ◌==◌, ◌&&◌, ◌||◌, not, Bool, true, false, List, [], ◌∷◌, ◌++◌, length, Option, Some, None, if◌then◌else◌, refl, sym, ap, ◌∙◌, subst, arith}
+use Rattle.std.proofs.Common.{◌≡◌, ◌⊎◌, inl, inr, ⊎_elim, ℕ, ◌+◌, ◌≤◌, ◌<◌, ◌==◌, ◌&&◌, ◌||◌, not, Bool, true, false, List, [], ◌∷◌, ◌++◌, length, Option, Some, None, if◌then◌else◌, refl, sym, ap, ap₂, ◌∙◌, subst, arith}
 use Rattle.std.specs.Prelude.{nat_lt}
 use Rattle.std.specs.List.{list_any, list_all}
 use Rattle.std.proofs.lemmas.Bool.{cases_Bool, eq-eqb, lt-ltb, ltb-true, ltb-false, le-leb}
@@ -27,7 +27,7 @@ use Rattle.line_machine.proofs.BatchLists.{found_in, batch_found}
 use Rattle.line_machine.proofs.Inputs.{AreViewsApart, inputs_apart, views_apart, view_found}
 use Rattle.line_machine.proofs.Settling.{rest_is_done, stop_is_stopped}
 use Rattle.line_machine.proofs.Takers.{taker_in, taker_found}
-use Rattle.line_machine.specs.Choices.{NoneLost, HasNothingToDo, NoneIsRest, NoneIsDone}
+use Rattle.line_machine.specs.Choices.{NoneLost, HasNothingToDo, NoneShows, NoneIsRest, NoneIsDone}
 use Rattle.line_machine.specs.Summaries.{Given, none_refused, least, has_some, is_empty, is_away, is_home, is_due, is_finished, is_up_to, is_settled, oldest_settled, is_due_answer, is_served, is_part, has_event, goes_on, is_spent, holds, holds_by, polls, polls_by, wants, wants_by, batches_of, inputs_of, places_of, drains_on, summary_of}
 use Rattle.line_machine.specs.Turns as t
 use Rattle.line_machine.proofs.Least.{none_some, true_false, not_both, both_are, least_none, next_none}
@@ -64,7 +64,7 @@ module _ (makes : Makes) (listening : Listening) (bytes : Bytes) (places : Place
       let events = ap length is.events in
       omega (arith, made, long, number, events)
 
-  module _ (g : Given) (no_loss : NoneLost i) (rest : t.IsAtRest (summary_of listening g none_refused i)) where
+  module _ (g : Given) (showing : List ℕ) (no_loss : NoneLost i) (rest : t.IsAtRest (summary_of listening g none_refused showing i)) where
     covered : i.uncovered ≡ false
     covered = rest.uncovered
 
@@ -108,7 +108,9 @@ module _ (makes : Makes) (listening : Listening) (bytes : Bytes) (places : Place
         by_parts (Some v) e None f = by_left v e f b.left refl
 
     no_unread : drains_on i ≡ true → i.kept ++ i.unread ≡ []
-    no_unread on = no_length (i.kept ++ i.unread) (sym (ap (λ (b : Bool). if b && true then length (i.kept ++ i.unread) else 0) on) ∙ rest.unread)
+    no_unread on =
+        let few = ap (λ (b : Bool). b || nat_lt (length i.batches) (i.workers + i.workers)) (ap is_empty (none_in i.batches (no_batch on))) in
+        no_length (i.kept ++ i.unread) (sym (ap₂ (λ (b c : Bool). if b && (true && c) then length (i.kept ++ i.unread) else 0) on few) ∙ rest.unread)
 
     -- ---- inputs
 
@@ -118,11 +120,11 @@ module _ (makes : Makes) (listening : Listening) (bytes : Bytes) (places : Place
         (ap (λ (o : Option InputView). holds listening i o && not (is_among v.number none_refused.accepts)) (sym (view_found v i.inputs apart has))
         ∙ next_none (λ k. holds listening i (input_at k i.inputs) && not (is_among k none_refused.accepts)) (inputs_of i) g.held rest.held v.number (number_in (λ (x : InputView). x.number) v i.inputs has)) refl
 
-    polls_none : (v : InputView) → IsIn v i.inputs → polls listening i (Some v) ≡ false
+    polls_none : (v : InputView) → IsIn v i.inputs → polls listening showing i (Some v) ≡ false
     polls_none v has =
-        false_with (polls listening i (Some v)) true
-        (ap (λ (o : Option InputView). polls listening i o && not (is_among v.number none_refused.accepts)) (sym (view_found v i.inputs apart has))
-        ∙ next_none (λ k. polls listening i (input_at k i.inputs) && not (is_among k none_refused.accepts)) (inputs_of i) g.poll rest.poll v.number (number_in (λ (x : InputView). x.number) v i.inputs has)) refl
+        false_with (polls listening showing i (Some v)) true
+        (ap (λ (o : Option InputView). polls listening showing i o && not (is_among v.number none_refused.accepts)) (sym (view_found v i.inputs apart has))
+        ∙ next_none (λ k. polls listening showing i (input_at k i.inputs) && not (is_among k none_refused.accepts)) (inputs_of i) g.poll rest.poll v.number (number_in (λ (x : InputView). x.number) v i.inputs has)) refl
 
     wants_none : (v : InputView) → IsIn v i.inputs → wants listening i (Some v) ≡ false
     wants_none v has =
@@ -211,8 +213,8 @@ module _ (makes : Makes) (listening : Listening) (bytes : Bytes) (places : Place
         held : (o : Option (List ℕ)) → listening.address v.statement ≡ o → holds_by listening i v o ≡ false
         held o e = ap (holds_by listening i v) (sym e) ∙ held_none v has
 
-        polled : (o : Option (List ℕ)) → listening.address v.statement ≡ o → polls_by listening i v o ≡ false
-        polled o e = ap (polls_by listening i v) (sym e) ∙ polls_none v has
+        polled : (o : Option (List ℕ)) → listening.address v.statement ≡ o → polls_by listening showing i v o ≡ false
+        polled o e = ap (polls_by listening showing i v) (sym e) ∙ polls_none v has
 
         by_stop : listening.address v.statement ≡ None → (b : Bool) → i.stopped ≡ b → (i.stopped ≡ true) ⊎ ((v.ended ≡ true) × (v.held ≡ []))
         by_stop lines true e = inl e
@@ -229,9 +231,21 @@ module _ (makes : Makes) (listening : Listening) (bytes : Bytes) (places : Place
               address,
               e,
               λ part. no_part part.taker part.has part.served part.waiting part.waits part.part,
-              λ t is_in input served. not_false t.ended (false_behind (is_served (ends_served i) t.place) _
-                  (false_behind (t.input == v.number) _ (none_is (goes_on (ends_served i) v.number) i.takers none t is_in) (eq-eqb t.input v.number input)) (served_is (ends_served i) t.place served)),
+              λ t is_in input served. not_false t.ended (false_both (not t.ended) (is_among t.place showing) (false_behind (is_served (ends_served i) t.place) _
+                  (false_behind (t.input == v.number) _ (none_is (goes_on (ends_served i) showing v.number) i.takers none t is_in) (eq-eqb t.input v.number input)) (served_is (ends_served i) t.place served))).0,
             )
+
+    none_shows : NoneShows showing i
+    none_shows t has listens served shows =
+        let e = line.ends t has in
+        let polled = ap (polls_by listening showing i e.input) (sym e.address_is) ∙ polls_none e.input e.has in
+        let held = ap (holds_by listening i e.input) (sym e.address_is) ∙ held_none e.input e.has in
+        let none = false_behind (not (list_any (has_event (ends_served i) e.input.number) i.takers)) _ (false_behind e.input.is_open _ polled (sym e.listens ∙ listens))
+        (not_is (list_any (has_event (ends_served i) e.input.number) i.takers) held) in
+        let its = false_behind (is_served (ends_served i) t.place) _
+        (false_behind (t.input == e.input.number) _ (none_is (goes_on (ends_served i) showing e.input.number) i.takers none t has) (eq-eqb t.input e.input.number (sym e.number_is)))
+        (served_is (ends_served i) t.place served) in
+        not_both (is_among t.place showing) (among_in t.place showing shows) (false_both (not t.ended) (is_among t.place showing) its).1
 
     ends : drains_on i ≡ true → HasEnded listening i
     ends on = record { inputs = at_end; batches = none_in i.batches (no_batch on); unread = no_unread on; answered = answered }
@@ -268,10 +282,11 @@ module _ (makes : Makes) (listening : Listening) (bytes : Bytes) (places : Place
         })
 
 pub none_is_rest : (makes : Makes) (listening : Listening) (bytes : Bytes) (places : Places) → NoneIsRest makes listening bytes places
-none_is_rest makes listening bytes places deeds came g i line no_loss none =
-    nothing_to_do makes listening bytes places deeds came i line g no_loss (shows_nothing (summary_of listening g none_refused i) none)
+none_is_rest makes listening bytes places deeds came g showing i line no_loss none =
+    let rest = shows_nothing (summary_of listening g none_refused showing i) none in
+    (nothing_to_do makes listening bytes places deeds came i line g showing no_loss rest, none_shows makes listening bytes places deeds came i line g showing no_loss rest)
 
 pub none_is_done : (makes : Makes) (listening : Listening) (bytes : Bytes) (places : Places) → NoneIsDone makes listening bytes places
-none_is_done makes listening bytes places deeds came g i line no_loss none =
+none_is_done makes listening bytes places deeds came g showing i line no_loss none =
     ⊎_elim (λ rest. inl (rest.running, rest_is_done makes listening bytes places deeds came i line rest))
-    (λ stop. inr (stop.told_to, stop_is_stopped makes listening bytes places deeds came i line stop)) (none_is_rest makes listening bytes places deeds came g i line no_loss none)
+    (λ stop. inr (stop.told_to, stop_is_stopped makes listening bytes places deeds came i line stop)) (none_is_rest makes listening bytes places deeds came g showing i line no_loss none).0

@@ -32,7 +32,7 @@ none_left n e = let most = ltb-false 0 n e in omega (arith, most)
 pub shows_nothing : (s : Summary) → next_of s ≡ None → IsAtRest s
 shows_nothing s e =
     let take = both_none _ _ e in let deliver = both_none _ _ take.1 in let finished = both_none _ _ deliver.1 in let answer = both_none _ _ finished.1 in
-    let due = both_none _ _ answer.1 in let assure = both_none _ _ due.1 in let purge = both_none _ _ assure.1 in let held = both_none _ _ purge.1 in
+    let due = both_none _ _ answer.1 in let assure = both_none _ _ due.1 in let purge = both_none _ _ assure.1 in let whole = both_none _ _ purge.1 in let held = both_none _ _ whole.1 in
     let unread = both_none _ _ held.1 in let uncovered = both_none _ _ unread.1 in
     record {
       take = when_none s.take act.Take take.0;
@@ -42,6 +42,7 @@ shows_nothing s e =
       due = when_none s.due act.Mark due.0;
       assure = mapped_none act.Assure s.assure assure.0;
       purge = when_none s.purge act.Purge purge.0;
+      whole_batch = when_none s.whole_batch act.Read whole.0;
       held = mapped_none act.Accept s.held held.0;
       unread = none_left s.unread (when_none (nat_lt 0 s.unread) act.Read unread.0);
       uncovered = when_none s.uncovered act.Mark uncovered.0;
@@ -55,8 +56,8 @@ pub nothing_shown : (s : Summary) → IsAtRest s → next_of s ≡ None
 nothing_shown s rest =
     none_of_both _ _ (ap (λ b. when b act.Take) rest.take) (none_of_both _ _ (ap (option_map act.Deliver) rest.deliver) (none_of_both _ _ (ap (option_map act.Acknowledge) rest.finished)
     (none_of_both _ _ (ap (option_map act.Answer) rest.answer) (none_of_both _ _ (ap (λ b. when b act.Mark) rest.due) (none_of_both _ _ (ap (option_map act.Assure) rest.assure)
-    (none_of_both _ _ (ap (λ b. when b act.Purge) rest.purge) (none_of_both _ _ (ap (option_map act.Accept) rest.held) (none_of_both _ _ (ap (λ n. when (nat_lt 0 n) act.Read) rest.unread)
-    (none_of_both _ _ (ap (λ b. when b act.Mark) rest.uncovered) (ap (option_map act.Accept) rest.poll))))))))))
+    (none_of_both _ _ (ap (λ b. when b act.Purge) rest.purge) (none_of_both _ _ (ap (λ b. when b act.Read) rest.whole_batch) (none_of_both _ _ (ap (option_map act.Accept) rest.held) (none_of_both _ _ (ap (λ n. when (nat_lt 0 n) act.Read) rest.unread)
+    (none_of_both _ _ (ap (λ b. when b act.Mark) rest.uncovered) (ap (option_map act.Accept) rest.poll)))))))))))
 
 -- ---- tests
 

@@ -1,7 +1,8 @@
 -- Where a line has nothing to do, nothing is chosen.
-use Rattle.std.proofs.Common.{◌≡◌, ◌⊎◌, inl, inr, ℕ, ◌+◌, ◌<◌, ◌==◌, ◌&&◌, ◌||◌, not, nat_le, Bool, true, false, List, [], ◌++◌, length, map, Option, Some, None, if◌then◌else◌, refl, sym, ap, ◌∙◌, subst, arith}
+use Rattle.std.proofs.Common.{◌≡◌, ◌⊎◌, inl, inr, ⊎_elim, ℕ, ◌+◌, ◌<◌, ◌==◌, ◌&&◌, ◌||◌, not, nat_le, Bool, true, false, List, [], ◌++◌, length, map, Option, Some, None, if◌then◌else◌, refl, sym, ap, ◌∙◌, subst, arith}
 use Rattle.std.specs.List.{list_any}
 use Rattle.std.proofs.lemmas.Bool.{eqb-true, ltb-true, leb-true, not-true}
+use Rattle.std.proofs.lemmas.Option.{same_Some}
 use Rattle.event_flow.specs.Meaning.{Makes}
 use Rattle.history_book.specs.Contents.{Bytes}
 use Rattle.history_book.specs.Deeds.{Deed}
@@ -15,13 +16,15 @@ use Rattle.line_machine.specs.Lines.{LineStands}
 use Rattle.line_machine.specs.Resting.{IsAtRest, IsAtStop}
 use Rattle.line_machine.specs.Unchanged.{HasNoneSpent}
 use Rattle.line_machine.specs.Views.{Batch, Incoming, RowAt, InputView, LineView, batch_of, input_at}
-use Rattle.line_machine.proofs.Inputs.{found_view}
+use Rattle.history_book.proofs.Opening.{in_among}
+use Rattle.line_machine.proofs.Inputs.{found_view, view_found}
 use Rattle.line_machine.proofs.Takers.{taker_in}
-use Rattle.line_machine.specs.Choices.{GoesOnDraining, HasNothingToDo, RestHasNone}
-use Rattle.line_machine.specs.Summaries.{Given, Refused, has_some, least, is_empty, is_away, is_due, is_finished, is_up_to, is_due_answer, is_served, is_part, has_event, goes_on, is_spent, holds, holds_by, polls, polls_by, wants, wants_by, batches_of, inputs_of, places_of, drains_on, summary_of}
+use Rattle.line_machine.specs.Choices.{GoesOnDraining, HasNothingToDo, ShowsParcel, NoneShows, RestHasNone}
+use Rattle.line_machine.specs.Summaries.{Given, Refused, has_some, least, is_empty, is_away, is_due, is_finished, is_up_to, is_due_answer, is_served, is_part, has_event, goes_on, is_spent, holds, holds_by, polls, polls_by, wants, wants_by, batches_of, inputs_of, places_of, drains_on, has_few_out, unread_now, is_whole, summary_of}
 use Rattle.line_machine.specs.Turns as t
 use Rattle.line_machine.proofs.Choosing.{any_in, away_of, finished_of, end_of}
-use Rattle.line_machine.proofs.Finding.{served_of, may_answer}
+use Rattle.line_machine.proofs.Ending.{apart}
+use Rattle.line_machine.proofs.Finding.{either_true, served_of, may_answer}
 use Rattle.line_machine.proofs.Least.{none_some, not_both, both_of, first_not, second_not, none_least, none_next}
 use Rattle.line_machine.proofs.Resting.{nothing_shown, not_so, in_none, any_none}
 
@@ -134,29 +137,36 @@ module _ (listening : Listening) {places : Places} where
         by_address None f false opens = first_not v.is_open _ opens
         by_address None f true opens = at_end (none.inputs v here opens) f
 
-    polls_none : (n : ℕ) (o : Option InputView) → input_at n i.inputs ≡ o → polls listening i o ≡ false
-    polls_none n None e = refl
-    polls_none n (Some v) e = by_open (listening.address v.statement) refl v.is_open refl
+    polls_none : (showing : List ℕ) → ((v : InputView) → IsIn v i.inputs → v.is_open ≡ true → ShowsParcel showing i v → ⊥) → (n : ℕ) (o : Option InputView) → input_at n i.inputs ≡ o → polls listening showing i o ≡ false
+    polls_none showing shows n None e = refl
+    polls_none showing shows n (Some v) e = by_open (listening.address v.statement) refl v.is_open refl
       where
-        lines : IsAtEnd listening i v → listening.address v.statement ≡ None → polls_by listening i v None ≡ false
+        lines : IsAtEnd listening i v → listening.address v.statement ≡ None → polls_by listening showing i v None ≡ false
         lines (inl ends) f = absurd (none_some ends.0 (sym f ∙ ends.1))
         lines (inr (f, inl stopped)) g = second_not v.is_open _ (first_not (not i.stopped) _ (ap not stopped))
         lines (inr (f, inr ended)) g = second_not v.is_open _ (second_not (not i.stopped) _ (second_not (is_empty v.held) (not v.ended) (ap not ended.0)))
 
-        parcels : (address : List ℕ) → IsAtEnd listening i v → listening.address v.statement ≡ Some address → polls_by listening i v (Some address) ≡ false
-        parcels address (inr ends) f = absurd (none_some address (sym ends.0 ∙ f))
-        parcels address (inl ends) f =
-            second_not v.is_open _ (second_not (not (list_any (has_event (ends_served i) v.number) i.takers)) _
-            (any_none (goes_on (ends_served i) v.number) i.takers (λ t has. not_so (goes_on (ends_served i) v.number t) (λ is.
-            let behind = both_of (t.input == v.number) _ is in
-            let last = both_of (is_served (ends_served i) t.place) (not t.ended) behind.1 in
-            not_both t.ended (ends.3 t has (eqb-true t.input v.number behind.0) (served_of (ends_served i) t.place last.0)) (not-true t.ended last.1)))))
+        here : IsIn v i.inputs
+        here = (found_view n v i.inputs e).0
 
-        by_open : (o : Option (List ℕ)) → listening.address v.statement ≡ o → (b : Bool) → v.is_open ≡ b → polls_by listening i v o ≡ false
+        parcels : (address : List ℕ) → IsAtEnd listening i v → listening.address v.statement ≡ Some address → v.is_open ≡ true → polls_by listening showing i v (Some address) ≡ false
+        parcels address (inr ends) f opens = absurd (none_some address (sym ends.0 ∙ f))
+        parcels address (inl ends) f opens =
+            second_not v.is_open _ (second_not (not (list_any (has_event (ends_served i) v.number) i.takers)) _
+            (any_none (goes_on (ends_served i) showing v.number) i.takers (λ t has. not_so (goes_on (ends_served i) showing v.number t) (λ is.
+            let behind = both_of (t.input == v.number) _ is in
+            let last = both_of (is_served (ends_served i) t.place) _ behind.1 in
+            let input = eqb-true t.input v.number behind.0 in
+            let served = served_of (ends_served i) t.place last.0 in
+            ⊎_elim (λ (goes : not t.ended ≡ true). not_both t.ended (ends.3 t has input served) (not-true t.ended goes))
+            (λ (shown : is_among t.place showing ≡ true). shows v here opens (record { taker = t; has = has; input_is = input; served = served; shows = in_among t.place showing shown }))
+            (either_true (not t.ended) (is_among t.place showing) last.1)))))
+
+        by_open : (o : Option (List ℕ)) → listening.address v.statement ≡ o → (b : Bool) → v.is_open ≡ b → polls_by listening showing i v o ≡ false
         by_open (Some address) f false opens = first_not v.is_open _ opens
         by_open None f false opens = first_not v.is_open _ opens
-        by_open (Some address) f true opens = parcels address (none.inputs v (found_view n v i.inputs e).0 opens) f
-        by_open None f true opens = lines (none.inputs v (found_view n v i.inputs e).0 opens) f
+        by_open (Some address) f true opens = parcels address (none.inputs v here opens) f opens
+        by_open None f true opens = lines (none.inputs v here opens) f
 
     wants_none : (n : ℕ) (o : Option InputView) → input_at n i.inputs ≡ o → wants listening i o ≡ false
     wants_none n None e = refl
@@ -168,8 +178,19 @@ module _ (listening : Listening) {places : Places} where
 
 module _ (makes : Makes) (listening : Listening) (bytes : Bytes) (places : Places) (deeds : List Deed) (came : ℕ → List Incoming) (i : LineView places)
     (line : LineStands makes listening bytes places deeds came i) (none : HasNone listening i) where
-  nothing_due : (g : Given) (r : Refused) → 0 < i.due_writes → 0 < i.due_acknowledged → t.IsAtRest (summary_of listening g r i)
-  nothing_due g r writes acknowledged = record {
+  -- none shows at an end of an open input
+  shows_none : (showing : List ℕ) → NoneShows showing i → (v : InputView) → IsIn v i.inputs → v.is_open ≡ true → ShowsParcel showing i v → ⊥
+  shows_none showing none_shows v has opens s =
+      let e = line.ends s.taker s.has in
+      let views = apart makes listening bytes places deeds came i line in
+      let one = same_Some v e.input (sym (view_found v i.inputs views has) ∙ ap (λ n. input_at n i.inputs) (sym (e.number_is ∙ s.input_is)) ∙ view_found e.input i.inputs views e.has) in
+      none_shows s.taker s.has (e.listens ∙ ap (λ (x : InputView). x.is_open) (sym one) ∙ opens) s.served s.shows
+
+  none_unread_now : (r : Refused) → unread_now r i ≡ 0
+  none_unread_now r = none_unread (drains_on i) (not r.read && has_few_out i) (length (i.kept ++ i.unread)) (λ on. ap length (none.unread on))
+
+  nothing_due : (g : Given) (r : Refused) (showing : List ℕ) → 0 < i.due_writes → 0 < i.due_acknowledged → NoneShows showing i → t.IsAtRest (summary_of listening g r showing i)
+  nothing_due g r showing writes acknowledged none_shows = record {
     take = first_not (has_some (least (λ n. is_away (batch_of n i.batches)) (batches_of i))) _
         (ap has_some (none_least (λ n. is_away (batch_of n i.batches)) (batches_of i) (λ n has. not_so (is_away (batch_of n i.batches)) (λ is. none.jobs n (away_of i n is)))));
     deliver = none_least (λ n. drains_on i && (is_due (batch_of n i.batches) && not (is_among n r.deliveries))) (batches_of i) (λ n has. none_delivered n has (drains_on i) refl);
@@ -182,10 +203,11 @@ module _ (makes : Makes) (listening : Listening) (bytes : Bytes) (places : Place
     purge = any_none is_spent i.holds.queue.tails (λ p has. not_so (is_spent p) (λ is. none.spent p has (leb-true (p.least + length p.rows) p.from is)));
     held = none_next (λ n. holds listening i (input_at n i.inputs) && not (is_among n r.accepts)) (inputs_of i) g.held
         (λ n has. first_not (holds listening i (input_at n i.inputs)) _ (holds_none listening i none n (input_at n i.inputs) refl));
-    unread = none_unread (drains_on i) (not r.read) (length (i.kept ++ i.unread)) (λ on. ap length (none.unread on));
+    whole_batch = ap (is_whole i.size) (none_unread_now r);
+    unread = none_unread_now r;
     uncovered = none.uncovered;
-    poll = none_next (λ n. polls listening i (input_at n i.inputs) && not (is_among n r.accepts)) (inputs_of i) g.poll
-        (λ n has. first_not (polls listening i (input_at n i.inputs)) _ (polls_none listening i none n (input_at n i.inputs) refl));
+    poll = none_next (λ n. polls listening showing i (input_at n i.inputs) && not (is_among n r.accepts)) (inputs_of i) g.poll
+        (λ n has. first_not (polls listening showing i (input_at n i.inputs)) _ (polls_none listening i none showing (shows_none showing none_shows) n (input_at n i.inputs) refl));
   }
     where
       none_delivered : (n : ℕ) → IsIn n (batches_of i) → (b : Bool) → drains_on i ≡ b → (drains_on i && (is_due (batch_of n i.batches) && not (is_among n r.deliveries))) ≡ false
@@ -201,5 +223,5 @@ module _ (makes : Makes) (listening : Listening) (bytes : Bytes) (places : Place
           (may_answer makes listening bytes places deeds came i line end.0 (sym (ap (is_due_answer i.mark) end.1) ∙ due) (taker_in n end.0 i.takers end.1).0)
 
 pub rest_has_none : (makes : Makes) (listening : Listening) (bytes : Bytes) (places : Places) → RestHasNone makes listening bytes places
-rest_has_none makes listening bytes places deeds came g r i line goes writes acknowledged nothing =
-    nothing_shown (summary_of listening g r i) (nothing_due makes listening bytes places deeds came i line (has_none listening i goes nothing) g r writes acknowledged)
+rest_has_none makes listening bytes places deeds came g r showing i line goes writes acknowledged none_shows nothing =
+    nothing_shown (summary_of listening g r showing i) (nothing_due makes listening bytes places deeds came i line (has_none listening i goes nothing) g r showing writes acknowledged none_shows)

@@ -137,13 +137,13 @@ module _ (makes : Makes) (listening : Listening) (bytes : Bytes) {places : Place
 
 pub turns_end : (makes : Makes) (listening : Listening) (bytes : Bytes) (places : Places) → TurnsEnd makes listening bytes places
 turns_end makes listening bytes places g r i h s j count Begins = omega (arith)
-turns_end makes listening bytes places g r i h s j count (Is_refused before said line so_far a x e tries chosen of refusal did) =
+turns_end makes listening bytes places g r i h s j count (Is_refused before said showing line so_far a x e tries chosen of refusal did) =
     let sooner = turns_end makes listening bytes places g r i before said line so_far tries in
-    let less = refused_less makes listening bytes a x said line of (choice_fresh listening line before said a chosen) in
+    let less = refused_less makes listening bytes a x said line of (choice_fresh listening line before said showing a chosen) in
     let last = last_keeps makes listening bytes x did.line did.step did.is_call refusal in
     let kept = keeps_both line did.line (effect makes listening bytes did.line did.step).line (parts_keep makes listening bytes x line did.line did.before) last in
     let same = ap (chances (noted said x)) (ap (λ (y : Effect places). y.line) did.effect_is) ∙ same_chances (noted said x) line (effect makes listening bytes did.line did.step).line kept in
     omega (arith, sooner, less, same)
-turns_end makes listening bytes places g r i h s j count (Takes_none before said line so_far tries chosen) =
+turns_end makes listening bytes places g r i h s j count (Takes_none before said showing line so_far tries chosen) =
     let sooner = turns_end makes listening bytes places g r i before said line so_far tries in
-    let less = taken_once said.take (choice_fresh listening line before said act.Take chosen) in omega (arith, sooner, less)
+    let less = taken_once said.take (choice_fresh listening line before said showing act.Take chosen) in omega (arith, sooner, less)

@@ -1,5 +1,5 @@
 -- What is chosen of a line's steps, and when a turn ends.
-use Rattle.std.specs.Prelude.{◌≡◌, ◌≢◌, ◌⊎◌, ◌≤◌, ◌<◌, ◌+◌, ℕ, suc, Bool, true, false, List, [], ◌∷◌, ◌++◌, Option, Some, None, Ok, if◌then◌else◌, ⊤}
+use Rattle.std.specs.Prelude.{◌≡◌, ◌≢◌, ◌⊎◌, ◌≤◌, ◌<◌, ◌+◌, ℕ, suc, Bool, true, false, List, [], ◌∷◌, ◌++◌, length, Option, Some, None, Ok, if◌then◌else◌, ⊤}
 use Rattle.event_flow.specs.Meaning.{Makes, Due}
 use Rattle.queue_files.specs.Kept.{Page}
 use Rattle.queue_files.specs.Steps.{IsSpent}
@@ -18,7 +18,7 @@ use Rattle.line_machine.specs.declared.calls.Delivered.TheVariants as delivered
 use Rattle.line_machine.specs.declared.calls.ReadOut.TheVariants as read
 use Rattle.line_machine.specs.Answers.{Did}
 use Rattle.line_machine.specs.Effects.{Effect}
-use Rattle.line_machine.specs.Ends.{TakerView, taker_at, IsPartlyAccepted, MayAssure, MayRefuse}
+use Rattle.line_machine.specs.Ends.{TakerView, taker_at, IsServed, IsPartlyAccepted, MayAssure, MayRefuse}
 use Rattle.line_machine.specs.Finds.{HasInput, IsAway, IsHome, IsAtEnd, ends_served}
 use Rattle.line_machine.specs.Lines.{LineStands}
 use Rattle.line_machine.specs.Resting.{IsAtRest, IsAtStop, IsDone, IsStopped}
@@ -28,8 +28,8 @@ use Rattle.line_machine.specs.Summaries.{Given, Refused, none_refused, batches_o
 use Rattle.line_machine.specs.Turns.{next_of}
 
 module _ (listening : Listening) {places : Places} where
-  abbrev pub choice : Given → Refused → LineView places → Option Act
-  choice g r i = next_of (summary_of listening g r i)
+  abbrev pub choice : Given → Refused → (showing : List ℕ) → LineView places → Option Act
+  choice g r showing i = next_of (summary_of listening g r showing i)
 
 -- ---- what is chosen
 
@@ -50,32 +50,49 @@ pub record HasSettled {places : Places} (i : LineView places) (v : InputView) : 
   pub has : IsIn row v.rows
   pub settled : row.number ≤ front
 
+-- none of its batches is out, or fewer are than twice as many as it has workers
+abbrev pub HasFewOut : {places : Places} → LineView places → Type 0
+HasFewOut i = (i.batches ≡ []) ⊎ (length i.batches < i.workers + i.workers)
+
+-- a parcel shows at an end of the input that is served
+pub record ShowsParcel {places : Places} (showing : List ℕ) (i : LineView places) (v : InputView) : Type 0 where
+  pub taker : TakerView
+  pub has : IsIn taker i.takers
+  pub input_is : taker.input ≡ v.number
+  pub served : IsServed (ends_served i) taker.place
+  pub shows : IsIn taker.place showing
+
+-- at no end that listens, and is served, a parcel shows
+abbrev pub NoneShows : {places : Places} → List ℕ → LineView places → Type 0
+NoneShows showing i = (t : TakerView) → IsIn t i.takers → t.listens ≡ true → IsServed (ends_served i) t.place → IsIn t.place showing → ⊥
+
 module _ (listening : Listening) {places : Places} where
   -- the input holds an event
   abbrev pub HoldsEvent : LineView places → InputView → Type 0
   HoldsEvent i v = ((listening.address v.statement ≡ None) × (v.is_open ≡ true) × (i.stopped ≡ false) × (v.held ≢ [])) ⊎ IsPartlyAccepted (ends_served i) v.number i.takers
 
-  -- Where the line stands there is something to do for the act: an event that is held, or an open input that isn't at its end; a row that is unread; a job that is
-  -- out; a delivery that is left, or none; something that came since the last mark, or enough of it; a row that is settled; a page that is spent; an answer that is due.
-  abbrev pub HasWork : LineView places → Act → Type 0
-  HasWork i (act.Accept n) = (h : HasInput i n) × (HoldsEvent i h.input ⊎ ((h.input.is_open ≡ true) × (IsAtEnd listening i h.input → ⊥)))
-  HasWork i act.Read = i.kept ++ i.unread ≢ []
-  HasWork i act.Take = (n : ℕ) × IsAway i n
-  HasWork i (act.Deliver n) = (d : Due) × (left : List Due) × IsHome i n (d ∷ left)
-  HasWork i (act.Acknowledge n) = IsHome i n []
-  HasWork i act.Mark = (i.due_writes ≤ i.written) ⊎ (i.due_acknowledged ≤ i.acknowledged) ⊎ (i.uncovered ≡ true)
-  HasWork i (act.Assure n) = (h : HasInput i n) × (h.input.is_open ≡ true) × HasSettled i h.input
-  HasWork i act.Purge = (p : Page) × IsIn p i.holds.queue.tails × IsSpent p
-  HasWork i (act.Answer place) = (t : TakerView) × (taker_at place i.takers ≡ Some t) × (MayAssure i.mark t ⊎ MayRefuse t)
+  -- Where the line stands there is something to do for the act: an event that is held, or an open input that isn't at its end or at which a parcel shows; a row that is
+  -- unread, and few batches out; a job that is out; a delivery that is left, or none; something that came since the last mark, or enough of it; a row that is settled; a page
+  -- that is spent; an answer that is due.
+  abbrev pub HasWork : (showing : List ℕ) → LineView places → Act → Type 0
+  HasWork showing i (act.Accept n) = (h : HasInput i n) × (HoldsEvent i h.input ⊎ ((h.input.is_open ≡ true) × ((IsAtEnd listening i h.input → ⊥) ⊎ ShowsParcel showing i h.input)))
+  HasWork showing i act.Read = (i.kept ++ i.unread ≢ []) × HasFewOut i
+  HasWork showing i act.Take = (n : ℕ) × IsAway i n
+  HasWork showing i (act.Deliver n) = (d : Due) × (left : List Due) × IsHome i n (d ∷ left)
+  HasWork showing i (act.Acknowledge n) = IsHome i n []
+  HasWork showing i act.Mark = (i.due_writes ≤ i.written) ⊎ (i.due_acknowledged ≤ i.acknowledged) ⊎ (i.uncovered ≡ true)
+  HasWork showing i (act.Assure n) = (h : HasInput i n) × (h.input.is_open ≡ true) × HasSettled i h.input
+  HasWork showing i act.Purge = (p : Page) × IsIn p i.holds.queue.tails × IsSpent p
+  HasWork showing i (act.Answer place) = (t : TakerView) × (taker_at place i.takers ≡ Some t) × (MayAssure i.mark t ⊎ MayRefuse t)
 
 module _ (listening : Listening) (places : Places) where
   -- it can be asked for
   abbrev pub ChoicesCanBeDone : Type 0
-  ChoicesCanBeDone = (g : Given) (r : Refused) (i : LineView places) (a : Act) → choice listening g r i ≡ Some a → CanDo i a
+  ChoicesCanBeDone = (g : Given) (r : Refused) (showing : List ℕ) (i : LineView places) (a : Act) → choice listening g r showing i ≡ Some a → CanDo i a
 
   -- and it wasn't refused in this turn
   abbrev pub ChoicesAreNew : Type 0
-  ChoicesAreNew = (g : Given) (r : Refused) (i : LineView places) (a : Act) → choice listening g r i ≡ Some a → IsRefused r a → ⊥
+  ChoicesAreNew = (g : Given) (r : Refused) (showing : List ℕ) (i : LineView places) (a : Act) → choice listening g r showing i ≡ Some a → IsRefused r a → ⊥
 
 -- ---- when nothing is chosen
 
@@ -95,26 +112,27 @@ module _ (makes : Makes) (listening : Listening) (bytes : Bytes) (places : Place
   -- A step is chosen only where there is something to do for it.
   abbrev pub ChoicesHaveWork : Type 0
   ChoicesHaveWork =
-      (deeds : List Deed) (came : ℕ → List Incoming) (g : Given) (r : Refused) (i : LineView places) (a : Act) → LineStands makes listening bytes places deeds came i → choice listening g r i ≡ Some a
-      → HasWork listening i a
+      (deeds : List Deed) (came : ℕ → List Incoming) (g : Given) (r : Refused) (showing : List ℕ) (i : LineView places) (a : Act) → LineStands makes listening bytes places deeds came i
+      → choice listening g r showing i ≡ Some a → HasWork listening showing i a
 
-  -- Where nothing was refused and nothing is chosen, the line has nothing to do, unless a result was lost.
+  -- Where nothing was refused and nothing is chosen, the line has nothing to do, and no parcel shows, unless a result was lost.
   abbrev pub NoneIsRest : Type 0
   NoneIsRest =
-      (deeds : List Deed) (came : ℕ → List Incoming) (g : Given) (i : LineView places) → LineStands makes listening bytes places deeds came i → NoneLost i → choice listening g none_refused i ≡ None
-      → HasNothingToDo listening i
+      (deeds : List Deed) (came : ℕ → List Incoming) (g : Given) (showing : List ℕ) (i : LineView places) → LineStands makes listening bytes places deeds came i → NoneLost i
+      → choice listening g none_refused showing i ≡ None → HasNothingToDo listening i × NoneShows showing i
 
   -- So it is done, or stopped.
   abbrev pub NoneIsDone : Type 0
   NoneIsDone =
-      (deeds : List Deed) (came : ℕ → List Incoming) (g : Given) (i : LineView places) → LineStands makes listening bytes places deeds came i → NoneLost i → choice listening g none_refused i ≡ None
+      (deeds : List Deed) (came : ℕ → List Incoming) (g : Given) (showing : List ℕ) (i : LineView places) → LineStands makes listening bytes places deeds came i → NoneLost i
+      → choice listening g none_refused showing i ≡ None
       → ((i.stopped ≡ false) × IsDone makes listening bytes places (told_of deeds) i) ⊎ ((i.stopped ≡ true) × IsStopped makes listening bytes places (told_of deeds) i)
 
-  -- Where it has nothing to do, nothing is chosen, whatever was refused.
+  -- Where it has nothing to do, and no parcel shows, nothing is chosen, whatever was refused.
   abbrev pub RestHasNone : Type 0
   RestHasNone =
-      (deeds : List Deed) (came : ℕ → List Incoming) (g : Given) (r : Refused) (i : LineView places) → LineStands makes listening bytes places deeds came i → GoesOnDraining i
-      → 0 < i.due_writes → 0 < i.due_acknowledged → HasNothingToDo listening i → choice listening g r i ≡ None
+      (deeds : List Deed) (came : ℕ → List Incoming) (g : Given) (r : Refused) (showing : List ℕ) (i : LineView places) → LineStands makes listening bytes places deeds came i → GoesOnDraining i
+      → 0 < i.due_writes → 0 < i.due_acknowledged → NoneShows showing i → HasNothingToDo listening i → choice listening g r showing i ≡ None
 
 -- ---- turns
 
@@ -156,13 +174,14 @@ abbrev pub chances : {places : Places} → Refused → LineView places → ℕ
 chances r i = untried r.accepts (inputs_of i) + untried r.deliveries (batches_of i) + untried r.answers (places_of i) + one_unless r.read + one_unless r.take
 
 module _ (makes : Makes) (listening : Listening) (bytes : Bytes) (places : Places) where
-  -- calls of a turn, each of which was chosen, and refused; a result may be wanted where none is there
+  -- calls of a turn, each of which was chosen, and refused; a result may be wanted where none is there; and parcels come meanwhile
   pub data Tries (g : Given) (r : Refused) (i : LineView places) : Given → Refused → LineView places → ℕ → Type 0 where
     Begins : Tries g r i g r i 0
-    Is_refused : (h : Given) (s : Refused) (j : LineView places) (count : ℕ) (a : Act) (x : Call) (e : Effect places) → Tries g r i h s j count → choice listening h s j ≡ Some a → IsOf a x → IsRefusal x
-        → Did makes listening bytes x j e → Tries g r i (given_now (summary_of listening h s j) h) (noted s x) e.line (suc count)
-    Takes_none : (h : Given) (s : Refused) (j : LineView places) (count : ℕ) → Tries g r i h s j count → choice listening h s j ≡ Some act.Take
-        → Tries g r i (given_now (summary_of listening h s j) h) (record s { take = true }) j (suc count)
+    Is_refused : (h : Given) (s : Refused) (showing : List ℕ) (j : LineView places) (count : ℕ) (a : Act) (x : Call) (e : Effect places) → Tries g r i h s j count
+        → choice listening h s showing j ≡ Some a → IsOf a x → IsRefusal x → Did makes listening bytes x j e
+        → Tries g r i (given_now (summary_of listening h s showing j) h) (noted s x) e.line (suc count)
+    Takes_none : (h : Given) (s : Refused) (showing : List ℕ) (j : LineView places) (count : ℕ) → Tries g r i h s j count → choice listening h s showing j ≡ Some act.Take
+        → Tries g r i (given_now (summary_of listening h s showing j) h) (record s { take = true }) j (suc count)
 
   -- Each refusal leaves fewer to come, so a turn ends.
   abbrev pub TurnsEnd : Type 0

@@ -1,4 +1,4 @@
--- What a line's summary shows, by where the line stands, what it was given before, and what was refused in this turn.
+-- What a line's summary shows, by where the line stands, what it was given before, what was refused in this turn, and at which ends parcels show.
 use Rattle.std.specs.Prelude.{ℕ, ◌+◌, ◌==◌, ◌&&◌, ◌||◌, not, nat_le, nat_lt, Bool, true, false, List, [], ◌∷◌, ◌++◌, length, map, Option, Some, None, if◌then◌else◌}
 use Rattle.std.specs.List.{list_any, list_all}
 use Rattle.queue_files.specs.Kept.{Page}
@@ -79,6 +79,10 @@ abbrev pub is_finished : Option Batch → Bool
 is_finished None = false
 is_finished (Some b) = is_home b && is_empty b.left
 
+-- some rows are unread, and enough for a whole batch
+abbrev pub is_whole : ℕ → ℕ → Bool
+is_whole size unread = nat_lt 0 unread && nat_le size unread
+
 -- ---- ends of links
 
 abbrev pub is_up_to : Option ℕ → ℕ → Bool
@@ -111,9 +115,9 @@ is_part w = nat_lt (length w.rows) (length w.events)
 abbrev pub has_event : Option (List ℕ) → ℕ → TakerView → Bool
 has_event only n t = (t.input == n) && (is_served only t.place && list_any is_part t.waits)
 
--- an end of it that is served hasn't ended
-abbrev pub goes_on : Option (List ℕ) → ℕ → TakerView → Bool
-goes_on only n t = (t.input == n) && (is_served only t.place && not t.ended)
+-- an end of it that is served hasn't ended, or is among those at which a parcel shows: it has ended only until another one comes
+abbrev pub goes_on : Option (List ℕ) → List ℕ → ℕ → TakerView → Bool
+goes_on only showing n t = (t.input == n) && (is_served only t.place && (not t.ended || is_among t.place showing))
 
 -- ---- pages
 
@@ -136,8 +140,14 @@ module _ {places : Places} where
   abbrev pub drains_on : LineView places → Bool
   drains_on i = not i.stopped || i.drains
 
+  -- No batch is out, or fewer are than twice as many as the line has workers: then it may read a further one. So a delivery that waits doesn't let the whole queue come
+  -- into memory.
+  abbrev pub has_few_out : LineView places → Bool
+  has_few_out i = is_empty i.batches || nat_lt (length i.batches) (i.workers + i.workers)
+
+  -- how many rows the summary shows as unread: none where no batch can be read now
   abbrev pub unread_now : Refused → LineView places → ℕ
-  unread_now r i = if drains_on i && not r.read then length (i.kept ++ i.unread) else 0
+  unread_now r i = if drains_on i && (not r.read && has_few_out i) then length (i.kept ++ i.unread) else 0
 
 module _ (listening : Listening) {places : Places} where
   -- ---- inputs
@@ -151,14 +161,14 @@ module _ (listening : Listening) {places : Places} where
   holds i None = false
   holds i (Some v) = holds_by i v (listening.address v.statement)
 
-  -- it is open, isn't at its end, and holds none
-  abbrev pub polls_by : LineView places → InputView → Option (List ℕ) → Bool
-  polls_by i v (Some address) = v.is_open && (not (list_any (has_event (ends_served i) v.number) i.takers) && list_any (goes_on (ends_served i) v.number) i.takers)
-  polls_by i v None = v.is_open && (not i.stopped && (is_empty v.held && not v.ended))
+  -- it is open, holds none, and isn't at its end, or a parcel shows at one of its ends
+  abbrev pub polls_by : List ℕ → LineView places → InputView → Option (List ℕ) → Bool
+  polls_by showing i v (Some address) = v.is_open && (not (list_any (has_event (ends_served i) v.number) i.takers) && list_any (goes_on (ends_served i) showing v.number) i.takers)
+  polls_by showing i v None = v.is_open && (not i.stopped && (is_empty v.held && not v.ended))
 
-  abbrev pub polls : LineView places → Option InputView → Bool
-  polls i None = false
-  polls i (Some v) = polls_by i v (listening.address v.statement)
+  abbrev pub polls : List ℕ → LineView places → Option InputView → Bool
+  polls showing i None = false
+  polls showing i (Some v) = polls_by showing i v (listening.address v.statement)
 
   -- it is open, listens on no address, and has a row up to the mark of which it wasn't told
   abbrev pub wants_by : LineView places → InputView → Option (List ℕ) → Bool
@@ -171,8 +181,9 @@ module _ (listening : Listening) {places : Places} where
 
   -- ---- the summary
 
-  abbrev pub summary_of : Given → Refused → LineView places → Summary
-  summary_of g r i = record {
+  -- `showing` has the places of the ends at which a parcel shows: in the room of the end, or in its ring
+  abbrev pub summary_of : Given → Refused → (showing : List ℕ) → LineView places → Summary
+  summary_of g r showing i = record {
     take = has_some (least (λ n. is_away (batch_of n i.batches)) (batches_of i)) && not r.take;
     deliver = least (λ n. drains_on i && (is_due (batch_of n i.batches) && not (is_among n r.deliveries))) (batches_of i);
     finished = least (λ n. is_finished (batch_of n i.batches)) (batches_of i);
@@ -182,9 +193,9 @@ module _ (listening : Listening) {places : Places} where
     purge = list_any is_spent i.holds.queue.tails;
     held = next_behind g.held (λ n. holds i (input_at n i.inputs) && not (is_among n r.accepts)) (inputs_of i);
     unread = unread_now r i;
-    whole_batch = nat_le i.size (unread_now r i);
+    whole_batch = is_whole i.size (unread_now r i);
     uncovered = i.uncovered;
-    poll = next_behind g.poll (λ n. polls i (input_at n i.inputs) && not (is_among n r.accepts)) (inputs_of i);
+    poll = next_behind g.poll (λ n. polls showing i (input_at n i.inputs) && not (is_among n r.accepts)) (inputs_of i);
   }
 
 -- of links and inputs those that this summary gives are given then

@@ -66,7 +66,7 @@ pub record Batch : Type 0 where
   pub kit : Option Kit
   pub parcel : Option ℕ
 
--- A line: the newest configuration; what its dead letters may hold, and how many rows a batch may have; its queue, its files and its dead letters; the rows
+-- A line: the newest configuration; what its dead letters may hold, how many rows a batch may have, and how many workers run its batches; its queue, its files and its dead letters; the rows
 -- that the queue gives next, and before them those of a batch for which there was no memory; the batches that are out, and the number of the next one; the
 -- kits at home, and the boxes of outputs that aren't closed; its inputs, also those that are closed, the ends of links at which they listen, with the place of the
 -- next one, and those by which it sends; the front of the last mark since it was opened; whether anything was written or
@@ -76,6 +76,7 @@ pub record LineView (places : Places) : Type 0 where
   pub plan : Plan
   pub limits : Limits
   pub size : ℕ
+  pub workers : ℕ
   pub holds : Holdings places
   pub unread : List Row
   pub kept : List Row

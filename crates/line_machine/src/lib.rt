@@ -6,7 +6,7 @@
 //! stop leaves, at each moment, is sound with the history before or behind the call.
 //!
 //! [`next`] chooses a step by a summary of what the line can do, the first in a fixed order. What the summary shows, by where
-//! the line stands and what was refused in a turn, is a definition (`specs/Summaries`), and what follows for the steps that
+//! the line stands, what was refused in a turn and where parcels show, is a definition (`specs/Summaries`), and what follows for the steps that
 //! are chosen stands in [`turn_laws`].
 #![tactic(auto)]
 

@@ -23,19 +23,19 @@ pub struct Summary {
     pub purge: bool,
     /// An input that holds an event.
     pub held: Option<usize>,
-    /// How many rows are unread.
+    /// How many rows are unread; none where no further batch can be read now.
     pub unread: u64,
-    /// They are enough for a whole batch.
+    /// Some are, and they are enough for a whole batch.
     pub whole_batch: bool,
     /// Something was written, or acknowledged, since the last mark.
     pub uncovered: bool,
-    /// An input that isn't at its end, and holds no event.
+    /// An open input that holds no event, and isn't at its end, or at one of whose ends a parcel shows.
     pub poll: Option<usize>,
 }
 
 /// The step that comes next: a result is taken, a batch delivered, one acknowledged, a parcel answered, a due mark
-/// made, an input assured, a page removed, an event accepted that is held, a batch read, a mark made, an input
-/// polled; the first of these that the summary shows, and none where it shows none.
+/// made, an input assured, a page removed, a whole batch read, an event accepted that is held, a smaller batch read, a
+/// mark made, an input polled; the first of these that the summary shows, and none where it shows none.
 pub fn next(summary: &Summary) -> Option<Act>
     ensures first { result ≡ next_of summary.now }
     ensures possible { IfSome result (IsPossible summary.now) }
@@ -62,6 +62,9 @@ pub fn next(summary: &Summary) -> Option<Act>
     }
     if summary.purge {
         return Some(Act::Purge);
+    }
+    if summary.whole_batch {
+        return Some(Act::Read);
     }
     if let Some(input) = summary.held {
         return Some(Act::Accept(input));

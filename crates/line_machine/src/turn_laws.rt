@@ -15,7 +15,8 @@ pub fn choices_can_be_done()
 {}
 
 /// Where nothing was refused and no result of a batch was lost, no step is chosen exactly where the line has nothing
-/// left to do: it is at rest, or was told to stop and has come to an end. Then it is done, or stopped.
+/// left to do, and no parcel shows at an end that listens: it is at rest, or was told to stop and has come to an end.
+/// Then it is done, or stopped.
 pub fn none_is_chosen_at_rest()
     ensures none { (makes : Makes) (listening : Listening) (bytes : Bytes) (places : Places)
         → NoneIsRest makes listening bytes places }
