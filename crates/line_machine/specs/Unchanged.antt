@@ -1,5 +1,5 @@
 -- Which acts a line may be asked for, and which answers leave all as it was.
-use Rattle.std.specs.Prelude.{◌≡◌, ◌⊎◌, ℕ, true, List, [], ◌∷◌, ◌++◌, Some, None, Ok, Err, ⊤}
+use Rattle.std.specs.Prelude.{◌≡◌, ◌⊎◌, ℕ, true, false, List, [], ◌∷◌, ◌++◌, Some, None, Ok, Err, ⊤}
 use Rattle.event_tree.specs.Events.{Ev}
 use Rattle.foreign_parts.specs.declared.place.Place.TheVariants as place
 use Rattle.pipeline_bus.specs.declared.parcel.Heard.{Heard}
