@@ -31,3 +31,4 @@ pub mod Resting
 pub mod Finding
 pub mod Ending
 pub mod Staying
+pub mod Closing

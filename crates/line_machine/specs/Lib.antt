@@ -25,3 +25,4 @@ pub mod Resting
 pub mod Turns
 pub mod Summaries
 pub mod Choices
+pub mod Closing

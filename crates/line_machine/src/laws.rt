@@ -5,6 +5,7 @@ ghost use Rattle.history_book.specs.Links.{Listening};
 ghost use Rattle.history_book.specs.Sound.{Places};
 ghost use Rattle.line_machine.specs.Answering.{AnswersStand, OpenedLinksStand};
 ghost use Rattle.line_machine.specs.Boxes.{BoxesStandStill, BoxesStay, ClosedAreUnwanted, OpenedBoxesStand};
+ghost use Rattle.line_machine.specs.Closing.{EndsCloseOnce, EndsFollow, FaultsCloseNone, NoneIsOut};
 ghost use Rattle.line_machine.specs.Coming.{InputsStandStill, OpenedInputsStand, RecordedAreSettled};
 ghost use Rattle.line_machine.specs.Covering.{MarksCoverStill, OpenedMarksCover, OpenedRowsAreCovered, RowsAreCoveredStill};
 ghost use Rattle.line_machine.specs.Doing.{DoesLegallyStill, OpenedDoesLegally};
@@ -136,6 +137,21 @@ pub fn boxes_are_closed_once()
         → OpenedBoxesStand makes listening bytes places }
     ensures kept { (makes : Makes) (listening : Listening) (bytes : Bytes) (places : Places)
         → BoxesStandStill makes listening bytes places }
+{}
+
+/// A line's end closes each kit at home and each box, once: of those that the line had and that came with configurations
+/// each was closed once by then, or a kit is out with a job. None is out where the line is at rest, or was told to stop and
+/// has come to an end; a step that it doesn't go on from closes none. The end tells nothing, and leaves the places as they
+/// are.
+pub fn ends_close_once()
+    ensures counted { (makes : Makes) (listening : Listening) (bytes : Bytes) (places : Places)
+        → EndsCloseOnce makes listening bytes places }
+    ensures none_out { (makes : Makes) (listening : Listening) (bytes : Bytes) (places : Places)
+        → NoneIsOut makes listening bytes places }
+    ensures faults { (makes : Makes) (listening : Listening) (bytes : Bytes) (places : Places)
+        → FaultsCloseNone makes listening bytes places }
+    ensures follows { (makes : Makes) (listening : Listening) (bytes : Bytes) (places : Places)
+        → EndsFollow makes listening bytes places }
 {}
 
 /// What a step gave to stdout and to boxes is what it tells of them.
