@@ -12,6 +12,7 @@ pub mod Arrives
 pub mod Telling
 pub mod Deliveries
 pub mod Steps
+pub mod EndsLine
 pub mod Openings
 pub mod Kits
 pub mod Rows

@@ -7,6 +7,7 @@ pub mod Steps
 pub mod Stands
 pub mod Recorded
 pub mod Answers
+pub mod EndsLine
 pub mod Laws
 pub mod Openings
 pub mod Since

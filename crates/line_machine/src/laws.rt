@@ -9,6 +9,7 @@ ghost use Rattle.line_machine.specs.Closing.{EndsCloseOnce, EndsFollow, FaultsCl
 ghost use Rattle.line_machine.specs.Coming.{InputsStandStill, OpenedInputsStand, RecordedAreSettled};
 ghost use Rattle.line_machine.specs.Covering.{MarksCoverStill, OpenedMarksCover, OpenedRowsAreCovered, RowsAreCoveredStill};
 ghost use Rattle.line_machine.specs.Doing.{DoesLegallyStill, OpenedDoesLegally};
+ghost use Rattle.line_machine.specs.EndsLine.{AnswersTellEnds};
 ghost use Rattle.line_machine.specs.Kits.{KitsStay, KitsAreTheirs, OpenedKitsAreTheirs};
 ghost use Rattle.line_machine.specs.Laws.{CallsFollow, StepsFollow};
 ghost use Rattle.line_machine.specs.Openings.{OpenedLineStands, RunsStand};
@@ -152,6 +153,12 @@ pub fn ends_close_once()
         → FaultsCloseNone makes listening bytes places }
     ensures follows { (makes : Makes) (listening : Listening) (bytes : Bytes) (places : Places)
         → EndsFollow makes listening bytes places }
+{}
+
+/// Whether a line takes further calls is told by the answer of the last one alone.
+pub fn answers_tell_ends()
+    ensures { (makes : Makes) (listening : Listening) (bytes : Bytes) (places : Places)
+        → AnswersTellEnds makes listening bytes places }
 {}
 
 /// What a step gave to stdout and to boxes is what it tells of them.
