@@ -1,5 +1,5 @@
 -- Which acts a line may be asked for, and which answers leave all as it was.
-use Rattle.std.specs.Prelude.{◌≡◌, ◌⊎◌, ℕ, true, false, List, [], ◌∷◌, ◌++◌, Some, None, Ok, Err, ⊤}
+use Rattle.std.specs.Prelude.{◌≡◌, ◌≢◌, ◌⊎◌, ℕ, true, false, List, [], ◌∷◌, ◌++◌, Some, None, Ok, Err, ⊤}
 use Rattle.event_tree.specs.Events.{Ev}
 use Rattle.foreign_parts.specs.declared.place.Place.TheVariants as place
 use Rattle.pipeline_bus.specs.declared.parcel.Heard.{Heard}
@@ -82,12 +82,14 @@ module _ (listening : Listening) {places : Places} where
   abbrev pub HasSentLast : LineView places → Type 0
   HasSentLast i = HasEnded listening i → (address : List ℕ) (s : SenderView) → sender_at address i.senders ≡ Some s → ends_with_last s.sends.sent ≡ true
 
-  -- The call with this answer leaves all as it was: nothing more is there to be done, or it has to wait; a file that it reads first is damaged; or there was no memory.
+  -- The call with this answer leaves all as it was: nothing more is there to be done, or it has to wait; a file that it reads first is damaged; or there was no memory, or no
+  -- number left for a batch, for an end, or for a generation, which counts as that. A read finds that no kit is at home only where a row is unread. No end is given back only
+  -- where none is done with, each for itself.
   abbrev pub LeavesAll : LineView places → Call → Type 0
   LeavesAll i (call.Accept n (Ok accepted.NotYet)) = (reads : ReadsAt i n) × (reads.0.input.held ≡ [])
   LeavesAll i (call.Accept n (Err (fault.Damaged damage))) = ReadsAt i n
   LeavesAll i (call.Read (Ok read.Nothing)) = i.kept ++ i.unread ≡ []
-  LeavesAll i (call.Read (Ok read.NoKit)) = i.kits ≡ []
+  LeavesAll i (call.Read (Ok read.NoKit)) = (i.kits ≡ []) × (i.kept ++ i.unread ≢ [])
   LeavesAll i (call.Read (Err (fault.Damaged damage))) = ⊤
   LeavesAll i (call.Read (Err fault.Memory)) = ⊤
   LeavesAll i (call.Deliver n (Ok delivered.Waiting)) = IsUnheard i n
