@@ -1,3 +1,4 @@
+pub mod Faults
 pub mod Ends
 pub mod Views
 pub mod Finds

@@ -1,7 +1,11 @@
 // The calls of a line with their answers and faults.
+ghost use Rattle.std.specs.Prelude.{◌≡◌};
+
+use dead_letters::DeadFault;
 use event_tree::Text;
-use io_traits::Damage;
+use io_traits::{Damage, Failed, QueueFault};
 use pipeline_bus::Answer;
+use std::alloc::AllocError;
 
 /// Why a call of a line had to stop. Behind `Store`, `Output`, `DeadFull`, and `Memory` from a delivery, the line
 /// takes no further call and is opened again.
@@ -17,10 +21,59 @@ pub enum LineFault {
     Damaged(Damage),
     /// The queue has no number left for a row or for a page.
     NumbersSpent,
-    /// The dead letter queue holds back what is added, in bytes, by its limit.
-    DeadFull { size: u64, added: u64, limit: u64 },
+    /// The dead letter queue holds back what would be added to what it has, by its limit: each in bytes.
+    DeadFull { size: u128, added: u128, limit: u64 },
     /// There was no memory for it.
     Memory,
+}
+
+impl From<AllocError> for LineFault {
+    ghost use Rattle.line_machine.specs.declared.calls.LineFault.TheVariants.{Memory};
+
+    ghost from_gives = { λ _ fault. fault ≡ Memory };
+
+    fn from(_error: AllocError) -> LineFault {
+        LineFault::Memory
+    }
+}
+
+/// Of what fails here a line's store is one: a failed source or output has a name, which its caller knows.
+impl From<Failed> for LineFault {
+    ghost use Rattle.line_machine.specs.declared.calls.LineFault.TheVariants.{Store};
+
+    ghost from_gives = { λ _ fault. fault ≡ Store };
+
+    fn from(_failed: Failed) -> LineFault {
+        LineFault::Store
+    }
+}
+
+impl From<QueueFault> for LineFault {
+    ghost use Rattle.line_machine.specs.Faults.{of_queue_fault};
+
+    ghost from_gives = { λ queue fault. fault ≡ of_queue_fault queue };
+
+    fn from(fault: QueueFault) -> LineFault {
+        match fault {
+            QueueFault::Fault => LineFault::Store,
+            QueueFault::Damaged(damage) => LineFault::Damaged(damage),
+            QueueFault::Memory => LineFault::Memory,
+        }
+    }
+}
+
+impl From<DeadFault> for LineFault {
+    ghost use Rattle.line_machine.specs.Faults.{of_dead_fault};
+
+    ghost from_gives = { λ dead fault. fault ≡ of_dead_fault dead };
+
+    fn from(fault: DeadFault) -> LineFault {
+        match fault {
+            DeadFault::Full(size, added, limit) => LineFault::DeadFull { size, added, limit },
+            DeadFault::Memory => LineFault::Memory,
+            DeadFault::Fault => LineFault::Store,
+        }
+    }
 }
 
 /// What accepting an event came to.
