@@ -102,16 +102,16 @@ pub ends_follow : (makes : Makes) (listening : Listening) (bytes : Bytes) (place
 ends_follow makes listening bytes places told i e stands closes =
     subst (λ y. FollowsAs makes bytes places told i y ⊤) (sym closes.effect_is)
     (arrives_quietly makes bytes places told i (closing i e.closed e.closed_boxes) ⊤ stands refl refl (λ w. (
-    refl,
-    record {
-      running = stands.knows.running;
-      between = stands.knows.between;
-      limits = stands.knows.limits;
-      unread = stands.knows.unread;
-      batches = stands.knows.batches;
-      below = stands.knows.below;
-      used = stands.knows.used;
-      inputs = stands.knows.inputs;
-      mark = stands.knows.mark;
-    },
+      refl,
+      record {
+        running = stands.knows.running;
+        between = stands.knows.between;
+        limits = stands.knows.limits;
+        unread = stands.knows.unread;
+        batches = stands.knows.batches;
+        below = stands.knows.below;
+        used = stands.knows.used;
+        inputs = stands.knows.inputs;
+        mark = stands.knows.mark;
+      },
     )))

@@ -5,9 +5,9 @@
 //! allows stands in [`laws`]: each history is legal, the line stands where its history does, and each image that a
 //! stop leaves, at each moment, is sound with the history before or behind the call.
 //!
-//! [`next`] chooses a step by a summary of what the line can do, the first in a fixed order. What the summary shows, by where
-//! the line stands, what was refused in a turn and where parcels show, is a definition (`specs/Summaries`), and what follows for the steps that
-//! are chosen stands in [`turn_laws`].
+//! [`next`] chooses a step by a summary of what the line can do, the first in a fixed order. What the summary shows, by
+//! where the line stands, what was refused in a turn and where parcels show, is a definition (`specs/Summaries`), and
+//! what follows for the steps that are chosen stands in [`turn_laws`].
 #![tactic(auto)]
 
 mod calls;
