@@ -36,7 +36,7 @@ pub record Set : Type 0 where
 -- A call of the program: the pipelines that it ran, by their numbers, as they are set; what its book was told before it and in it; what each pipeline's store read when
 -- it began; which images each store might leave when it began, at some moment of it, and at its return; the watched files when it began and at its return; what
 -- stdout and boxes held when it began, and what they hold at its return, where a pipeline was opened over them; and the looks that its inputs made, of a pipeline that was opened.
-pub record ProgramCall : Type 0 where
+pub record ProgramCall : Type 1 where
   pub runs : ℕ → Bool
   pub set : ℕ → Set
   pub told_before : List (ℕ × Entry)

@@ -47,7 +47,7 @@ module _ (makes : Makes) (listening : Listening) (bytes : Bytes) (places : Place
     adopted : Follows makes bytes places (told ++ opened ∷ []) (adopts ∷ []) i.holds i.holds
     adopted = record {
       whole = inl (ap (λ (x : State). x.between) behind_is);
-      legal = (subst (λ x. Legal_at makes x adopts) (sym behind_is) (tt, refl, tt), tt);
+      legal = (subst (λ x. Legal_at makes x adopts) (sym behind_is) (tt, refl, tt, is.draws), tt);
       queue = others_leave_it makes (after makes start (told ++ opened ∷ [])) i.holds.queue adopts tt holds_opened.queue;
       files = λ file m. (i.holds.content file m, refl, refl);
       dead = (i.holds.dead, refl, refl);

@@ -288,7 +288,7 @@ module _ (makes : Makes) (listening : Listening) (bytes : Bytes) (places : Place
     pub adopts : Stands makes bytes places (told ++ Adopt c.plan.generation c.plan.config c.plan.draws ∷ []) (adopted listening i c)
     adopts =
         let e = Adopt c.plan.generation c.plan.config c.plan.draws in
-        let legal : Legal_at makes s e = (opened_by s.limits stands.knows.limits, stands.knows.between, may_adopt c.plan.generation c.plan.config c.differs c.generation s.plans stands.knows.running) in
+        let legal : Legal_at makes s e = (opened_by s.limits stands.knows.limits, stands.knows.between, may_adopt c.plan.generation c.plan.config c.differs c.generation s.plans stands.knows.running, c.draws) in
         one_entry makes bytes places told e i (adopted listening i c) stands legal
         (record { queue = others_leave_it makes s i.holds.queue e tt stands.holds.queue; files = λ file m. refl; dead = refl }) (record {
           running = refl;

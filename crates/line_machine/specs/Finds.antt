@@ -27,7 +27,7 @@ use Rattle.queue_core.specs.Unread.{taken}
 use Rattle.history_book.specs.Contents.{Bytes, Appended, part_of, bytes_at, is_stdout}
 use Rattle.history_book.specs.Entries.{ParcelAt}
 use Rattle.history_book.specs.Inputs.{Input, Renumbered, named_from}
-use Rattle.history_book.specs.Legal.{rejections, FatesFit}
+use Rattle.history_book.specs.Legal.{rejections, FatesFit, HasDraws}
 use Rattle.history_book.specs.Links.{Listening}
 use Rattle.history_book.specs.Lists.{IsIn}
 use Rattle.history_book.specs.Queues.{acknowledged_in, next_in, AcknowledgesMore}
@@ -287,6 +287,7 @@ module _ (listening : Listening) {places : Places} where
     pub kits : List Kit
     pub differs : plan.config ≢ i.plan.config
     pub generation : plan.generation ≡ i.plan.generation + 1
+    pub draws : HasDraws plan.config plan.draws
     pub made_of : (k : Kit) → IsIn k kits → k.generation ≡ plan.generation
     pub inputs : List Input
     pub renumbered : Renumbered (length (inputs_of i.inputs)) (inputs_of i.inputs) (named_from 1 plan.config.inputs) inputs

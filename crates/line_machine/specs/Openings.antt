@@ -6,6 +6,7 @@ use Rattle.history_book.specs.Contents.{Bytes}
 use Rattle.history_book.specs.Entries.{Entry, Adopt, Opened}
 use Rattle.history_book.specs.Holdings.{IsOpened}
 use Rattle.history_book.specs.Inputs.{Input, Renumbered, named_from}
+use Rattle.history_book.specs.Legal.{HasDraws}
 use Rattle.history_book.specs.Links.{Listening}
 use Rattle.history_book.specs.Lists.{IsIn}
 use Rattle.history_book.specs.Sound.{Places, LineSound}
@@ -24,6 +25,7 @@ module _ (makes : Makes) (listening : Listening) (bytes : Bytes) (places : Place
     pub unread : i.unread ≡ sound.rows.rows
     pub kept : i.kept ≡ []
     pub batches : i.batches ≡ []
+    pub draws : HasDraws i.plan.config i.plan.draws
     pub kits : (k : Kit) → IsIn k i.kits → k.generation ≡ i.plan.generation
     pub inputs : List Input
     pub numbered : Renumbered 0 [] (named_from 1 i.plan.config.inputs) inputs
