@@ -1,5 +1,5 @@
 -- What a pipeline sent and heard while its deeds were legal.
-use Rattle.std.proofs.Common.{◌≡◌, ◌⊎◌, inl, inr, ⊎_elim, ℕ, ◌==◌, not, Bool, true, false, List, [], ◌∷◌, ◌++◌, if◌then◌else◌, refl, sym, ap, ap₂, ◌∙◌, subst, append-nil}
+use Rattle.std.proofs.Common.{◌≡◌, ◌⊎◌, inl, inr, ⊎_elim, ℕ, ◌==◌, not, Bool, true, false, List, [], ◌∷◌, ◌++◌, if◌then◌else◌, refl, sym, ap, ap₂, ◌∙◌, subst, append_assoc, append-nil}
 use Rattle.std.specs.Prelude.{bytes_eq}
 use Rattle.std.proofs.lemmas.Bool.{eqb-true}
 use Rattle.std.proofs.lemmas.Slice.Eq.{bytes_eq-Decides}
@@ -14,12 +14,13 @@ use Rattle.pipeline_bus.specs.declared.parcel.Heard.TheVariants.{Assured, NotLis
 use Rattle.pipeline_bus.specs.declared.parcel.Parcel.{Parcel}
 use Rattle.pipeline_bus.proofs.Numbers.{numbered_more}
 use Rattle.event_flow.specs.Meaning.{Makes}
-use Rattle.history_book.specs.Deeds.{Deed, Tell, Send, Hear, SentTo, HeardFrom, Mail, Assurance, DeedOf, no_mail, told_of, deeds_by, told_by, mail_of, AreTold, mail_told, mail_next, mail_after, sent_on, heard_on, says_assured, assures, assured_by, Serves, ServesAt, LeavesUnused, IsNextFor, MaySend, Leaves, LegalDeeds, LegalBehind, LegalDeedsTell, FrontsOfDeedsAreLegal, IsAnswered, DeliveriesAreAnswered}
+use Rattle.history_book.specs.Deeds.{Deed, Tell, Send, Hear, SentTo, HeardFrom, Mail, Assurance, DeedOf, no_mail, told_of, tell_all, deeds_by, told_by, mail_of, AreTold, mail_told, mail_next, mail_after, sent_on, heard_on, says_assured, assures, assured_by, Serves, ServesAt, LeavesUnused, IsNextFor, MaySend, Leaves, LegalDeeds, LegalBehind, DidLegally, LegalDeedsTell, FrontsOfDeedsAreLegal, IsAnswered, DeliveriesAreAnswered}
 use Rattle.history_book.specs.Entries.{Entry, Accept, Mark, Assure, Read, Back, Shed, Deliver, Letters, Ack, Purge, Adopt, Opened}
 use Rattle.history_book.specs.Legal.{Legal}
 use Rattle.history_book.specs.Lists.{IsIn}
 use Rattle.history_book.specs.States.{State, start, next, after}
 use Rattle.history_book.specs.Steps.{NoOpening}
+use Rattle.history_book.proofs.Histories.{after_both}
 use Rattle.history_book.proofs.Lists.{in_front, in_behind, in_either}
 use Rattle.history_book.proofs.Numbers.{and_first, and_second}
 use Rattle.history_book.proofs.Steps.{rest_unopened}
@@ -395,7 +396,7 @@ deeds_both k (d ∷ xs) ys = by_test (deeds_both k xs ys) (k == d.line)
 pub told_by_both : (k : ℕ) (xs ys : List DeedOf) → told_by k (xs ++ ys) ≡ told_by k xs ++ told_by k ys
 told_by_both k xs ys = ap told_of (deeds_both k xs ys) ∙ told_both (deeds_by k xs) (deeds_by k ys)
 
-mail_both : (m : Mail) (xs ys : List Deed) → mail_after m (xs ++ ys) ≡ mail_after (mail_after m xs) ys
+pub mail_both : (m : Mail) (xs ys : List Deed) → mail_after m (xs ++ ys) ≡ mail_after (mail_after m xs) ys
 mail_both m [] ys = refl
 mail_both m (d ∷ xs) ys = mail_both (mail_next m d) xs ys
 
@@ -416,3 +417,28 @@ none_by k (d ∷ first) told = by_test (none_by k first told.1) (k == d.line)
 pub mail_since : (k : ℕ) (first since : List DeedOf) → AreTold first → mail_of k (first ++ since) ≡ mail_of k since
 mail_since k first since told =
     ap (mail_after no_mail) (deeds_both k first since) ∙ mail_both no_mail (deeds_by k first) (deeds_by k since) ∙ ap (λ (m : Mail). mail_after m (deeds_by k since)) (none_by k first told)
+
+pub told_all : (told : List Entry) → told_of (tell_all told) ≡ told
+told_all [] = refl
+told_all (e ∷ told) = ap (λ l. e ∷ l) (told_all told)
+
+none_left : (told : List Entry) → mail_after no_mail (tell_all told) ≡ no_mail
+none_left [] = refl
+none_left (e ∷ told) = ap (λ (m : Mail). mail_after m (tell_all told)) (none_told e) ∙ none_left told
+
+-- what was done legally, and more
+pub did_more : (makes : Makes) (earlier : List Entry) (deeds more : List Deed) (left now : List Assurance) → DidLegally makes earlier deeds left
+    → Leaves makes (after makes start (told_of deeds)) (mail_after no_mail deeds) left more now → DidLegally makes earlier (deeds ++ more) now
+did_more makes earlier deeds more left now did leaves =
+    let s = after makes start earlier in
+    let stood : after makes start (told_of deeds) ≡ after makes s (told_of did.since) =
+    ap (λ d. after makes start (told_of d)) did.parts ∙ ap (after makes start) (told_both (tell_all earlier) did.since ∙ ap (λ l. l ++ told_of did.since) (told_all earlier))
+    ∙ after_both makes start earlier (told_of did.since) in
+    let mail : mail_after no_mail deeds ≡ mail_after no_mail did.since =
+    ap (mail_after no_mail) did.parts ∙ mail_both no_mail (tell_all earlier) did.since ∙ ap (λ (m : Mail). mail_after m did.since) (none_left earlier) in
+    record {
+      since = did.since ++ more;
+      parts = ap (λ l. l ++ more) did.parts ∙ append_assoc (tell_all earlier) did.since more;
+      legal = leaves_both makes s no_mail [] left now did.since more did.legal
+          (subst (λ (x : State). Leaves makes x (mail_after no_mail did.since) left more now) stood (subst (λ (m : Mail). Leaves makes (after makes start (told_of deeds)) m left more now) mail leaves));
+    }

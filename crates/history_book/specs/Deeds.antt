@@ -184,6 +184,12 @@ module _ (makes : Makes) where
   abbrev pub LegalBehind : List Entry → List Deed → Type 0
   LegalBehind told deeds = (left : List Assurance) × Leaves (after makes start told) no_mail [] deeds left
 
+  -- A pipeline told this in earlier runs, and did that since legally, all together; and these answers served no delivery yet.
+  pub record DidLegally (earlier : List Entry) (deeds : List Deed) (left : List Assurance) : Type 0 where
+    pub since : List Deed
+    pub parts : deeds ≡ tell_all earlier ++ since
+    pub legal : Leaves (after makes start earlier) no_mail [] since left
+
 -- ---- several pipelines
 
 -- what one of them did, by its number

@@ -78,8 +78,8 @@ no_kits [] none = refl
 no_kits (b ∷ bs) none = ap (λ k. kit_out k ++ kits_out bs) (none b (inl refl)) ∙ no_kits bs (λ c i. none c (inr i))
 
 pub none_is_out : (makes : Makes) (listening : Listening) (bytes : Bytes) (places : Places) → NoneIsOut makes listening bytes places
-none_is_out makes listening bytes places deeds came i line (inl rest) = ap kits_out rest.ended.batches
-none_is_out makes listening bytes places deeds came i line (inr stop) = no_kits i.batches (λ b has. by_kit b has b.kit refl)
+none_is_out makes listening bytes places earlier deeds came i line (inl rest) = ap kits_out rest.ended.batches
+none_is_out makes listening bytes places earlier deeds came i line (inr stop) = no_kits i.batches (λ b has. by_kit b has b.kit refl)
   where
     by_kit : (b : Batch) → IsIn b i.batches → (k : Option Kit) → b.kit ≡ k → b.kit ≡ None
     by_kit b has None e = e

@@ -26,7 +26,7 @@ use Rattle.history_book.specs.States.{State, start, next, after}
 use Rattle.history_book.specs.Steps.{NoOpening}
 use Rattle.history_book.proofs.Histories.{legal_rest}
 use Rattle.history_book.proofs.Lists.{in_front, in_behind, in_either}
-use Rattle.history_book.proofs.Mailing.{leaves_both}
+use Rattle.history_book.proofs.Mailing.{mail_both, did_more}
 use Rattle.history_book.proofs.Outs.{out_in}
 use Rattle.line_machine.specs.Doing.{WasSent, IsAssured, AllDiffer, IsSent, IsOnItsWay, IsHeardOf, IsMail, DoesLegally, deeds_of, OpenedDoesLegally, DoesLegallyStill}
 use Rattle.line_machine.specs.Effects.{shed_told, one_less, in_parcel, without_kit, back_with, new_batch}
@@ -43,7 +43,7 @@ use Rattle.line_machine.proofs.Openings.{opened_line_stands}
 use Rattle.line_machine.proofs.Since.{unopened}
 use Rattle.line_machine.proofs.Steps.{steps_follow}
 use Rattle.line_machine.proofs.BatchLists.{differs, none_some, differ_end, numbers_of, of_number, found_in, numbers_kept, batch_changed, batch_behind, changed_there, without_differ, without_other, same_batch}
-use Rattle.line_machine.proofs.Senders.{sender_changed, sender_behind, none_before, address_of, sender_in, sender_front, sender_either, Grows, sent_grows, heard_grows, sent_still, as_sent, is_to_address, plain_is, same_events, same_place, IsSplit, split_at, left_other, assured_in, mail_both, mail_told_all, on_same, on_other, from_same, from_other}
+use Rattle.line_machine.proofs.Senders.{sender_changed, sender_behind, none_before, address_of, sender_in, sender_front, sender_either, Grows, sent_grows, heard_grows, sent_still, as_sent, is_to_address, plain_is, same_events, same_place, IsSplit, split_at, left_other, assured_in, mail_told_all, on_same, on_other, from_same, from_other}
 
 -- ---- entries that deliver nothing to an address
 
@@ -76,7 +76,7 @@ shed_no_address n (suc older) newer rest none = none
 
 -- ---- batches
 
-module _ (makes : Makes) (deeds : List Deed) (batches : List Batch) (senders : List SenderView) (is : DoesLegally makes deeds batches senders) where
+module _ (makes : Makes) (earlier : List Entry) (deeds : List Deed) (batches : List Batch) (senders : List SenderView) (is : DoesLegally makes earlier deeds batches senders) where
   abbrev WasHeardOf : List ℕ → ℕ → Type 0
   WasHeardOf address number = (s : SenderView) → sender_at address senders ≡ Some s → (a : Answer) × IsIn a s.sends.heard × (a.number ≡ number)
 
@@ -123,12 +123,12 @@ module _ (makes : Makes) (deeds : List Deed) (batches : List Batch) (senders : L
     heard_still address x at p (inr b) = ⊎_elim (λ (u : (u : Batch) × IsIn u now × IsSent u address p.number). inr u) (λ (heard : WasHeardOf address p.number). inl (heard x at)) (waits.to b.0 b.1 address p.number b.2)
 
     -- where no delivery to an address is told, and nothing goes through an end
-    frame : (more : List Deed) → Leaves makes s mail_now is.left more is.left → mail_after mail_now more ≡ mail_now → DoesLegally makes (deeds ++ more) now senders
+    frame : (more : List Deed) → Leaves makes s mail_now is.left more is.left → mail_after mail_now more ≡ mail_now → DoesLegally makes earlier (deeds ++ more) now senders
     frame more leaves same =
         let mail_is = mail_both no_mail deeds more ∙ same in
         record {
           left = is.left;
-          legal = leaves_both makes start no_mail [] is.left is.left deeds more is.legal leaves;
+          legal = did_more makes earlier deeds more is.left is.left is.legal leaves;
           mail = λ address x at.
               let old = is.mail address x at in
               record { sent = old.sent ∙ ap (λ (m : Mail). sent_on address m.sent) (sym mail_is); heard = old.heard ∙ ap (λ (m : Mail). heard_on address m.heard) (sym mail_is) };
@@ -146,7 +146,7 @@ module _ (makes : Makes) (deeds : List Deed) (batches : List Batch) (senders : L
         }
 
     -- entries alone
-    tells : (told : List Entry) → Legal makes s told → NoOpening told → NoAddress told → DoesLegally makes (deeds ++ tell_all told) now senders
+    tells : (told : List Entry) → Legal makes s told → NoOpening told → NoAddress told → DoesLegally makes earlier (deeds ++ tell_all told) now senders
     tells told legal none no_address = frame (tell_all told) (leaves_told makes s mail_now is.left told legal none no_address) (mail_told_all mail_now told none)
 
   as_before : WaitAsBefore batches
@@ -220,7 +220,7 @@ module _ (makes : Makes) (deeds : List Deed) (batches : List Batch) (senders : L
 
   -- ---- further ends
 
-  with_ends : (more : List SenderView) → AreUnused more → (told : List Entry) → Legal makes s told → NoOpening told → NoAddress told → DoesLegally makes (deeds ++ tell_all told) batches (senders ++ more)
+  with_ends : (more : List SenderView) → AreUnused more → (told : List Entry) → Legal makes s told → NoOpening told → NoAddress told → DoesLegally makes earlier (deeds ++ tell_all told) batches (senders ++ more)
   with_ends more unused told legal none_opened no_address =
       let old = tells batches as_before told legal none_opened no_address in
       record {
@@ -354,10 +354,10 @@ module _ (makes : Makes) (deeds : List Deed) (batches : List Batch) (senders : L
         let few = is.answered other x.0 x.1 a (subst (IsIn a) x.2 has) in let more = x.3.more in omega (arith, few, more)
 
     -- a last parcel: no batch waits for it
-    last_sent : is_last p ≡ true → DoesLegally makes (deeds ++ deed ∷ []) batches sent_now
+    last_sent : is_last p ≡ true → DoesLegally makes earlier (deeds ++ deed ∷ []) batches sent_now
     last_sent last = record {
       left = is.left;
-      legal = leaves_both makes start no_mail [] is.left is.left deeds (deed ∷ []) is.legal leaves;
+      legal = did_more makes earlier deeds (deed ∷ []) is.left is.left is.legal leaves;
       mail = sent_mail;
       none = sent_none;
       differ = is.differ;
@@ -452,10 +452,10 @@ module _ (makes : Makes) (deeds : List Deed) (batches : List Batch) (senders : L
               is_changed u at = ⊎_elim (λ (o : (sender_at address senders ≡ Some u) × (address ≡ address → ⊥)). absurd (o.1 refl))
                   (λ (c : (address ≡ address) × (x : SenderView) × (sender_at address senders ≡ Some x) × (u ≡ with_sent p x)). c.3 ∙ ap (with_sent p) (one_sender c.1 c.2)) (was address (with_sent p) (λ x. refl) address u at)
 
-      some_sent : DoesLegally makes (deeds ++ deed ∷ []) now sent_now
+      some_sent : DoesLegally makes earlier (deeds ++ deed ∷ []) now sent_now
       some_sent = record {
         left = is.left;
-        legal = leaves_both makes start no_mail [] is.left is.left deeds (deed ∷ []) is.legal leaves;
+        legal = did_more makes earlier deeds (deed ∷ []) is.left is.left is.legal leaves;
         mail = sent_mail;
         none = sent_none;
         differ = subst AllDiffer (sym (numbers_kept f (λ x. refl) n batches)) is.differ;
@@ -539,10 +539,10 @@ module _ (makes : Makes) (deeds : List Deed) (batches : List Batch) (senders : L
         (λ (c : (other ≡ address) × (u ≡ with_heard a x)).
         (x, ap (λ b. sender_at b senders) c.0 ∙ at_it, ap (λ (y : SenderView). y.sends.sent) c.1, subst (λ (y : SenderView). Grows x.sends y.sends) (sym c.1) (heard_grows a x))) (heard_end other u at)
 
-    hears_legally : DoesLegally makes (deeds ++ hears ∷ []) batches heard_now
+    hears_legally : DoesLegally makes earlier (deeds ++ hears ∷ []) batches heard_now
     hears_legally = record {
       left = new_left;
-      legal = leaves_both makes start no_mail [] is.left new_left deeds (hears ∷ []) is.legal hear_leaves;
+      legal = did_more makes earlier deeds (hears ∷ []) is.left new_left is.legal hear_leaves;
       mail = λ other u at. ⊎_elim
           (λ (o : (sender_at other senders ≡ Some u) × (other ≡ address → ⊥)).
           let old = is.mail other u o.0 in record {
@@ -626,13 +626,13 @@ module _ (makes : Makes) (deeds : List Deed) (batches : List Batch) (senders : L
         let one = same_Some y x (sym at ∙ ap (λ d. sender_at d senders) here ∙ at_it) in
         (record { number = number; answer = Assured }, subst (λ (z : SenderView). IsIn (record { number = number; answer = Assured }) z.sends.heard) (sym one) assured, sym same)))
 
-    tells_it : DoesLegally makes (deeds ++ told_now ∷ []) (change_batch (one_less rest) n batches) senders
+    tells_it : DoesLegally makes earlier (deeds ++ told_now ∷ []) (change_batch (one_less rest) n batches) senders
     tells_it =
         let quiet = frame (change_batch (one_less rest) n batches) waits_now [] refl refl in
         let mail_is = mail_both no_mail deeds (told_now ∷ []) in
         record {
           left = left_now;
-          legal = leaves_both makes start no_mail [] is.left left_now deeds (told_now ∷ []) is.legal
+          legal = did_more makes earlier deeds (told_now ∷ []) is.left left_now is.legal
               (legal, (left_now, record { front = split.front; assurance = served; back = split.back; parts = split.parts; address_is = refl; events_are = refl; left_is = refl }, refl));
           mail = λ other y at.
               let old = is.mail other y at in
@@ -674,7 +674,7 @@ plain_no_address n (place.Address address) events plain = absurd plain
 plain_no_address n (place.Foreign number) events plain = absurd plain
 plain_no_address n place.Dead events plain = absurd plain
 
-module _ (makes : Makes) (listening : Listening) (bytes : Bytes) (places : Places) (deeds : List Deed) (i : LineView places) (stands : Stands makes bytes places (told_of deeds) i) (is : DoesLegally makes deeds i.batches i.senders) where
+module _ (makes : Makes) (listening : Listening) (bytes : Bytes) (places : Places) (earlier : List Entry) (deeds : List Deed) (i : LineView places) (stands : Stands makes bytes places (told_of deeds) i) (is : DoesLegally makes earlier deeds i.batches i.senders) where
   abbrev told : List Entry
   told = told_of deeds
 
@@ -682,17 +682,17 @@ module _ (makes : Makes) (listening : Listening) (bytes : Bytes) (places : Place
   legal_then x = legal_rest makes start told (effect makes listening bytes i x).told (steps_follow makes listening bytes places told i x stands).legal
 
   -- a step that tells entries, where batches wait as they did
-  tells_so : (x : Step makes listening bytes i) (now : List Batch) → WaitAsBefore makes deeds i.batches i.senders is now → NoAddress (effect makes listening bytes i x).told
-      → DoesLegally makes (deeds ++ tell_all (effect makes listening bytes i x).told) now i.senders
-  tells_so x now waits no_address = tells makes deeds i.batches i.senders is now waits (effect makes listening bytes i x).told (legal_then x) (unopened makes listening bytes i x) no_address
+  tells_so : (x : Step makes listening bytes i) (now : List Batch) → WaitAsBefore makes earlier deeds i.batches i.senders is now → NoAddress (effect makes listening bytes i x).told
+      → DoesLegally makes earlier (deeds ++ tell_all (effect makes listening bytes i x).told) now i.senders
+  tells_so x now waits no_address = tells makes earlier deeds i.batches i.senders is now waits (effect makes listening bytes i x).told (legal_then x) (unopened makes listening bytes i x) no_address
 
   its_place : (n : ℕ) (b : Batch) → batch_of n i.batches ≡ Some b → IsIn b i.batches
   its_place n b found = (found_in n b i.batches found).0
 
   -- one delivery less is left of a batch, to no address
-  one_less_so : (n : ℕ) (left : List Due) (h : IsHome i n left) (rest : List Due) → is_to_address left ≡ false → WaitAsBefore makes deeds i.batches i.senders is (change_batch (one_less rest) n i.batches)
+  one_less_so : (n : ℕ) (left : List Due) (h : IsHome i n left) (rest : List Due) → is_to_address left ≡ false → WaitAsBefore makes earlier deeds i.batches i.senders is (change_batch (one_less rest) n i.batches)
   one_less_so n left h rest none =
-      none_waits makes deeds i.batches i.senders is (one_less rest) (λ b. refl) n h.batch h.has (no_parcel makes deeds i.batches i.senders is h.batch (its_place n h.batch h.has) left h.left_is none) refl
+      none_waits makes earlier deeds i.batches i.senders is (one_less rest) (λ b. refl) n h.batch h.has (no_parcel makes earlier deeds i.batches i.senders is h.batch (its_place n h.batch h.has) left h.left_is none) refl
 
   new_batch_number : IsIn i.next_batch (numbers_of i.batches) → ⊥
   new_batch_number has = let b = of_number i.next_batch i.batches has in let less = stands.knows.below b.0 b.1 in let same = b.2 in omega (arith, less, same)
@@ -704,18 +704,18 @@ module _ (makes : Makes) (listening : Listening) (bytes : Bytes) (places : Place
       record { out = o.out; is_out = out_in n o.out (after makes start told).out o.has; id = id; left = rest; next = o.is.left ∙ h.left_is }
 
   does : (x : Step makes listening bytes i) → GoesOn makes listening bytes i x
-      → DoesLegally makes (deeds ++ deeds_of makes listening bytes places i x) (effect makes listening bytes i x).line.batches (effect makes listening bytes i x).line.senders
+      → DoesLegally makes earlier (deeds ++ deeds_of makes listening bytes places i x) (effect makes listening bytes i x).line.batches (effect makes listening bytes i x).line.senders
   does (m.Accepts n c r true) on = absurd on
   does (m.Accepts_parcel n a r true) on = absurd on
-  does (m.Reads t k) on = tells_so (m.Reads t k) _ (one_more_waits makes deeds i.batches i.senders is (new_batch i t.rows (Some k.kit)) new_batch_number refl) tt
+  does (m.Reads t k) on = tells_so (m.Reads t k) _ (one_more_waits makes earlier deeds i.batches i.senders is (new_batch i t.rows (Some k.kit)) new_batch_number refl) tt
   does (m.Works t k verdicts uses) on =
-      tells_so (m.Works t k verdicts uses) _ (one_more_waits makes deeds i.batches i.senders is (back_with makes verdicts (new_batch i t.rows None)) new_batch_number refl) tt
+      tells_so (m.Works t k verdicts uses) _ (one_more_waits makes earlier deeds i.batches i.senders is (back_with makes verdicts (new_batch i t.rows None)) new_batch_number refl) tt
   does (m.Collects n a verdicts uses) on =
       let none = is.away a.batch (its_place n a.batch a.has) a.away in
-      tells_so (m.Collects n a verdicts uses) _ (none_waits makes deeds i.batches i.senders is (back_with makes verdicts) (λ b. refl) n a.batch a.has none none) tt
+      tells_so (m.Collects n a verdicts uses) _ (none_waits makes earlier deeds i.batches i.senders is (back_with makes verdicts) (λ b. refl) n a.batch a.has none none) tt
   does (m.Loses_a_result n a) on =
       let none = is.away a.batch (its_place n a.batch a.has) a.away in
-      tells_so (m.Loses_a_result n a) _ (none_waits makes deeds i.batches i.senders is without_kit (λ b. refl) n a.batch a.has none none) tt
+      tells_so (m.Loses_a_result n a) _ (none_waits makes earlier deeds i.batches i.senders is without_kit (λ b. refl) n a.batch a.has none none) tt
   does (m.Tells n parts rest h a) on =
       tells_so (m.Tells n parts rest h a) _ (one_less_so n (due.Letters parts ∷ rest) h rest refl)
       (shed_no_address n a.shed.older a.shed.newer (Letters n (kept_from a.shed.newer 0 parts) ∷ []) tt)
@@ -727,15 +727,15 @@ module _ (makes : Makes) (listening : Listening) (bytes : Bytes) (places : Place
       tells_so (m.Is_rejected n id number events rest h fates fit some a) _ (one_less_so n (due.Events id (place.Foreign number) events ∷ rest) h rest refl)
       (letters_no_address n a.shed.older a.shed.newer (kept_from a.shed.newer 0 (rejections h.batch.plan.config id fates events)) (Deliver n (place.Foreign number) events fates ∷ []) tt)
   does (m.Sends n id address events rest h none p same some may) on =
-      some_sent makes deeds i.batches i.senders is address p may (λ has. subst (IsNextFor (after makes start told) address) (sym same) (next_due n id address events rest h)) n h.batch h.has
+      some_sent makes earlier deeds i.batches i.senders is address p may (λ has. subst (IsNextFor (after makes start told) address) (sym same) (next_due n id address events rest h)) n h.batch h.has
       (λ away. none_some h.verdicts (sym away ∙ h.back)) none id rest (h.left_is ∙ ap (λ es. due.Events id (place.Address address) es ∷ rest) (sym same)) some
-  does (m.Hears address a s has turn waits) on = hears_legally makes deeds i.batches i.senders is address a s has turn waits
+  does (m.Hears address a s has turn waits) on = hears_legally makes earlier deeds i.batches i.senders is address a s has turn waits
   does (m.Is_heard n id address events rest h number sent was) on =
-      tells_it makes deeds i.batches i.senders is n h.batch h.has address events rest number (record { parcel = sent; id = id; events = events; rest = rest; next = h.left_is }) refl was.sender was.has was.heard
+      tells_it makes earlier deeds i.batches i.senders is n h.batch h.has address events rest number (record { parcel = sent; id = id; events = events; rest = rest; next = h.left_is }) refl was.sender was.has was.heard
       (legal_then (m.Is_heard n id address events rest h number sent was)).0
   does (m.Is_not_heard n id address events rest h number sent was) on =
       tells_so (m.Is_not_heard n id address events rest h number sent was) _
-      (one_waits makes deeds i.batches i.senders is (in_parcel None) (λ b. refl) n h.batch h.has (inl refl) (λ other k was_sent. inr (λ y at.
+      (one_waits makes earlier deeds i.batches i.senders is (in_parcel None) (λ b. refl) n h.batch h.has (inl refl) (λ other k was_sent. inr (λ y at.
       let here = same_place h.batch other address k number was_sent (record { parcel = sent; id = id; events = events; rest = rest; next = h.left_is }) in
       let one = same_Some y was.sender (sym at ∙ ap (λ d. sender_at d i.senders) here ∙ was.has) in (
         record { number = number; answer = NotListening },
@@ -745,22 +745,22 @@ module _ (makes : Makes) (listening : Listening) (bytes : Bytes) (places : Place
   does (m.Fails_to_deliver n left h f why printed out given took) on = absurd on
   does (m.Acknowledges_it n h queue a) on =
       tells_so (m.Acknowledges_it n h queue a) _
-      (none_left makes deeds i.batches i.senders is n h.batch h.has (no_parcel makes deeds i.batches i.senders is h.batch (its_place n h.batch h.has) [] h.left_is refl)) tt
+      (none_left makes earlier deeds i.batches i.senders is n h.batch h.has (no_parcel makes earlier deeds i.batches i.senders is h.batch (its_place n h.batch h.has) [] h.left_is refl)) tt
   does (m.Fails_to_assure n front h marks) on = absurd on
   does (m.Sends_last address p last may ends) on =
-      last_sent makes deeds i.batches i.senders is address p may (λ some. absurd (differs (sym last ∙ some))) last
-  does (m.Adopts c) on = with_ends makes deeds i.batches i.senders is c.new_senders c.unused (effect makes listening bytes i (m.Adopts c)).told (legal_then (m.Adopts c)) tt tt
-  does (m.Connects takers next_place new listen senders unused) on = with_ends makes deeds i.batches i.senders is senders unused [] tt tt tt
+      last_sent makes earlier deeds i.batches i.senders is address p may (λ some. absurd (differs (sym last ∙ some))) last
+  does (m.Adopts c) on = with_ends makes earlier deeds i.batches i.senders is c.new_senders c.unused (effect makes listening bytes i (m.Adopts c)).told (legal_then (m.Adopts c)) tt tt
+  does (m.Connects takers next_place new listen senders unused) on = with_ends makes earlier deeds i.batches i.senders is senders unused [] tt tt tt
   does (m.Only_fails x fails) on = absurd on
-  does x on = tells_so x i.batches (as_before makes deeds i.batches i.senders is) tt
+  does x on = tells_so x i.batches (as_before makes earlier deeds i.batches i.senders is) tt
 
 pub does_legally_still : (makes : Makes) (listening : Listening) (bytes : Bytes) (places : Places) → DoesLegallyStill makes listening bytes places
-does_legally_still makes listening bytes places deeds i x stands is on = does makes listening bytes places deeds i stands is x on
+does_legally_still makes listening bytes places earlier deeds i x stands is on = does makes listening bytes places earlier deeds i stands is x on
 
 pub opened_does_legally : (makes : Makes) (listening : Listening) (bytes : Bytes) (places : Places) → OpenedDoesLegally makes listening bytes places
-opened_does_legally makes listening bytes places deeds image sound i legal is = record {
+opened_does_legally makes listening bytes places told image sound i is = record {
   left = [];
-  legal = leaves_both makes start no_mail [] legal.0 [] deeds (tell_all (opening makes listening bytes places (told_of deeds) image sound i)) legal.1 (entries.0, ([], refl, (entries.1.0, ([], refl, refl))));
+  legal = record { since = tell_all (opening makes listening bytes places told image sound i); parts = refl; legal = (entries.0, ([], refl, (entries.1.0, ([], refl, refl)))) };
   mail = λ address s at. let clean = is.unused s (sender_in address s i.senders at) in record { sent = clean.0 ∙ ap (λ (m : Mail). sent_on address m.sent) (sym mail_is); heard = clean.1 ∙ ap (λ (m : Mail). heard_on address m.heard) (sym mail_is) };
   none = λ address none. (ap (λ (m : Mail). sent_on address m.sent) mail_is, ap (λ (m : Mail). heard_on address m.heard) mail_is);
   differ = subst (λ bs. AllDiffer (numbers_of bs)) (sym is.batches) tt;
@@ -773,12 +773,12 @@ opened_does_legally makes listening bytes places deeds image sound i legal is = 
   unused = λ b has. absurd (nowhere b has);
 }
   where
-    entries : Legal makes (after makes start (told_of deeds)) (opening makes listening bytes places (told_of deeds) image sound i)
-    entries = legal_rest makes start (told_of deeds) (opening makes listening bytes places (told_of deeds) image sound i)
-        (opened_line_stands makes listening bytes places (told_of deeds) image sound i is).holds.legal
+    entries : Legal makes (after makes start told) (opening makes listening bytes places told image sound i)
+    entries = legal_rest makes start told (opening makes listening bytes places told image sound i)
+        (opened_line_stands makes listening bytes places told image sound i is).holds.legal
 
-    mail_is : mail_after no_mail (deeds ++ tell_all (opening makes listening bytes places (told_of deeds) image sound i)) ≡ no_mail
-    mail_is = mail_both no_mail deeds (tell_all (opening makes listening bytes places (told_of deeds) image sound i))
+    mail_is : mail_after no_mail (tell_all told ++ tell_all (opening makes listening bytes places told image sound i)) ≡ no_mail
+    mail_is = mail_both no_mail (tell_all told) (tell_all (opening makes listening bytes places told image sound i))
 
     nowhere : (b : Batch) → IsIn b i.batches → ⊥
     nowhere b has = subst (IsIn b) is.batches has

@@ -11,6 +11,7 @@ use Rattle.pipeline_bus.specs.Parcels.{is_last}
 use Rattle.pipeline_bus.specs.declared.parcel.Parcel.{Parcel}
 use Rattle.history_book.specs.Contents.{Bytes}
 use Rattle.history_book.specs.Deeds.{Deed, told_of}
+use Rattle.history_book.specs.Entries.{Entry}
 use Rattle.history_book.specs.Links.{Listening, AreMadeOf}
 use Rattle.history_book.specs.Lists.{IsIn}
 use Rattle.history_book.specs.Sound.{Places}
@@ -47,8 +48,8 @@ made_short listening address [] es made = omega (arith)
 made_short listening address (w ∷ ws) [] made = absurd made
 made_short listening address (w ∷ ws) (e ∷ es) made = let rest = made_short listening address ws es made.1 in omega (arith, rest)
 
-module _ (makes : Makes) (listening : Listening) (bytes : Bytes) (places : Places) (deeds : List Deed) (came : ℕ → List Incoming) (i : LineView places)
-    (line : LineStands makes listening bytes places deeds came i) where
+module _ (makes : Makes) (listening : Listening) (bytes : Bytes) (places : Places) (earlier : List Entry) (deeds : List Deed) (came : ℕ → List Incoming) (i : LineView places)
+    (line : LineStands makes listening bytes places earlier deeds came i) where
   pub apart : AreViewsApart i.inputs
   apart = views_apart i.inputs (inputs_apart (after makes start (told_of deeds)).plans (views.inputs_of i.inputs) line.stands.knows.inputs).0
 
@@ -282,11 +283,11 @@ module _ (makes : Makes) (listening : Listening) (bytes : Bytes) (places : Place
         })
 
 pub none_is_rest : (makes : Makes) (listening : Listening) (bytes : Bytes) (places : Places) → NoneIsRest makes listening bytes places
-none_is_rest makes listening bytes places deeds came g showing i line no_loss none =
+none_is_rest makes listening bytes places earlier deeds came g showing i line no_loss none =
     let rest = shows_nothing (summary_of listening g none_refused showing i) none in
-    (nothing_to_do makes listening bytes places deeds came i line g showing no_loss rest, none_shows makes listening bytes places deeds came i line g showing no_loss rest)
+    (nothing_to_do makes listening bytes places earlier deeds came i line g showing no_loss rest, none_shows makes listening bytes places earlier deeds came i line g showing no_loss rest)
 
 pub none_is_done : (makes : Makes) (listening : Listening) (bytes : Bytes) (places : Places) → NoneIsDone makes listening bytes places
-none_is_done makes listening bytes places deeds came g showing i line no_loss none =
-    ⊎_elim (λ rest. inl (rest.running, rest_is_done makes listening bytes places deeds came i line rest))
-    (λ stop. inr (stop.told_to, stop_is_stopped makes listening bytes places deeds came i line stop)) (none_is_rest makes listening bytes places deeds came g showing i line no_loss none).0
+none_is_done makes listening bytes places earlier deeds came g showing i line no_loss none =
+    ⊎_elim (λ rest. inl (rest.running, rest_is_done makes listening bytes places earlier deeds came i line rest))
+    (λ stop. inr (stop.told_to, stop_is_stopped makes listening bytes places earlier deeds came i line stop)) (none_is_rest makes listening bytes places earlier deeds came g showing i line no_loss none).0

@@ -7,6 +7,7 @@ use Rattle.event_flow.specs.Meaning.{Makes, Due}
 use Rattle.pipeline_bus.specs.declared.parcel.Parcel.{Parcel}
 use Rattle.history_book.specs.Contents.{Bytes}
 use Rattle.history_book.specs.Deeds.{Deed}
+use Rattle.history_book.specs.Entries.{Entry}
 use Rattle.history_book.specs.Links.{Listening}
 use Rattle.history_book.specs.Lists.{IsIn}
 use Rattle.history_book.specs.Sound.{Places}
@@ -38,8 +39,8 @@ all_up_to : (front : ℕ) (ns : List ℕ) → ((n : ℕ) → IsIn n ns → n ≤
 all_up_to front [] each = tt
 all_up_to front (n ∷ ns) each = (each n (inl refl), all_up_to front ns (λ m i. each m (inr i)))
 
-module _ (makes : Makes) (listening : Listening) (bytes : Bytes) (places : Places) (deeds : List Deed) (came : ℕ → List Incoming) (i : LineView places)
-    (line : LineStands makes listening bytes places deeds came i) where
+module _ (makes : Makes) (listening : Listening) (bytes : Bytes) (places : Places) (earlier : List Entry) (deeds : List Deed) (came : ℕ → List Incoming) (i : LineView places)
+    (line : LineStands makes listening bytes places earlier deeds came i) where
   pub may_answer : (t : TakerView) → is_due_answer i.mark (Some t) ≡ true → IsIn t i.takers → MayAssure i.mark t ⊎ MayRefuse t
   may_answer t is has = ⊎_elim (λ (oldest : oldest_settled i.mark t.waits ≡ true). inl (assures t.waits refl oldest)) (λ closed. inr (refuses closed)) (either_true (oldest_settled i.mark t.waits) _ is)
     where
@@ -205,5 +206,5 @@ module _ (makes : Makes) (listening : Listening) (bytes : Bytes) (places : Place
   work_of g r showing act.Read (inr is) = some_unread (drains_on i) (not r.read) (has_few_out i) refl is
 
 pub choices_have_work : (makes : Makes) (listening : Listening) (bytes : Bytes) (places : Places) → ChoicesHaveWork makes listening bytes places
-choices_have_work makes listening bytes places deeds came g r showing i a line is =
-    work_of makes listening bytes places deeds came i line g r showing a (possible_of (summary_of listening g r showing i) a is)
+choices_have_work makes listening bytes places earlier deeds came g r showing i a line is =
+    work_of makes listening bytes places earlier deeds came i line g r showing a (possible_of (summary_of listening g r showing i) a is)

@@ -8,7 +8,7 @@ use Rattle.history_book.specs.Entries.{Entry}
 use Rattle.history_book.specs.Links.{Listening}
 use Rattle.history_book.specs.Sound.{Places}
 use Rattle.history_book.specs.States.{start, after}
-use Rattle.history_book.proofs.Mailing.{told_both}
+use Rattle.history_book.proofs.Mailing.{told_both, told_all}
 use Rattle.line_machine.specs.declared.calls.Call.{Call}
 use Rattle.line_machine.specs.Answering.{LinksStand}
 use Rattle.line_machine.specs.Answers.{IsPart, Parts, None_before, First}
@@ -34,10 +34,6 @@ use Rattle.line_machine.proofs.Serving.{ends_stand_still, opened_ends_stand}
 use Rattle.line_machine.proofs.Settling.{steps_settle, opened_settles}
 use Rattle.line_machine.proofs.Steps.{steps_follow}
 
-told_all : (told : List Entry) → told_of (tell_all told) ≡ told
-told_all [] = refl
-told_all (e ∷ told) = ap (λ l. e ∷ l) (told_all told)
-
 module _ (makes : Makes) (listening : Listening) (bytes : Bytes) (places : Places) where
   -- the entries of what a step does
   step_told : (i : LineView places) (x : Step makes listening bytes i) → told_of (deeds_of makes listening bytes places i x) ≡ (effect makes listening bytes i x).told
@@ -47,7 +43,7 @@ module _ (makes : Makes) (listening : Listening) (bytes : Bytes) (places : Place
   step_told i x = told_all (effect makes listening bytes i x).told
 
   pub stands_whole_still : StandsWholeStill makes listening bytes places
-  stands_whole_still deeds came i x is on =
+  stands_whole_still earlier deeds came i x is on =
       let told = told_of deeds in
       let e = effect makes listening bytes i x in
       let now : told ++ e.told ≡ told_of (deeds ++ deeds_of makes listening bytes places i x) =
@@ -58,7 +54,7 @@ module _ (makes : Makes) (listening : Listening) (bytes : Bytes) (places : Place
         links = subst (λ l. LinksStand makes listening l e.line.takers e.line.next_place) now (answers_all_stand makes listening bytes places told i x is.stands is.links on);
         ends = ends_stand_still makes listening bytes places told i x is.stands is.ends;
         inputs = subst (λ l. InputsStand listening l (and_came came e.came) e.line) now (inputs_stand_still makes listening bytes places told came i x is.stands is.inputs on);
-        senders = does_legally_still makes listening bytes places deeds i x is.stands is.senders on;
+        senders = does_legally_still makes listening bytes places earlier deeds i x is.stands is.senders on;
         rows = subst (λ l. RowsAreCovered l e.line) now (rows_are_covered_still makes listening bytes places told i x is.rows on);
         marks = marks_cover_still makes listening bytes places i x is.marks on;
         kits = kits_are_theirs makes listening bytes places i x is.kits;
@@ -66,17 +62,17 @@ module _ (makes : Makes) (listening : Listening) (bytes : Bytes) (places : Place
       }
 
   pub opened_stands_whole : OpenedStandsWhole makes listening bytes places
-  opened_stands_whole deeds image sound i legal is =
-      let told = told_of deeds in
+  opened_stands_whole told image sound i is =
       let more = opening makes listening bytes places told image sound i in
-      let now : told ++ more ≡ told_of (deeds ++ tell_all more) = ap (λ l. told ++ l) (sym (told_all more)) ∙ sym (told_both deeds (tell_all more)) in
+      let now : told ++ more ≡ told_of (tell_all told ++ tell_all more) =
+      ap (λ l. told ++ l) (sym (told_all more)) ∙ ap (λ l. l ++ told_of (tell_all more)) (sym (told_all told)) ∙ sym (told_both (tell_all told) (tell_all more)) in
       record {
         stands = subst (λ l. Stands makes bytes places l i) now (opened_line_stands makes listening bytes places told image sound i is);
         settles = subst (λ l. Settles (after makes start l) i) now (opened_settles makes listening bytes places told image sound i is);
         links = subst (λ l. LinksStand makes listening l i.takers i.next_place) now (opened_links makes listening bytes places told image sound i is);
         ends = opened_ends_stand makes listening bytes places told image sound i is;
         inputs = subst (λ l. InputsStand listening l (λ n. []) i) now (opened_inputs_stand makes listening bytes places told image sound i is);
-        senders = opened_does_legally makes listening bytes places deeds image sound i legal is;
+        senders = opened_does_legally makes listening bytes places told image sound i is;
         rows = subst (λ l. RowsAreCovered l i) now (opened_rows_are_covered makes listening bytes places told image sound i is);
         marks = opened_marks_cover makes listening bytes places told image sound i is;
         kits = opened_kits makes listening bytes places told image sound i is;
@@ -100,21 +96,21 @@ module _ (makes : Makes) (listening : Listening) (bytes : Bytes) (places : Place
   part_came x i (m.Sends_last address p last may ends) part = refl
   part_came x i s part = absurd part
 
-  parts_stand_whole : (x : Call) (i j : LineView places) (parts : Parts makes listening bytes x i j) (deeds : List Deed) (came : ℕ → List Incoming) → LineStands makes listening bytes places deeds came i
-      → LineStands makes listening bytes places (deeds ++ deeds_of_parts makes listening bytes places x i j parts) came j
-  parts_stand_whole x i j (None_before _) deeds came is = subst (λ l. LineStands makes listening bytes places l came i) (sym (append-nil deeds)) is
-  parts_stand_whole x i j (First _ _ s part parts) deeds came is =
+  parts_stand_whole : (x : Call) (i j : LineView places) (parts : Parts makes listening bytes x i j) (earlier : List Entry) (deeds : List Deed) (came : ℕ → List Incoming) → LineStands makes listening bytes places earlier deeds came i
+      → LineStands makes listening bytes places earlier (deeds ++ deeds_of_parts makes listening bytes places x i j parts) came j
+  parts_stand_whole x i j (None_before _) earlier deeds came is = subst (λ l. LineStands makes listening bytes places earlier l came i) (sym (append-nil deeds)) is
+  parts_stand_whole x i j (First _ _ s part parts) earlier deeds came is =
       let done = deeds_of makes listening bytes places i s in
       let now = (effect makes listening bytes i s).line in
       let none : and_came came (effect makes listening bytes i s).came ≡ came = same_came (λ n. ap (λ l. came n ++ came_in n l) (part_came x i s part) ∙ append-nil (came n)) in
-      let behind = subst (λ c. LineStands makes listening bytes places (deeds ++ done) c now) none (stands_whole_still deeds came i s is (part_goes_on x i s part)) in
-      subst (λ l. LineStands makes listening bytes places l came j) (append_assoc deeds done (deeds_of_parts makes listening bytes places x now j parts)) (parts_stand_whole x now j parts (deeds ++ done) came behind)
+      let behind = subst (λ c. LineStands makes listening bytes places earlier (deeds ++ done) c now) none (stands_whole_still earlier deeds came i s is (part_goes_on x i s part)) in
+      subst (λ l. LineStands makes listening bytes places earlier l came j) (append_assoc deeds done (deeds_of_parts makes listening bytes places x now j parts)) (parts_stand_whole x now j parts earlier (deeds ++ done) came behind)
 
   pub calls_stand_whole : CallsStandWhole makes listening bytes places
-  calls_stand_whole deeds came i x e is did on =
+  calls_stand_whole earlier deeds came i x e is did on =
       let before = deeds_of_parts makes listening bytes places x i did.line did.before in
       let last = deeds_of makes listening bytes places did.line did.step in
       let made = effect makes listening bytes did.line did.step in
-      let behind = stands_whole_still (deeds ++ before) came did.line did.step (parts_stand_whole x i did.line did.before deeds came is) on in
-      subst (λ (y : Effect places). LineStands makes listening bytes places (deeds ++ (before ++ last)) (and_came came y.came) y.line) (sym did.effect_is)
-      (subst (λ l. LineStands makes listening bytes places l (and_came came made.came) made.line) (append_assoc deeds before last) behind)
+      let behind = stands_whole_still earlier (deeds ++ before) came did.line did.step (parts_stand_whole x i did.line did.before earlier deeds came is) on in
+      subst (λ (y : Effect places). LineStands makes listening bytes places earlier (deeds ++ (before ++ last)) (and_came came y.came) y.line) (sym did.effect_is)
+      (subst (λ l. LineStands makes listening bytes places earlier l (and_came came made.came) made.line) (append_assoc deeds before last) behind)

@@ -226,10 +226,6 @@ assured_in address number (q ∷ ps) p has some is = by_test (is_last q) (q.numb
 
 -- ---- mail
 
-pub mail_both : (m : Mail) (xs ys : List Deed) → mail_after m (xs ++ ys) ≡ mail_after (mail_after m xs) ys
-mail_both m [] ys = refl
-mail_both m (x ∷ xs) ys = mail_both (mail_next m x) xs ys
-
 pub mail_told_all : (m : Mail) (told : List Entry) → NoOpening told → mail_after m (tell_all told) ≡ m
 mail_told_all m [] none = refl
 mail_told_all m (Opened rows limit policy ∷ told) none = absurd none

@@ -300,8 +300,8 @@ module _ (makes : Makes) (listening : Listening) (bytes : Bytes) (places : Place
       ((are.each v has opens lines).known r known)
 
   -- and parcels have their answers where none waits, and no batch waits for one
-  sent_answered : (deeds : List Deed) → DoesLegally makes deeds i.batches i.senders → i.batches ≡ [] → SentAreAnswered i
-  sent_answered deeds are none address s at p sent some =
+  sent_answered : (earlier : List Entry) (deeds : List Deed) → DoesLegally makes earlier deeds i.batches i.senders → i.batches ≡ [] → SentAreAnswered i
+  sent_answered earlier deeds are none address s at p sent some =
       ⊎_elim (λ (a : (a : Answer) × IsIn a s.sends.heard × (a.number ≡ p.number)). a)
       (λ (b : (b : Batch) × IsIn b i.batches × IsSent b address p.number). absurd (nowhere b.0 i.batches none b.1)) (are.heard address s at p sent some)
 
@@ -309,22 +309,22 @@ module _ (makes : Makes) (listening : Listening) (bytes : Bytes) (places : Place
   taken_answered links ended t has served p taken some = by_account t (ended.answered t has served).0 p ((links.each t has).accounted p taken some)
 
 pub rest_is_done : (makes : Makes) (listening : Listening) (bytes : Bytes) (places : Places) → RestIsDone makes listening bytes places
-rest_is_done makes listening bytes places deeds came i line rest = record {
+rest_is_done makes listening bytes places earlier deeds came i line rest = record {
   rows = all_acked makes listening bytes places (told_of deeds) i line.stands rest.ended.batches rest.ended.unread;
   out = none_out i.batches (after makes start (told_of deeds)).out line.stands.knows.batches rest.ended.batches;
   found = none_found makes listening bytes places (told_of deeds) i line.stands line.settles rest.covered rest.ended.batches rest.ended.unread;
   inputs = rest.ended.inputs;
   assured = all_assured makes listening bytes places (told_of deeds) i line.stands came line.inputs rest.assured;
   taken = taken_answered makes listening bytes places (told_of deeds) i line.stands line.links rest.ended;
-  sent = sent_answered makes listening bytes places (told_of deeds) i line.stands deeds line.senders rest.ended.batches;
+  sent = sent_answered makes listening bytes places (told_of deeds) i line.stands earlier deeds line.senders rest.ended.batches;
 }
 
 pub stop_is_stopped : (makes : Makes) (listening : Listening) (bytes : Bytes) (places : Places) → StopIsStopped makes listening bytes places
-stop_is_stopped makes listening bytes places deeds came i line stop = record {
+stop_is_stopped makes listening bytes places earlier deeds came i line stop = record {
   marked = λ n has. let covered = (line.rows n has).1 stop.covered in let front = line.stands.knows.mark covered.0 covered.1 in let most = covered.2 in omega (arith, front, most);
   assured = all_assured makes listening bytes places (told_of deeds) i line.stands came line.inputs stop.assured;
   rows = λ drains. let ended = stop.drained drains in all_acked makes listening bytes places (told_of deeds) i line.stands ended.batches ended.unread;
   recorded = λ drains. let ended = stop.drained drains in none_found makes listening bytes places (told_of deeds) i line.stands line.settles stop.covered ended.batches ended.unread;
   taken = λ drains. taken_answered makes listening bytes places (told_of deeds) i line.stands line.links (stop.drained drains);
-  sent = λ drains. sent_answered makes listening bytes places (told_of deeds) i line.stands deeds line.senders (stop.drained drains).batches;
+  sent = λ drains. sent_answered makes listening bytes places (told_of deeds) i line.stands earlier deeds line.senders (stop.drained drains).batches;
 }

@@ -6,6 +6,7 @@ use Rattle.std.proofs.lemmas.Option.{same_Some}
 use Rattle.event_flow.specs.Meaning.{Makes}
 use Rattle.history_book.specs.Contents.{Bytes}
 use Rattle.history_book.specs.Deeds.{Deed}
+use Rattle.history_book.specs.Entries.{Entry}
 use Rattle.history_book.specs.Links.{Listening}
 use Rattle.history_book.specs.Lists.{IsIn}
 use Rattle.history_book.specs.Sound.{Places}
@@ -176,13 +177,13 @@ module _ (listening : Listening) {places : Places} where
         by_address (Some address) = refl
         by_address None = second_not v.is_open _ (ap (list_any (λ (r : RowAt). is_up_to i.mark r.number)) (none.rows v (found_view n v i.inputs e).0))
 
-module _ (makes : Makes) (listening : Listening) (bytes : Bytes) (places : Places) (deeds : List Deed) (came : ℕ → List Incoming) (i : LineView places)
-    (line : LineStands makes listening bytes places deeds came i) (none : HasNone listening i) where
+module _ (makes : Makes) (listening : Listening) (bytes : Bytes) (places : Places) (earlier : List Entry) (deeds : List Deed) (came : ℕ → List Incoming) (i : LineView places)
+    (line : LineStands makes listening bytes places earlier deeds came i) (none : HasNone listening i) where
   -- none shows at an end of an open input
   shows_none : (showing : List ℕ) → NoneShows showing i → (v : InputView) → IsIn v i.inputs → v.is_open ≡ true → ShowsParcel showing i v → ⊥
   shows_none showing none_shows v has opens s =
       let e = line.ends s.taker s.has in
-      let views = apart makes listening bytes places deeds came i line in
+      let views = apart makes listening bytes places earlier deeds came i line in
       let one = same_Some v e.input (sym (view_found v i.inputs views has) ∙ ap (λ n. input_at n i.inputs) (sym (e.number_is ∙ s.input_is)) ∙ view_found e.input i.inputs views e.has) in
       none_shows s.taker s.has (e.listens ∙ ap (λ (x : InputView). x.is_open) (sym one) ∙ opens) s.served s.shows
 
@@ -220,8 +221,8 @@ module _ (makes : Makes) (listening : Listening) (bytes : Bytes) (places : Place
           let due = (both_of (is_due_answer i.mark (taker_at n i.takers)) _ both.1).0 in
           let end = end_of i n due in
           none.answers n end.0 end.1 (served_of (ends_served i) n both.0)
-          (may_answer makes listening bytes places deeds came i line end.0 (sym (ap (is_due_answer i.mark) end.1) ∙ due) (taker_in n end.0 i.takers end.1).0)
+          (may_answer makes listening bytes places earlier deeds came i line end.0 (sym (ap (is_due_answer i.mark) end.1) ∙ due) (taker_in n end.0 i.takers end.1).0)
 
 pub rest_has_none : (makes : Makes) (listening : Listening) (bytes : Bytes) (places : Places) → RestHasNone makes listening bytes places
-rest_has_none makes listening bytes places deeds came g r showing i line goes writes acknowledged none_shows nothing =
-    nothing_shown (summary_of listening g r showing i) (nothing_due makes listening bytes places deeds came i line (has_none listening i goes nothing) g r showing writes acknowledged none_shows)
+rest_has_none makes listening bytes places earlier deeds came g r showing i line goes writes acknowledged none_shows nothing =
+    nothing_shown (summary_of listening g r showing i) (nothing_due makes listening bytes places earlier deeds came i line (has_none listening i goes nothing) g r showing writes acknowledged none_shows)

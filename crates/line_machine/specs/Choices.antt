@@ -5,6 +5,7 @@ use Rattle.queue_files.specs.Kept.{Page}
 use Rattle.queue_files.specs.Steps.{IsSpent}
 use Rattle.history_book.specs.Contents.{Bytes}
 use Rattle.history_book.specs.Deeds.{Deed, told_of}
+use Rattle.history_book.specs.Entries.{Entry}
 use Rattle.history_book.specs.Links.{Listening}
 use Rattle.history_book.specs.Lists.{IsIn}
 use Rattle.history_book.specs.Sound.{Places}
@@ -112,26 +113,26 @@ module _ (makes : Makes) (listening : Listening) (bytes : Bytes) (places : Place
   -- A step is chosen only where there is something to do for it.
   abbrev pub ChoicesHaveWork : Type 0
   ChoicesHaveWork =
-      (deeds : List Deed) (came : ℕ → List Incoming) (g : Given) (r : Refused) (showing : List ℕ) (i : LineView places) (a : Act) → LineStands makes listening bytes places deeds came i
+      (earlier : List Entry) (deeds : List Deed) (came : ℕ → List Incoming) (g : Given) (r : Refused) (showing : List ℕ) (i : LineView places) (a : Act) → LineStands makes listening bytes places earlier deeds came i
       → choice listening g r showing i ≡ Some a → HasWork listening showing i a
 
   -- Where nothing was refused and nothing is chosen, the line has nothing to do, and no parcel shows, unless a result was lost.
   abbrev pub NoneIsRest : Type 0
   NoneIsRest =
-      (deeds : List Deed) (came : ℕ → List Incoming) (g : Given) (showing : List ℕ) (i : LineView places) → LineStands makes listening bytes places deeds came i → NoneLost i
+      (earlier : List Entry) (deeds : List Deed) (came : ℕ → List Incoming) (g : Given) (showing : List ℕ) (i : LineView places) → LineStands makes listening bytes places earlier deeds came i → NoneLost i
       → choice listening g none_refused showing i ≡ None → HasNothingToDo listening i × NoneShows showing i
 
   -- So it is done, or stopped.
   abbrev pub NoneIsDone : Type 0
   NoneIsDone =
-      (deeds : List Deed) (came : ℕ → List Incoming) (g : Given) (showing : List ℕ) (i : LineView places) → LineStands makes listening bytes places deeds came i → NoneLost i
+      (earlier : List Entry) (deeds : List Deed) (came : ℕ → List Incoming) (g : Given) (showing : List ℕ) (i : LineView places) → LineStands makes listening bytes places earlier deeds came i → NoneLost i
       → choice listening g none_refused showing i ≡ None
       → ((i.stopped ≡ false) × IsDone makes listening bytes places (told_of deeds) i) ⊎ ((i.stopped ≡ true) × IsStopped makes listening bytes places (told_of deeds) i)
 
   -- Where it has nothing to do, and no parcel shows, nothing is chosen, whatever was refused.
   abbrev pub RestHasNone : Type 0
   RestHasNone =
-      (deeds : List Deed) (came : ℕ → List Incoming) (g : Given) (r : Refused) (showing : List ℕ) (i : LineView places) → LineStands makes listening bytes places deeds came i → GoesOnDraining i
+      (earlier : List Entry) (deeds : List Deed) (came : ℕ → List Incoming) (g : Given) (r : Refused) (showing : List ℕ) (i : LineView places) → LineStands makes listening bytes places earlier deeds came i → GoesOnDraining i
       → 0 < i.due_writes → 0 < i.due_acknowledged → NoneShows showing i → HasNothingToDo listening i → choice listening g r showing i ≡ None
 
 -- ---- turns

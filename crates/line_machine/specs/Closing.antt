@@ -61,7 +61,7 @@ module _ (makes : Makes) (listening : Listening) (bytes : Bytes) (places : Place
 
   -- a line that is at rest, or was told to stop and has come to an end, has no kit out: then each was closed once
   abbrev pub NoneIsOut : Type 0
-  NoneIsOut = (deeds : List Deed) (came : ℕ → List Incoming) (i : LineView places) → LineStands makes listening bytes places deeds came i → HasNothingToDo listening i → kits_out i.batches ≡ []
+  NoneIsOut = (earlier : List Entry) (deeds : List Deed) (came : ℕ → List Incoming) (i : LineView places) → LineStands makes listening bytes places earlier deeds came i → HasNothingToDo listening i → kits_out i.batches ≡ []
 
   -- a step that the line doesn't go on from closes none, and leaves the line as it was: its end closes all that it had
   abbrev pub FaultsCloseNone : Type 0

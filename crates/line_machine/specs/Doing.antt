@@ -11,7 +11,8 @@ use Rattle.pipeline_bus.specs.declared.parcel.Parcel.{Parcel}
 use Rattle.event_flow.specs.Meaning.{Makes, Due}
 use Rattle.event_flow.specs.Meaning as due
 use Rattle.history_book.specs.Contents.{Bytes}
-use Rattle.history_book.specs.Deeds.{Deed, Send, Hear, told_of, tell_all, no_mail, mail_after, sent_on, heard_on, Assurance, Leaves, LegalDeeds}
+use Rattle.history_book.specs.Deeds.{Deed, Send, Hear, told_of, tell_all, no_mail, mail_after, sent_on, heard_on, Assurance, DidLegally}
+use Rattle.history_book.specs.Entries.{Entry}
 use Rattle.history_book.specs.Links.{Listening}
 use Rattle.history_book.specs.Lists.{IsIn}
 use Rattle.history_book.specs.Sound.{Places, LineSound}
@@ -62,12 +63,12 @@ pub record IsMail (deeds : List Deed) (address : List ℕ) (s : Sending) : Type 
   pub heard : s.heard ≡ heard_on address (mail_after no_mail deeds).heard
 
 module _ (makes : Makes) where
-  -- These deeds are legal: each delivery to an address was told once an answer was heard, since the line was opened, that says that a parcel of exactly these events is
+  -- These deeds are legal behind what was told in earlier runs: each delivery to an address was told once an answer was heard, since the line was opened, that says that a parcel of exactly these events is
   -- assured, and each such answer served one. What went through the ends by which the line sends is what the deeds say. No two batches wait for one parcel, and an
   -- answer for which a batch waits, and that was heard, served none yet.
-  pub record DoesLegally (deeds : List Deed) (batches : List Batch) (senders : List SenderView) : Type 0 where
+  pub record DoesLegally (earlier : List Entry) (deeds : List Deed) (batches : List Batch) (senders : List SenderView) : Type 0 where
     pub left : List Assurance
-    pub legal : Leaves makes start no_mail [] deeds left
+    pub legal : DidLegally makes earlier deeds left
     pub mail : (address : List ℕ) (s : SenderView) → sender_at address senders ≡ Some s → IsMail deeds address s.sends
     pub none : (address : List ℕ) → sender_at address senders ≡ None → (sent_on address (mail_after no_mail deeds).sent ≡ []) × (heard_on address (mail_after no_mail deeds).heard ≡ [])
     pub differ : AllDiffer (map (λ (b : Batch). b.number) batches)
@@ -88,15 +89,14 @@ module _ (makes : Makes) (listening : Listening) (bytes : Bytes) (places : Place
   deeds_of i (m.Sends_last address p last may is) = Send address p ∷ []
   deeds_of i x = tell_all (effect makes listening bytes i x).told
 
-  -- So it is once a line was opened, behind legal deeds, and behind each step.
+  -- So it is once a line was opened, behind whatever was told before, and behind each step.
   abbrev pub OpenedDoesLegally : Type 0
   OpenedDoesLegally =
-      (deeds : List Deed) (image : Image) (sound : LineSound makes bytes places (told_of deeds) image) (i : LineView places) → LegalDeeds makes deeds
-      → IsOpenedLine makes listening bytes places (told_of deeds) image sound i
-      → DoesLegally makes (deeds ++ tell_all (opening makes listening bytes places (told_of deeds) image sound i)) i.batches i.senders
+      (told : List Entry) (image : Image) (sound : LineSound makes bytes places told image) (i : LineView places) → IsOpenedLine makes listening bytes places told image sound i
+      → DoesLegally makes told (tell_all told ++ tell_all (opening makes listening bytes places told image sound i)) i.batches i.senders
 
   abbrev pub DoesLegallyStill : Type 0
   DoesLegallyStill =
-      (deeds : List Deed) (i : LineView places) (x : Step makes listening bytes i) → Stands makes bytes places (told_of deeds) i → DoesLegally makes deeds i.batches i.senders
+      (earlier : List Entry) (deeds : List Deed) (i : LineView places) (x : Step makes listening bytes i) → Stands makes bytes places (told_of deeds) i → DoesLegally makes earlier deeds i.batches i.senders
       → GoesOn makes listening bytes i x
-      → DoesLegally makes (deeds ++ deeds_of i x) (effect makes listening bytes i x).line.batches (effect makes listening bytes i x).line.senders
+      → DoesLegally makes earlier (deeds ++ deeds_of i x) (effect makes listening bytes i x).line.batches (effect makes listening bytes i x).line.senders

@@ -3,7 +3,8 @@ use Rattle.std.specs.Prelude.{List, [], ◌++◌, ℕ}
 use Rattle.io_traits.specs.Images.{Image}
 use Rattle.event_flow.specs.Meaning.{Makes}
 use Rattle.history_book.specs.Contents.{Bytes}
-use Rattle.history_book.specs.Deeds.{Deed, told_of, tell_all, LegalDeeds}
+use Rattle.history_book.specs.Deeds.{Deed, told_of, tell_all}
+use Rattle.history_book.specs.Entries.{Entry}
 use Rattle.history_book.specs.Links.{Listening}
 use Rattle.history_book.specs.Sound.{Places, LineSound}
 use Rattle.history_book.specs.States.{start, after}
@@ -24,30 +25,29 @@ use Rattle.line_machine.specs.Steps.{Step, effect, GoesOn}
 use Rattle.line_machine.specs.Views.{Incoming, LineView}
 
 module _ (makes : Makes) (listening : Listening) (bytes : Bytes) (places : Places) where
-  -- what a line did, and what came to its inputs since it was opened, beside all that it keeps of it
-  pub record LineStands (deeds : List Deed) (came : ℕ → List Incoming) (i : LineView places) : Type 0 where
+  -- what a line did behind what was told in earlier runs, and what came to its inputs since it was opened, beside all that it keeps of it
+  pub record LineStands (earlier : List Entry) (deeds : List Deed) (came : ℕ → List Incoming) (i : LineView places) : Type 0 where
     pub stands : Stands makes bytes places (told_of deeds) i
     pub settles : Settles (after makes start (told_of deeds)) i
     pub links : LinksStand makes listening (told_of deeds) i.takers i.next_place
     pub ends : EndsStand listening i.inputs i.takers
     pub inputs : InputsStand listening (told_of deeds) came i
-    pub senders : DoesLegally makes deeds i.batches i.senders
+    pub senders : DoesLegally makes earlier deeds i.batches i.senders
     pub rows : RowsAreCovered (told_of deeds) i
     pub marks : MarksCover i
     pub kits : AreOfTheirs i
     pub boxes : BoxesStand i
 
-  -- So it is once a line was opened, behind legal deeds, and behind each step.
+  -- So it is once a line was opened, behind whatever was told before in earlier runs, and behind each step.
   abbrev pub OpenedStandsWhole : Type 0
   OpenedStandsWhole =
-      (deeds : List Deed) (image : Image) (sound : LineSound makes bytes places (told_of deeds) image) (i : LineView places) → LegalDeeds makes deeds
-      → IsOpenedLine makes listening bytes places (told_of deeds) image sound i
-      → LineStands (deeds ++ tell_all (opening makes listening bytes places (told_of deeds) image sound i)) (λ n. []) i
+      (told : List Entry) (image : Image) (sound : LineSound makes bytes places told image) (i : LineView places) → IsOpenedLine makes listening bytes places told image sound i
+      → LineStands told (tell_all told ++ tell_all (opening makes listening bytes places told image sound i)) (λ n. []) i
 
   abbrev pub StandsWholeStill : Type 0
   StandsWholeStill =
-      (deeds : List Deed) (came : ℕ → List Incoming) (i : LineView places) (x : Step makes listening bytes i) → LineStands deeds came i → GoesOn makes listening bytes i x
-      → LineStands (deeds ++ deeds_of makes listening bytes places i x) (and_came came (effect makes listening bytes i x).came) (effect makes listening bytes i x).line
+      (earlier : List Entry) (deeds : List Deed) (came : ℕ → List Incoming) (i : LineView places) (x : Step makes listening bytes i) → LineStands earlier deeds came i → GoesOn makes listening bytes i x
+      → LineStands earlier (deeds ++ deeds_of makes listening bytes places i x) (and_came came (effect makes listening bytes i x).came) (effect makes listening bytes i x).line
 
   -- what a call does: its steps before the last one, and that
   abbrev pub deeds_of_parts : (x : Call) (i j : LineView places) → Parts makes listening bytes x i j → List Deed
@@ -60,5 +60,5 @@ module _ (makes : Makes) (listening : Listening) (bytes : Bytes) (places : Place
   -- So it is behind each call, by its answer.
   abbrev pub CallsStandWhole : Type 0
   CallsStandWhole =
-      (deeds : List Deed) (came : ℕ → List Incoming) (i : LineView places) (x : Call) (e : Effect places) → LineStands deeds came i → (did : Did makes listening bytes x i e)
-      → GoesOn makes listening bytes did.line did.step → LineStands (deeds ++ deeds_of_call x i e did) (and_came came e.came) e.line
+      (earlier : List Entry) (deeds : List Deed) (came : ℕ → List Incoming) (i : LineView places) (x : Call) (e : Effect places) → LineStands earlier deeds came i → (did : Did makes listening bytes x i e)
+      → GoesOn makes listening bytes did.line did.step → LineStands earlier (deeds ++ deeds_of_call x i e did) (and_came came e.came) e.line

@@ -75,7 +75,7 @@ module _ (makes : Makes) (listening : Listening) (bytes : Bytes) (places : Place
 
   -- A line that was told to stop and has come to an end is stopped.
   abbrev pub StopIsStopped : Type 0
-  StopIsStopped = (deeds : List Deed) (came : ℕ → List Incoming) (i : LineView places) → LineStands makes listening bytes places deeds came i → IsAtStop listening i → IsStopped (told_of deeds) i
+  StopIsStopped = (earlier : List Entry) (deeds : List Deed) (came : ℕ → List Incoming) (i : LineView places) → LineStands makes listening bytes places earlier deeds came i → IsAtStop listening i → IsStopped (told_of deeds) i
 
   -- Every row is acknowledged, no batch is out, and nothing is found in the queue in whatever a stop leaves; each input is at its end, and each row that an open one
   -- accepted, which listens on no address, was acknowledged to it; and each parcel with events that was taken or sent has its answer.
@@ -90,4 +90,4 @@ module _ (makes : Makes) (listening : Listening) (bytes : Bytes) (places : Place
 
   -- A line that is at rest is done.
   abbrev pub RestIsDone : Type 0
-  RestIsDone = (deeds : List Deed) (came : ℕ → List Incoming) (i : LineView places) → LineStands makes listening bytes places deeds came i → IsAtRest listening i → IsDone (told_of deeds) i
+  RestIsDone = (earlier : List Entry) (deeds : List Deed) (came : ℕ → List Incoming) (i : LineView places) → LineStands makes listening bytes places earlier deeds came i → IsAtRest listening i → IsDone (told_of deeds) i
