@@ -2,7 +2,6 @@
 use Rattle.std.proofs.Common.{◌≡◌, ◌⊎◌, inl, inr, List, [], ◌∷◌, ◌++◌, refl, sym, ap, ◌∙◌, subst, append-nil}
 use Rattle.io_traits.specs.Images.{Image}
 use Rattle.event_flow.specs.Meaning.{Makes}
-use Rattle.queue_files.specs.Kept.{Queue}
 use Rattle.history_book.specs.Contents.{Bytes, FileAfter, DeadAfter, FileHolds, DeadHolds}
 use Rattle.history_book.specs.Entries.{Entry}
 use Rattle.history_book.specs.Holdings.{Holdings, HoldsTold, Follows}

@@ -1,25 +1,18 @@
 -- The end of a line closes each kit at home and each box, so that each was closed once.
-use Rattle.std.proofs.Common.{◌≡◌, ◌⊎◌, inl, inr, ℕ, ◌+◌, true, false, List, [], ◌∷◌, ◌++◌, Option, Some, None, refl, sym, ap, ◌∙◌, subst, arith}
+use Rattle.std.proofs.Common.{◌≡◌, inl, inr, ℕ, ◌+◌, true, List, [], ◌∷◌, ◌++◌, Option, Some, None, refl, sym, ap, ◌∙◌, subst, arith}
 use Rattle.std.specs.Prelude.{⊤}
 use Rattle.event_flow.specs.Meaning.{Makes}
 use Rattle.history_book.specs.Contents.{Bytes}
-use Rattle.history_book.specs.Deeds.{Deed}
-use Rattle.history_book.specs.Entries.{Entry}
 use Rattle.history_book.specs.Links.{Listening}
 use Rattle.history_book.specs.Lists.{IsIn}
 use Rattle.history_book.specs.Sound.{Places}
-use Rattle.history_book.specs.States.{start, after}
 use Rattle.line_machine.specs.Boxes.{new_boxes}
-use Rattle.line_machine.specs.Closing.{closing, Closes, Lived, Begins_so, Makes_step, kits_closed, boxes_closed, kits_came, boxes_came, EndsCloseOnce, NoneIsOut, FaultsCloseNone, EndsFollow}
-use Rattle.line_machine.specs.Effects.{Effect}
-use Rattle.line_machine.specs.Finds.{IsAway}
+use Rattle.line_machine.specs.Closing.{closing, Lived, Begins_so, Makes_step, kits_closed, boxes_closed, kits_came, boxes_came, EndsCloseOnce, NoneIsOut, FaultsCloseNone, EndsFollow}
 use Rattle.line_machine.specs.Kits.{weigh, kit_out, kits_out, kits_of, new_kits}
 use Rattle.line_machine.specs.Laws.{FollowsAs}
-use Rattle.line_machine.specs.Lines.{LineStands}
-use Rattle.line_machine.specs.Stands.{Knows, Stands}
 use Rattle.line_machine.specs.Steps as m
 use Rattle.line_machine.specs.Steps.{Step, effect, GoesOn}
-use Rattle.line_machine.specs.Views.{Kit, Box, Batch, Incoming, LineView}
+use Rattle.line_machine.specs.Views.{Kit, Box, Batch, LineView}
 use Rattle.line_machine.proofs.Arrives.{arrives_quietly}
 use Rattle.line_machine.proofs.BatchLists.{batch_found}
 use Rattle.line_machine.proofs.Boxes.{boxes_stay}

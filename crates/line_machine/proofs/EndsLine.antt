@@ -1,8 +1,6 @@
 -- Whether a line takes further calls is told by the answer.
-use Rattle.std.proofs.Common.{◌≡◌, ◌⊎◌, inl, inr, ℕ, Bool, true, false, List, [], ◌∷◌, ◌++◌, Option, Some, None, Result, Ok, Err, refl, sym, ap, ◌∙◌}
+use Rattle.std.proofs.Common.{◌≡◌, inl, inr, ℕ, Bool, true, false, List, [], ◌∷◌, ◌++◌, Option, None, Result, Ok, Err, refl, sym, ap, ◌∙◌}
 use Rattle.std.specs.Prelude.{◌↔◌}
-use Rattle.event_tree.specs.Events.{Ev}
-use Rattle.foreign_parts.specs.declared.place.Place.{Place}
 use Rattle.foreign_parts.specs.declared.place.Place.TheVariants as place
 use Rattle.event_flow.specs.Meaning.{Makes, Due}
 use Rattle.event_flow.specs.Meaning as due
@@ -18,7 +16,7 @@ use Rattle.line_machine.specs.declared.calls.Delivered.TheVariants as delivered
 use Rattle.line_machine.specs.declared.calls.LineFault.{LineFault}
 use Rattle.line_machine.specs.declared.calls.LineFault.TheVariants as fault
 use Rattle.line_machine.specs.declared.calls.ReadOut.TheVariants as read
-use Rattle.line_machine.specs.Answers.{TakesAnswer, IsCall}
+use Rattle.line_machine.specs.Answers.{TakesAnswer}
 use Rattle.line_machine.specs.Ends.{TakerView}
 use Rattle.line_machine.specs.EndsLine.{ends_line, AnswersTellEnds}
 use Rattle.line_machine.specs.Finds.{WritesNone, AreHeldBack, FailsSo}

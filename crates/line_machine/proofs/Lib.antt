@@ -11,6 +11,7 @@ pub mod Accounted
 pub mod Arrives
 pub mod Telling
 pub mod Deliveries
+pub mod Ways
 pub mod Steps
 pub mod EndsLine
 pub mod Openings

@@ -8,20 +8,17 @@ use Rattle.foreign_parts.specs.declared.place.Place.{Place}
 use Rattle.foreign_parts.specs.declared.place.Place.TheVariants as place
 use Rattle.event_flow.specs.Meaning.{Makes, Due}
 use Rattle.event_flow.specs.Meaning as due
-use Rattle.queue_files.specs.Kept.{Queue}
-use Rattle.queue_files.specs.Steps.{marked}
 use Rattle.history_book.specs.Contents.{Bytes, bytes_at, is_file}
 use Rattle.history_book.specs.Entries.{Entry, ParcelAt, Read, Back}
 use Rattle.history_book.specs.Holdings.{HoldsTold, StopLeaves}
 use Rattle.history_book.specs.Inputs.{AreInputs}
 use Rattle.history_book.specs.Legal.{rejections, FatesFit}
 use Rattle.history_book.specs.Links.{Listening}
-use Rattle.history_book.specs.Lists.{IsIn}
-use Rattle.history_book.specs.Queues.{IsQueueAt, AreRowsOf}
+use Rattle.history_book.specs.Queues.{AreRowsOf}
 use Rattle.history_book.specs.Sound.{Places}
 use Rattle.history_book.specs.States.{Out, State, numbers_found, start, unread, after}
 use Rattle.line_machine.specs.Effects.{Effect, MayLeave, Before, Behind, quiet, nothing, in_doubt, holds_more, held_now, accepted_now, ended_now, without_kit, in_parcel, new_batch, with_batch, back_with, home_with, reading, working, collecting, losing, telling, giving, boxing, rejecting, hearing, failing, acknowledging, marking, assuring, failing_to_assure, purging, adopting, accepting_line, accepting_parcel}
-use Rattle.line_machine.specs.Finds.{IsPlain, HasInput, TakesRows, Uses, without_page}
+use Rattle.line_machine.specs.Finds.{IsPlain, HasInput, TakesRows, Uses}
 use Rattle.line_machine.specs.Ends.{TakerView, SenderView, without_taker, change_sender, with_sent, with_heard, change_taker, row_made, assured, refused}
 use Rattle.line_machine.specs.declared.calls.Call.{Call}
 use Rattle.line_machine.specs.Answers.{IsPart, Parts, None_before, First}

@@ -24,7 +24,6 @@ use Rattle.history_book.specs.Entries.{Entry, ParcelAt, Accept, Mark, Assure, Re
 use Rattle.history_book.specs.Holdings.{Holdings, StopLeaves}
 use Rattle.history_book.specs.Inputs.{Input}
 use Rattle.history_book.specs.Links.{Listening}
-use Rattle.history_book.specs.Lists.{IsIn}
 use Rattle.history_book.specs.Sound.{Places}
 use Rattle.history_book.specs.States.{Plan, numbers_found}
 use Rattle.line_machine.specs.Ends.{TakerView, change_taker, row_made}

@@ -4,17 +4,26 @@ use Rattle.io_traits.specs.Images.{Image}
 use Rattle.event_flow.specs.Meaning.{Makes}
 use Rattle.history_book.specs.Contents.{Bytes}
 use Rattle.history_book.specs.Entries.{Entry}
-use Rattle.history_book.specs.Holdings.{HoldsTold}
+use Rattle.queue_files.specs.Kept.{Queue}
+use Rattle.queue_files.specs.Steps.{marked, rolled}
+use Rattle.history_book.specs.Holdings.{HoldsTold, StopLeaves}
 use Rattle.history_book.specs.Legal.{Legal}
 use Rattle.history_book.specs.Links.{Listening}
 use Rattle.history_book.specs.Sound.{Places, LineSound}
 use Rattle.history_book.specs.States.{start}
 use Rattle.line_machine.specs.declared.calls.Call.{Call}
 use Rattle.line_machine.specs.Answers.{Did}
-use Rattle.line_machine.specs.Effects.{Effect, MayLeave}
+use Rattle.line_machine.specs.Effects.{Effect, MayLeave, with_queue}
+use Rattle.line_machine.specs.Finds.{HasSpent, without_page}
 use Rattle.line_machine.specs.Stands.{Stands}
 use Rattle.line_machine.specs.Steps.{Step, effect, GoesOn}
 use Rattle.line_machine.specs.Views.{LineView}
+
+-- The queues that a line's folder may hold on the way of a step: all is recorded, and then a new head page is begun; or a spent page is gone.
+pub data IsOnTheWay (q : Queue) : Queue → Type 0 where
+  All_recorded : IsOnTheWay q (marked q)
+  Page_begun : IsOnTheWay q (rolled (marked q))
+  Page_gone : (h : HasSpent q) → IsOnTheWay q (without_page q h)
 
 module _ (makes : Makes) (bytes : Bytes) (places : Places) where
   -- What a call makes of a line that stood where these entries put it: the history with what it tells is legal, and its places hold what that says; whatever a
@@ -36,3 +45,9 @@ module _ (makes : Makes) (bytes : Bytes) (places : Places) where
   CallsFollow listening =
       (told : List Entry) (i : LineView places) (x : Call) (e : Effect places) → Stands makes bytes places told i → (did : Did makes listening bytes x i e)
       → FollowsAs told i e (GoesOn makes listening bytes did.line did.step)
+
+  -- whatever a stop leaves of a queue that a step makes on its way, it may leave before the step, too: so the steps name none
+  abbrev pub WaysLeaveNoMore : Type 0
+  WaysLeaveNoMore =
+      (told : List Entry) (i : LineView places) (q : Queue) (image : Image) → Stands makes bytes places told i → IsOnTheWay i.holds.queue q → StopLeaves makes bytes places told (with_queue q i.holds) image
+      → StopLeaves makes bytes places told i.holds image

@@ -26,7 +26,7 @@ use Rattle.line_machine.specs.declared.calls.Call.{Call}
 use Rattle.line_machine.specs.declared.calls.LineFault.{LineFault}
 use Rattle.line_machine.specs.Effects.{Effect, quiet, nothing, in_doubt, holds_more, ended_now, in_parcel, new_batch, reading, working, collecting, losing, telling, giving, boxing, rejecting, hearing, failing, acknowledging, marking, assuring, failing_to_assure, purging, adopting, accepting_line, accepting_parcel}
 use Rattle.line_machine.specs.Ends.{TakerView, SenderView, Taken, Takes, MayAssure, MayRefuse, IsFree, without_taker, taker_at, change_taker, assured, refused, sender_at, change_sender, with_sent, with_heard, MaySend, WasHeard}
-use Rattle.line_machine.specs.Finds.{IsPlain, Acknowledges, HasSpent, without_page, AreNew, AreEndsOf, AreUnused, HasInput, ends_served, IsAway, IsHome, TakesKit, TakesRows, AppendsNow, FailsSo, WritesNone, BoxTook, StdoutTook, Uses, IsRead, Comes, IsRowFor, Arrives, IsLastDue, Changes}
+use Rattle.line_machine.specs.Finds.{IsPlain, Acknowledges, HasSpent, AreNew, AreEndsOf, AreUnused, HasInput, ends_served, IsAway, IsHome, TakesKit, TakesRows, AppendsNow, FailsSo, WritesNone, BoxTook, StdoutTook, Uses, IsRead, Comes, IsRowFor, Arrives, IsLastDue, Changes}
 use Rattle.line_machine.specs.Unchanged.{LeavesAll, OnlyFails}
 use Rattle.line_machine.specs.Views.{Incoming, Given, LineView, inputs_of, change_input, change_batch}
 

@@ -105,7 +105,7 @@ module _ (listening : Listening) {places : Places} where
   LeavesAll i x = ⊥
 
   -- The call with this answer only fails, and the line takes no further one: an input that begins can't be opened, rows can't be read, or a mark or the removal of a page
-  -- doesn't get through, whose places hold then what they held, as far as a history sees them.
+  -- doesn't get through. Its places are said to hold what they held.
   abbrev pub OnlyFails : LineView places → Call → Type 0
   OnlyFails i (call.Accept n (Err fault.Store)) = ReadsAt i n
   OnlyFails i (call.Read (Err fault.Store)) = ⊤

@@ -11,7 +11,7 @@ ghost use Rattle.line_machine.specs.Covering.{MarksCoverStill, OpenedMarksCover,
 ghost use Rattle.line_machine.specs.Doing.{DoesLegallyStill, OpenedDoesLegally};
 ghost use Rattle.line_machine.specs.EndsLine.{AnswersTellEnds};
 ghost use Rattle.line_machine.specs.Kits.{KitsStay, KitsAreTheirs, OpenedKitsAreTheirs};
-ghost use Rattle.line_machine.specs.Laws.{CallsFollow, StepsFollow};
+ghost use Rattle.line_machine.specs.Laws.{CallsFollow, StepsFollow, WaysLeaveNoMore};
 ghost use Rattle.line_machine.specs.Openings.{OpenedLineStands, RunsStand};
 ghost use Rattle.line_machine.specs.Outputs.{OutputsTookWhatWasTold};
 ghost use Rattle.line_machine.specs.Lines.{CallsStandWhole, OpenedStandsWhole, StandsWholeStill};
@@ -21,12 +21,14 @@ ghost use Rattle.line_machine.specs.Sending.{OpenedParcelsWereDue, ParcelsWereDu
 ghost use Rattle.line_machine.specs.Serving.{EndsStandStill, OpenedEndsStand};
 
 /// Whatever step a line makes, and whatever a call of it answers, its history stays legal, whatever a stop within it leaves is sound with the history
-/// before or behind it, and the line stands where its history does.
+/// before or behind it, and the line stands where its history does. What its queue may be on the way of a step leaves
+/// nothing else.
 pub fn steps_follow()
     ensures steps { (makes : Makes) (listening : Listening) (bytes : Bytes) (places : Places)
         → StepsFollow makes bytes places listening }
     ensures calls { (makes : Makes) (listening : Listening) (bytes : Bytes) (places : Places)
         → CallsFollow makes bytes places listening }
+    ensures ways { (makes : Makes) (bytes : Bytes) (places : Places) → WaysLeaveNoMore makes bytes places }
 {}
 
 /// So it is behind any steps, one behind the other, and from the opening on: a line that is opened over what a stop
