@@ -1,5 +1,5 @@
 -- Whatever a stop leaves of a queue on the way of a step, it may leave before the step.
-use Rattle.std.proofs.Common.{◌≡◌, ℕ, suc, ◌+◌, List, [], ◌∷◌, ◌++◌, length, subst}
+use Rattle.std.proofs.Common.{ℕ, suc, ◌+◌, List, [], ◌∷◌, ◌++◌, length, subst}
 use Rattle.event_flow.specs.Meaning.{Makes}
 use Rattle.queue_files.specs.Folders.{Folder, folder_in}
 use Rattle.queue_files.specs.Kept.{Page, Queue, Kept, IsSound, Rising}
