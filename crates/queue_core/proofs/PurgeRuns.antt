@@ -1,5 +1,6 @@
 -- A page that goes: of the pages that are open, and of the queue.
 use Rattle.std.proofs.Common.{◌≡◌, ◌≢◌, ◌⊎◌, ⊎_elim, inl, inr, ℕ, zero, suc, ◌+◌, ◌<◌, ◌≤◌, not, nat_lt, Bool, true, false, IsTrue, List, [], ◌∷◌, ◌++◌, length, map, get_or, remove, Option, Some, None, if◌then◌else◌, refl, sym, ◌∙◌, ap, subst, arith}
+use Rattle.std.specs.Prelude.{is_some}
 use Rattle.std.proofs.Math.Path.{ap₂}
 use Rattle.std.proofs.lemmas.Bool.{cases_Bool, false≢true}
 use Rattle.std.proofs.lemmas.Bool.Decides.{nat_tests}
@@ -93,6 +94,15 @@ goes_at tails place some =
     let g = one_goes 0 tails place some in
     let is : g.0 ≡ place = omega (arith, g.1) in
     (g.2, subst (λ n. Goes tails n g.2) is g.3)
+
+-- there is a page that goes, or none, by its place as by its number
+pub some_goes : (at : ℕ) (tails : List OpenPageView) → is_some (spent_from at tails) ≡ is_some (first_spent tails)
+some_goes at [] = refl
+some_goes at (o ∷ tails) = by (some_goes (at + 1) tails) (is_spent o)
+  where
+    by : is_some (spent_from (at + 1) tails) ≡ is_some (first_spent tails) → (b : Bool) → is_some (if b then Some at else spent_from (at + 1) tails) ≡ is_some (if b then Some o.number else first_spent tails)
+    by rest true = refl
+    by rest false = rest
 
 -- ---- names
 

@@ -1,5 +1,5 @@
 // The queue: its pages, its cursor and what is acknowledged.
-ghost use Rattle.std.specs.Prelude.{◌≡◌, ◌-◌, IsErr, IfOk, OnOk, OnErr};
+ghost use Rattle.std.specs.Prelude.{◌≡◌, ◌-◌, is_some, IsErr, IfOk, OnOk, OnErr};
 ghost use Rattle.io_traits.specs.Counts.{HasCause};
 ghost use Rattle.io_traits.specs.Moments.{EachMoment, LeavesBeside, ReadsBeside};
 ghost use Rattle.queue_files.specs.Folders.{IsOwn, names_in};
@@ -69,6 +69,13 @@ impl Queue {
         ensures { result ≡ self.now.unread }
     {
         self.unread
+    }
+
+    /// Whether `purge` would remove a page. It takes no memory.
+    pub fn has_spent_page(&self) -> bool
+        ensures { result ≡ is_some (first_spent self.now.tails) }
+    {
+        first_spent(self.tails.as_slice()).is_some()
     }
 
     /// The rows of these numbers are acknowledged: those of a batch that this queue gave. A number that no
