@@ -1,6 +1,7 @@
 -- What a call that takes a batch gives, and what it leaves of a queue.
 use Rattle.std.proofs.Common.{◌≡◌, ⊎_elim, inl, inr, ℕ, ◌≤◌, ◌==◌, IsTrue, false, List, [], ◌∷◌, ◌++◌, length, map, Option, Ok, Err, refl, sym, ap, ◌∙◌, subst, arith, slice_get}
 use Rattle.std.proofs.lemmas.Bool.{cond-false}
+use Rattle.std.proofs.lemmas.List.{length-map}
 use Rattle.io_traits.specs.Folders.{Content}
 use Rattle.io_traits.specs.Reads.{bytes_of, file_length}
 use Rattle.io_traits.specs.Calls.{ChangesNothing}
@@ -24,7 +25,7 @@ use Rattle.queue_files.specs.declared.marking.Mark.{Mark}
 use Rattle.queue_core.specs.Batching.{Finds}
 use Rattle.queue_core.specs.Calls.{IsHeldQueue}
 use Rattle.queue_core.specs.Opens.{AreLong, HasPage, IsAmong, IsOfFiles, KeepsQueue, Opens}
-use Rattle.queue_core.specs.Taking.{Stand, begun, pages_read, rows_taken, batch_from, batch_of, rows_in, all_pages, with_block, behind_take, taken_of, IsThere, AreThere, WasRead}
+use Rattle.queue_core.specs.Taking.{Stand, begun, pages_read, rows_taken, batch_from, batch_of, number_of, rows_in, all_pages, with_block, behind_take, taken_of, IsThere, AreThere, WasRead}
 use Rattle.queue_core.specs.Views.{OpenPageView, CursorView, QueueView}
 use Rattle.queue_core.specs.declared.batch.Batch.{Batch}
 use Rattle.queue_core.specs.declared.page_rows.QueueRow.{QueueRow}
@@ -34,7 +35,7 @@ use Rattle.queue_core.specs.declared.page_rows.BatchReader.{BatchReader}
 
 rows_from : (r : BatchReader) (rows : List QueueRow) → r.rows ≡ rows → rows_in (batch_from r (slice_get rows 0)) ≡ length rows
 rows_from r [] is = refl
-rows_from r (x ∷ rows) is = ap (λ (l : List QueueRow). length l) is
+rows_from r (x ∷ rows) is = length-map r.rows number_of ∙ ap (λ (l : List QueueRow). length l) is
 
 pub rows_in_batch : (r : BatchReader) → rows_in (batch_of r) ≡ length r.rows
 rows_in_batch r = rows_from r r.rows refl

@@ -14,11 +14,11 @@ use Rattle.queue_files.specs.Steps.{marked}
 use Rattle.queue_files.specs.declared.opening.OpenedQueue.{OpenedQueue}
 use Rattle.queue_core.specs.Acknowledging.{acknowledged}
 use Rattle.queue_core.specs.Calls.{behind_acknowledge, behind_mark, behind_purge, end_of, with_marked, with_recorded, without_spent}
-use Rattle.queue_core.specs.GivenOnce.{AreBehind, AreOpen, AreRising, Calls, GivesNext, IsBatch, IsGiven, RowsAreGivenOnce, StillGives, is_acknowledged, rows_of, with_batch, acknowledge, mark, no_batch, no_call, purge, take_batch, write}
+use Rattle.queue_core.specs.GivenOnce.{AreBehind, AreOf, AreOpen, AreRising, Calls, GivesNext, IsBatch, IsGiven, IsOf, RowsAreGivenOnce, StillGives, is_acknowledged, with_batch, acknowledge, mark, no_batch, no_call, purge, take_batch, write}
 use Rattle.queue_core.specs.Opening.{cursor_at, first_of, queue_opened, OpensAs}
 use Rattle.queue_core.specs.Opens.{Becomes, IsAmong, purged}
 use Rattle.queue_core.specs.QueueBatches.{AreNamed, AreUnread, CursorStands, page_rows}
-use Rattle.queue_core.specs.Taking.{Stand, all_pages, batch_from, batch_of, begun, behind_take, pages_read, rows_taken, taken_of, HasSameNext, with_block}
+use Rattle.queue_core.specs.Taking.{Stand, all_pages, batch_from, batch_of, begun, behind_take, event_of, number_of, pages_read, rows_taken, taken_of, HasSameNext, with_block}
 use Rattle.queue_core.specs.Unread.{told}
 use Rattle.queue_core.specs.UnreadRows.{AreGiven, next_row}
 use Rattle.queue_core.specs.Views.{CursorView, OpenPageView, QueueView}
@@ -37,20 +37,29 @@ use Rattle.queue_core.proofs.UnreadRows.{acknowledged_leaves_unread, is_read, op
 
 -- ---- a batch as rows
 
-rows_with : (given : List Batch) (batch : Option Batch) → rows_of (with_batch given batch) ≡ rows_of given ++ rows_of (with_batch [] batch)
-rows_with given None = sym (append-nil (rows_of given))
-rows_with given (Some batch) = each given
+-- of one more batch, or none
+one_more : (given : List Batch) (front rows : List Row) (batch : Batch) → AreOf given front → IsOf batch rows → AreOf (given ++ batch ∷ []) (front ++ rows)
+one_more [] front rows batch are is = (rows, [], ap (λ (l : List Row). l ++ rows) are ∙ sym (append-nil rows), is, refl)
+one_more (b ∷ given) front rows batch are is =
+    (are.0, are.1 ++ rows, ap (λ (l : List Row). l ++ rows) are.2 ∙ append_assoc are.0 are.1 rows, are.3, one_more given are.1 rows batch are.4 is)
+
+of_first : (given : List Batch) (front : List Row) (r : BatchReader) (rows : List QueueRow) → r.rows ≡ rows → AreOf given front → AreOf (with_batch given (batch_from r (slice_get rows 0))) (front ++ map told rows)
+of_first given front r [] is are = subst (AreOf given) (sym (append-nil front)) are
+of_first given front r (x ∷ rows) is are = one_more given front (map told (x ∷ rows)) (record { numbers = record { first = x.number; behind = r.number }; rows = map number_of r.rows; events = map event_of r.rows }) are (record {
+  numbers = ap (map number_of) is ∙ numbers_told (x ∷ rows);
+  events = ap (map event_of) is ∙ events_told (x ∷ rows);
+})
   where
-    each : (given : List Batch) → rows_of (given ++ batch ∷ []) ≡ rows_of given ++ rows_of (batch ∷ [])
-    each [] = refl
-    each (b ∷ given) = ap (λ (l : List Row). map told b.rows ++ l) (each given) ∙ sym (append_assoc (map told b.rows) (rows_of given) (rows_of (batch ∷ [])))
+    numbers_told : (rows : List QueueRow) → map number_of rows ≡ map (λ (row : Row). row.number) (map told rows)
+    numbers_told [] = refl
+    numbers_told (x ∷ rows) = ap (λ l. x.number ∷ l) (numbers_told rows)
 
-rows_of_first : (r : BatchReader) (rows : List QueueRow) → r.rows ≡ rows → rows_of (with_batch [] (batch_from r (slice_get rows 0))) ≡ map told rows
-rows_of_first r [] is = refl
-rows_of_first r (x ∷ rows) is = append-nil (map told r.rows) ∙ ap (map told) is
+    events_told : (rows : List QueueRow) → map event_of rows ≡ map (λ (row : Row). row.event) (map told rows)
+    events_told [] = refl
+    events_told (x ∷ rows) = ap (λ l. x.event ∷ l) (events_told rows)
 
-batch_rows : (r : BatchReader) → rows_of (with_batch [] (batch_of r)) ≡ map told r.rows
-batch_rows r = rows_of_first r r.rows refl
+batch_is_of : (given : List Batch) (front : List Row) (r : BatchReader) → AreOf given front → AreOf (with_batch given (batch_of r)) (front ++ map told r.rows)
+batch_is_of given front r are = of_first given front r r.rows refl are
 
 -- ---- rows that are behind batches
 
@@ -62,7 +71,7 @@ behind_more (b ∷ given) batch rows end behind rise = (behind.0, behind_more gi
 behind_first : (given : List Batch) (r : BatchReader) (read : List QueueRow) (rows : List Row) (end : ℕ) → AreBehind given rows end → AreRising r.number rows end → AreBehind (with_batch given (batch_from r (slice_get read 0))) rows end
 behind_first given r [] rows end behind rise = behind
 behind_first given r (x ∷ read) rows end behind rise =
-    behind_more given (record { numbers = record { first = x.number; behind = r.number }; rows = r.rows }) rows end behind rise
+    behind_more given (record { numbers = record { first = x.number; behind = r.number }; rows = map number_of r.rows; events = map event_of r.rows }) rows end behind rise
 
 behind_rest : (given : List Batch) (front rest : List Row) (end : ℕ) → AreBehind given (front ++ rest) end → AreBehind given rest end
 behind_rest [] front rest end behind = tt
@@ -206,8 +215,8 @@ module _ {S : Type 0} (store : StoreWords S) where
           (rise_next (store.seen old) after.cursor 0 0 v.tails v.top q.tails q.top opens.tails opens.top opens.ready.is left.stands among))
           (taken_among most (store.seen old) v got.s got.is)
 
-      taken_all : rows_of (with_batch [] batch) ++ got.rest ≡ rows
-      taken_all = ap (λ (b : Option Batch). rows_of (with_batch [] b) ++ got.rest) (sym batch_is) ∙ ap (λ (l : List Row). l ++ got.rest) (batch_rows got.s.reading) ∙ got.all
+      taken_of_rows : (given : List Batch) (front : List Row) → AreOf given front → AreOf (with_batch given batch) (front ++ map told got.s.reading.rows)
+      taken_of_rows given front are = subst (λ (b : Option Batch). AreOf (with_batch given b) (front ++ map told got.s.reading.rows)) batch_is (batch_is_of given front got.s.reading are)
 
       taken_gives : (new : S) → ChangesNothing store.tells store.seen store.moment store.may_leave old new → Becomes store (λ q. q) v next old new → GivesNext store next q got.rest new
       taken_gives new same becomes = record {
@@ -263,6 +272,8 @@ module _ {S : Type 0} (store : StoreWords S) where
       queue = q;
       rows = rows;
       next = g;
+      front = [];
+      are = refl;
       are_all = sym (append-nil rows);
       in_order = subst (λ (l : List Row). AreRising 0 l (end_of v.top)) (sym (append-nil rows)) (less_from v.cursor.number 0 rows (end_of v.top) (omega arith) g.rise);
       behind = tt;
@@ -276,20 +287,24 @@ module _ {S : Type 0} (store : StoreWords S) where
           queue = with_written before origin event i.queue;
           rows = i.rows ++ row ∷ [];
           next = written_gives before i.queue i.rows old tells i.next origin event new becomes;
-          are_all = sym (append_assoc (rows_of given) i.rows (row ∷ [])) ∙ ap (λ (l : List Row). l ++ row ∷ []) i.are_all ∙ append_assoc rows written (row ∷ []);
+          front = i.front;
+          are = i.are;
+          are_all = sym (append_assoc i.front i.rows (row ∷ [])) ∙ ap (λ (l : List Row). l ++ row ∷ []) i.are_all ∙ append_assoc rows written (row ∷ []);
           in_order = subst (λ (l : List Row). AreRising 0 l (end_of (behind_write size before).top)) (append_assoc rows written (row ∷ []))
               (rise_then 0 (rows ++ written) (end_of before.top) (row ∷ []) (end_of (behind_write size before).top) i.in_order (omega arith, grown));
           behind = behind_row given i.rows row (end_of before.top) (end_of (behind_write size before).top) i.behind refl grown;
         }
     calls_give all written w new (take_batch {given = given} {w = before} {old = old} most batch calls is same becomes) =
         let i = calls_give given written before old calls in
-        let rest = (got before i.queue i.rows old tells i.next most batch w is).rest in
+        let taken = got before i.queue i.rows old tells i.next most batch w is in
+        let rest = taken.rest in
         record {
           queue = i.queue;
           rows = rest;
           next = taken_gives before i.queue i.rows old tells i.next most batch w is new same becomes;
-          are_all = ap (λ (l : List Row). l ++ rest) (rows_with given batch) ∙ append_assoc (rows_of given) (rows_of (with_batch [] batch)) rest
-              ∙ ap (λ (l : List Row). rows_of given ++ l) (taken_all before i.queue i.rows old tells i.next most batch w is) ∙ i.are_all;
+          front = i.front ++ map told taken.s.reading.rows;
+          are = taken_of_rows before i.queue i.rows old tells i.next most batch w is given i.front i.are;
+          are_all = append_assoc i.front (map told taken.s.reading.rows) rest ∙ ap (λ (l : List Row). i.front ++ l) taken.all ∙ i.are_all;
           in_order = subst (λ n. AreRising 0 (rows ++ written) n) (sym (same_end before i.queue i.rows old tells i.next most batch w is)) i.in_order;
           behind = behind_taken before i.queue i.rows old tells i.next most batch w is given i.behind;
         }
@@ -299,6 +314,8 @@ module _ {S : Type 0} (store : StoreWords S) where
           queue = i.queue;
           rows = i.rows;
           next = lost_gives before i.queue i.rows old tells i.next w new is same becomes;
+          front = i.front;
+          are = i.are;
           are_all = i.are_all;
           in_order = subst (λ (x : QueueView). AreRising 0 (rows ++ written) (end_of x.top)) (sym is) i.in_order;
           behind = subst (λ (x : QueueView). AreBehind given i.rows (end_of x.top)) (sym is) i.behind;
@@ -310,16 +327,18 @@ module _ {S : Type 0} (store : StoreWords S) where
           queue = acknowledged batch.numbers i.queue;
           rows = i.rows;
           next = acknowledged_gives before i.queue i.rows new tells i.next batch.numbers rise;
+          front = i.front;
+          are = i.are;
           are_all = i.are_all;
           in_order = i.in_order;
           behind = i.behind;
         }
     calls_give given written w new (mark {w = before} {old = old} calls becomes) =
         let i = calls_give given written before old calls in
-        record { queue = marked i.queue; rows = i.rows; next = marked_gives before i.queue i.rows old tells i.next new becomes; are_all = i.are_all; in_order = i.in_order; behind = i.behind }
+        record { queue = marked i.queue; rows = i.rows; next = marked_gives before i.queue i.rows old tells i.next new becomes; front = i.front; are = i.are; are_all = i.are_all; in_order = i.in_order; behind = i.behind }
     calls_give given written w new (purge {w = before} {old = old} calls becomes) =
         let i = calls_give given written before old calls in
-        record { queue = purged i.queue; rows = i.rows; next = purged_gives before i.queue i.rows old tells i.next new becomes; are_all = i.are_all; in_order = i.in_order; behind = i.behind }
+        record { queue = purged i.queue; rows = i.rows; next = purged_gives before i.queue i.rows old tells i.next new becomes; front = i.front; are = i.are; are_all = i.are_all; in_order = i.in_order; behind = i.behind }
 
   pub rows_are_given_once : RowsAreGivenOnce store
   rows_are_given_once = record {

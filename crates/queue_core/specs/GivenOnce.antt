@@ -12,7 +12,6 @@ use Rattle.queue_core.specs.Calls.{behind_acknowledge, behind_mark, behind_purge
 use Rattle.queue_core.specs.Opening.{queue_opened, OpensAs}
 use Rattle.queue_core.specs.Opens.{Becomes, purged}
 use Rattle.queue_core.specs.Taking.{all_pages, GivesNextRows, HasSameNext}
-use Rattle.queue_core.specs.Unread.{told}
 use Rattle.queue_core.specs.UnreadRows.{HasUnread, next_row}
 use Rattle.queue_core.specs.Views.{OpenPageView, QueueView}
 use Rattle.queue_core.specs.Writing.{behind_write, frame_size, with_written}
@@ -45,10 +44,15 @@ AreRising from (row ∷ rows) end = (from ≤ row.number) × AreRising (suc row.
 abbrev pub IsBatch : ℕ → Content → QueueView → Option Batch → QueueView → Type 0
 IsBatch most content v batch next = GivesNextRows most content v (Ok batch) next
 
--- the rows of batches
-abbrev pub rows_of : List Batch → List Row
-rows_of [] = []
-rows_of (batch ∷ batches) = map told batch.rows ++ rows_of batches
+-- a batch has the numbers and the events of these rows
+pub record IsOf (batch : Batch) (rows : List Row) : Type 0 where
+  pub numbers : batch.rows ≡ map (λ (row : Row). row.number) rows
+  pub events : batch.events ≡ map (λ (row : Row). row.event) rows
+
+-- batches have those of these rows, one behind the other
+abbrev pub AreOf : List Batch → List Row → Type 0
+AreOf [] rows = rows ≡ []
+AreOf (batch ∷ batches) rows = (front : List Row) × (rest : List Row) × (rows ≡ front ++ rest) × IsOf batch front × AreOf batches rest
 
 -- with one more, if there is one
 abbrev pub with_batch : List Batch → Option Batch → List Batch
@@ -93,12 +97,14 @@ module _ {S : Type 0} (store : StoreWords S) where
     purge : {given : List Batch} {written : List Row} {w : QueueView} {old new : S} → Calls v s given written w old → Becomes store purged w (behind_purge w) old new
         → Calls v s given written (behind_purge w) new
 
-  -- The rows that a queue gives next, behind those of these batches, are all of these, whose numbers rise.
+  -- The rows of these batches, and behind them those that a queue gives next, are all of these, whose numbers rise.
   pub record StillGives (given : List Batch) (all : List Row) (v : QueueView) (s : S) : Type 0 where
     pub queue : Queue
     pub rows : List Row
     pub next : GivesNext v queue rows s
-    pub are_all : rows_of given ++ rows ≡ all
+    pub front : List Row
+    pub are : AreOf given front
+    pub are_all : front ++ rows ≡ all
     pub in_order : AreRising 0 all (end_of v.top)
     pub behind : AreBehind given rows (end_of v.top)
 

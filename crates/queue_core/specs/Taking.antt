@@ -1,9 +1,10 @@
 -- The next unread rows of a queue, read of its pages for a batch.
-use Rattle.std.specs.Prelude.{◌≡◌, ◌≤◌, ◌⊎◌, ℕ, ◌-◌, ◌==◌, ◌||◌, nat_lt, Bool, false, List, [], ◌∷◌, ◌++◌, length, slice_get, if◌then◌else◌, Option, Some, None, Result, Ok, ⊤}
+use Rattle.std.specs.Prelude.{◌≡◌, ◌≤◌, ◌⊎◌, ℕ, ◌-◌, ◌==◌, ◌||◌, nat_lt, Bool, false, List, [], ◌∷◌, ◌++◌, length, map, vec_capacity, slice_get, if◌then◌else◌, Option, Some, None, Result, Ok, ⊤}
 use Rattle.io_traits.specs.Folders.{Content}
 use Rattle.io_traits.specs.Reads.{bytes_of, file_length}
 use Rattle.io_traits.specs.declared.queue_faults.Damage.{Damage}
 use Rattle.io_traits.specs.declared.queue_faults.QueueFault.{QueueFault}
+use Rattle.event_tree.specs.Events.{Ev}
 use Rattle.queue_page.specs.Blocks.{IsPart}
 use Rattle.queue_page.specs.Elements.{and_then}
 use Rattle.queue_page.specs.Views.{PageBufferView}
@@ -13,6 +14,7 @@ use Rattle.queue_core.specs.Views.{OpenPageView, CursorView, QueueView}
 use Rattle.queue_core.specs.declared.batch.Batch.{Batch}
 use Rattle.queue_core.specs.declared.page_rows.QueueRow.{QueueRow}
 use Rattle.queue_core.specs.declared.page_rows.BatchReader.{BatchReader}
+use Rattle.queue_core.specs.declared.taking.RowsRead.{RowsRead}
 
 -- how many bytes the bodies of the rows of a batch may have together, unless it has a single row: 64 MiB
 abbrev pub batch_bytes : ℕ
@@ -76,13 +78,26 @@ rows_taken most content v = if v.unread == 0 then Ok (begun most v.cursor) else 
 
 -- ---- what a call gives and leaves
 
--- the rows that were read, if there are any
+abbrev pub number_of : QueueRow → ℕ
+number_of row = row.number
+
+abbrev pub event_of : QueueRow → Ev
+event_of row = row.event
+
+-- the numbers and the events of the rows that were read, if there are any
 abbrev pub batch_from : BatchReader → Option QueueRow → Option Batch
 batch_from r None = None
-batch_from r (Some first) = Some (record { numbers = record { first = first.number; behind = r.number }; rows = r.rows })
+batch_from r (Some first) = Some (record { numbers = record { first = first.number; behind = r.number }; rows = map number_of r.rows; events = map event_of r.rows })
 
 abbrev pub batch_of : BatchReader → Option Batch
 batch_of r = batch_from r (slice_get r.rows 0)
+
+-- there is room for the numbers and the events of the rows
+pub record HasRoom (read : RowsRead) : Type 0 where
+  pub numbers : length read.reading.rows ≤ vec_capacity read.numbers
+  pub events : length read.reading.rows ≤ vec_capacity read.events
+  pub no_numbers : read.numbers.items ≡ []
+  pub no_events : read.events.items ≡ []
 
 -- how many rows there are
 abbrev pub rows_in : Option Batch → ℕ

@@ -1,6 +1,7 @@
 // A batch of rows, and the cursor from which the next one is read.
 use crate::limits::Numbers;
 use crate::page_rows::QueueRow;
+use event_tree::Event;
 use plain_data::Items;
 use queue_page::PageBuffer;
 use std::marker::Model;
@@ -11,8 +12,10 @@ pub struct Batch {
     /// The number of the first row, and that of the row behind the last. Rows between them that the batch
     /// doesn't have were acknowledged before.
     pub numbers: Numbers,
-    /// The rows.
-    pub rows: Items<QueueRow>,
+    /// The numbers of the rows.
+    pub rows: Items<u64>,
+    /// Their events.
+    pub events: Items<Event>,
 }
 
 /// The place of the next unread row of a queue.

@@ -1,5 +1,5 @@
 // The next unread rows of a queue, as a batch.
-ghost use Rattle.std.specs.Prelude.{◌≡◌, ◌≤◌, ◌-◌, ◌⊎◌, ◌++◌, ◌∷◌, [], ℕ, List, IsTrue, IfOk, OnErr, Ok, Err, None};
+ghost use Rattle.std.specs.Prelude.{◌≡◌, ◌≤◌, ◌-◌, ◌⊎◌, ◌++◌, ◌∷◌, [], ℕ, List, length, map, vec_capacity, IsTrue, IfOk, OnErr, Ok, Err, None};
 ghost use Rattle.io_traits.specs.Counts.{HasCause};
 ghost use Rattle.io_traits.specs.Reads.{bytes_of, file_length};
 ghost use Rattle.io_traits.specs.Calls.{ChangesNothing};
@@ -9,13 +9,14 @@ ghost use Rattle.queue_page.specs.Blocks.{IsPart};
 ghost use Rattle.queue_files.specs.Folders.{IsOwn, names_in};
 ghost use Rattle.queue_core.specs.Batching.{Finds};
 ghost use Rattle.queue_core.specs.Opens.{Becomes, IsOfFiles, IsReady, KeepsQueue};
-ghost use Rattle.queue_core.specs.Taking.{stand, entered, is_passed, page_read, pages_read, begun, batch_of, rows_in, AreThere, GivesNextRows, HasSameNext, IsSameButNext, WasRead};
+ghost use Rattle.queue_core.specs.Taking.{stand, entered, is_passed, page_read, pages_read, begun, batch_of, event_of, number_of, rows_in, AreThere, GivesNextRows, HasRoom, HasSameNext, IsSameButNext, WasRead};
 
 use crate::batch::{Batch, Cursor};
 use crate::limits::Numbers;
 use crate::page_rows::{BatchReader, QueueRow};
 use crate::pages::OpenPage;
 use crate::queue::Queue;
+use event_tree::Event;
 use io_traits::{QueueFault, Store};
 use plain_data::Items;
 use queue_page::{BLOCK_LEN, PageBuffer};
@@ -143,6 +144,45 @@ fn begun(alloc: Global, most: u32, cursor: &mut Cursor) -> BatchReader
     )
 }
 
+/// Rows that were read for a batch, and room for their numbers and their events.
+#[derive(Drop)]
+struct RowsRead {
+    reading: BatchReader,
+    numbers: Vec<u64>,
+    events: Vec<Event>,
+}
+
+/// Reads rows of pages for a batch as `read_all`, and takes the room that the batch needs.
+fn read_rows<S: Store>(
+    alloc: Global,
+    store: &mut S,
+    tails: &[OpenPage],
+    top: &OpenPage,
+    page: &mut u32,
+    block: &mut PageBuffer,
+    reading: BatchReader,
+) -> Result<RowsRead, QueueFault>
+    ensures room { IfOk result HasRoom }
+    ensures rows { (names : ℕ → List ℕ) → IsTrue S.tells
+        → AreThere names (S.seen store.old) page.old block.old (tails.now ++ top.now ∷ [])
+        → Finds (λ read. stand page.new read.reading) result
+        (pages_read (S.seen store.old) (tails.now ++ top.now ∷ []) (stand page.old reading)) }
+    ensures part { IfOk result (λ _. (names : ℕ → List ℕ) → IsTrue S.tells
+        → AreThere names (S.seen store.old) page.old block.old (tails.now ++ top.now ∷ [])
+        → WasRead names (S.seen store.old) page.old block.old page.new block.new) }
+    ensures same { ChangesNothing S.tells S.seen S.moment S.may_leave store.old store.new }
+    ensures cause { HasCause (S.faults store.old) (S.faults store.new) (result ≡ Err f.Fault) }
+{
+    let mut reading = reading;
+    read_all(alloc, store, tails, top, page, block, &mut reading)?;
+    let rows = reading.rows.len();
+    Ok(RowsRead {
+        numbers: Vec::with_capacity(alloc, rows)?,
+        events: Vec::with_capacity(alloc, rows)?,
+        reading,
+    })
+}
+
 /// Room for so many rows, but not for more than a common batch has; none where there is no memory.
 fn room_for(alloc: Global, rows: usize) -> Items<QueueRow> {
     Items::with_capacity(alloc, rows.min(MOST_ROOM)).unwrap_or(Items::new(alloc))
@@ -167,14 +207,15 @@ fn read_from<S: Store>(
     top: &OpenPage,
     cursor: &mut Cursor,
     most: u32,
-) -> Result<BatchReader, QueueFault>
+) -> Result<RowsRead, QueueFault>
+    ensures room { IfOk result HasRoom }
     ensures rows { (names : ℕ → List ℕ) → IsTrue S.tells
         → AreThere names (S.seen store.old) cursor.old.page cursor.old.block
         (tails.now ++ top.now ∷ [])
-        → Finds (λ reading. stand cursor.new.page reading) result
+        → Finds (λ read. stand cursor.new.page read.reading) result
         (pages_read (S.seen store.old) (tails.now ++ top.now ∷ []) (begun most cursor.old)) }
-    ensures cursor { IfOk result (λ reading. (cursor.new.number ≡ reading.number)
-        × (cursor.new.place ≡ reading.place)) }
+    ensures cursor { IfOk result (λ read. (cursor.new.number ≡ read.reading.number)
+        × (cursor.new.place ≡ read.reading.place)) }
     ensures part { IfOk result (λ _. (names : ℕ → List ℕ) → IsTrue S.tells
         → AreThere names (S.seen store.old) cursor.old.page cursor.old.block
         (tails.now ++ top.now ∷ [])
@@ -187,46 +228,60 @@ fn read_from<S: Store>(
     ensures same { ChangesNothing S.tells S.seen S.moment S.may_leave store.old store.new }
     ensures cause { HasCause (S.faults store.old) (S.faults store.new) (result ≡ Err f.Fault) }
 {
-    let mut reading = begun(alloc, most, cursor);
+    let reading = begun(alloc, most, cursor);
     let mut page = cursor.page;
     let mut block = mem::replace(&mut cursor.block, PageBuffer::new(alloc, 0)?);
-    match read_all(
-        alloc,
-        store,
-        tails,
-        top,
-        &mut page,
-        &mut block,
-        &mut reading,
-    ) {
-        Ok(()) => {}
+    match read_rows(alloc, store, tails, top, &mut page, &mut block, reading) {
+        Ok(read) => {
+            cursor.page = page;
+            cursor.number = read.reading.number;
+            cursor.place = read.reading.place;
+            cursor.block = block;
+            cursor.room = room_for(alloc, read.reading.rows.len());
+            Ok(read)
+        }
         Err(fault) => {
             give_room(alloc, &mut cursor.block);
-            return Err(fault);
+            Err(fault)
         }
     }
-    cursor.page = page;
-    cursor.number = reading.number;
-    cursor.place = reading.place;
-    cursor.block = block;
-    cursor.room = room_for(alloc, reading.rows.len());
-    Ok(reading)
 }
 
-/// The rows that were read, if there are any.
-fn batch_of(reading: BatchReader) -> Option<Batch>
-    ensures { result ≡ batch_of reading }
+/// The numbers and the events of rows.
+fn split(rows: Items<QueueRow>, numbers: &mut Vec<u64>, events: &mut Vec<Event>)
+    requires numbers { length rows ≤ vec_capacity numbers.old }
+    requires events { length rows ≤ vec_capacity events.old }
+    requires no_numbers { numbers.old.items ≡ [] }
+    requires no_events { events.old.items ≡ [] }
+    ensures numbers { numbers.new.items ≡ map number_of rows }
+    ensures events { events.new.items ≡ map event_of rows }
 {
+    for row in rows.into_vec() {
+        numbers.push_reserved(row.number);
+        events.push_reserved(row.event);
+    }
+}
+
+/// The numbers and the events of the rows that were read, if there are any.
+fn batch_of(read: RowsRead) -> Option<Batch>
+    requires { HasRoom read }
+    ensures { result ≡ batch_of read.reading }
+{
+    let RowsRead {
+        reading,
+        mut numbers,
+        mut events,
+    } = read;
     let first = match reading.rows.get(0) {
         None => return None,
         Some(row) => row.number,
     };
+    let behind = reading.number;
+    split(reading.rows, &mut numbers, &mut events);
     Some(Batch {
-        numbers: Numbers {
-            first,
-            behind: reading.number,
-        },
-        rows: reading.rows,
+        numbers: Numbers { first, behind },
+        rows: Items::from_vec(numbers),
+        events: Items::from_vec(events),
     })
 }
 
@@ -272,8 +327,8 @@ impl Queue {
             return Ok(None);
         }
         let tails = self.tails.as_slice();
-        let reading = read_from(alloc, store, tails, &self.top, &mut self.cursor, most)?;
-        self.unread = self.unread.saturating_sub(reading.rows.len() as u64);
-        Ok(batch_of(reading))
+        let read = read_from(alloc, store, tails, &self.top, &mut self.cursor, most)?;
+        self.unread = self.unread.saturating_sub(read.reading.rows.len() as u64);
+        Ok(batch_of(read))
     }
 }

@@ -297,7 +297,7 @@ class Queue:
             return "none"
         self.store.call("read")
         taken, self.unread = self.unread[:most], self.unread[most:]
-        return " ".join(f"{n}{origin}" for n, origin in taken)
+        return " ".join(str(n) for n, _ in taken)
 
     def call(self, words):
         kind, _, what = words.partition(":")
@@ -398,53 +398,53 @@ def folder(said, data, **more):
 
 
 # rows that are torn, given again, acknowledged in any order, and counted
-run((59, AMPLE), folder(ALL, TWO + THIRD[:20]), "u t:9 w:i m", expected="open; 2; 1i 2i; 3; 3; ")
-run((1000, AMPLE), {}, "w:i w:i w:i w:i t:2 t:2 a:3-5 m", "u t:9", expected="open; 1; 2; 3; 4; 1i 2i; 3i 4i; 4; open; 4; 1i 2i 3i 4i; ")
-fourteen = run((59, AMPLE), {}, "w:i w:i w:i w:i w:i t:1 t:1 t:1 t:1 t:1 a:1-2 a:3-4 a:4-5 m p p", "u t:9", expected="open; 1; 2; 3; 4; 5; 1i; 2i; 3i; 4i; 5i; 5; 1; none; open; 2; 2i 5i; ").files
+run((59, AMPLE), folder(ALL, TWO + THIRD[:20]), "u t:9 w:i m", expected="open; 2; 1 2; 3; 3; ")
+run((1000, AMPLE), {}, "w:i w:i w:i w:i t:2 t:2 a:3-5 m", "u t:9", expected="open; 1; 2; 3; 4; 1 2; 3 4; 4; open; 4; 1 2 3 4; ")
+fourteen = run((59, AMPLE), {}, "w:i w:i w:i w:i w:i t:1 t:1 t:1 t:1 t:1 a:1-2 a:3-4 a:4-5 m p p", "u t:9", expected="open; 1; 2; 3; 4; 5; 1; 2; 3; 4; 5; 5; 1; none; open; 2; 2 5; ").files
 run((1000, 59), {}, "w:i w:i w:i", expected="open; 1; 2; full; ")
 run((1000, 58), {}, "w:i w:i", expected="open; 1; full; ")
 run((24, AMPLE), {}, "w:i", expected="open; 1; ")
-run((30, AMPLE), {}, "w:i w:i w:i t:1 t:1 t:1 a:2-3 m p", "u t:9 w:i", expected="open; 1; 2; 3; 1i; 2i; 3i; 3; 1; open; 2; 1i 3i; 4; ")
+run((30, AMPLE), {}, "w:i w:i w:i t:1 t:1 t:1 a:2-3 m p", "u t:9 w:i", expected="open; 1; 2; 3; 1; 2; 3; 3; 1; open; 2; 1 3; 4; ")
 
 # a page of version 1 is read, and never appended to
 old = folder(NONE, OLD)
-run((1000, AMPLE), old, "u t:9 w:i", expected="open; 1; 2?; 3; ")
-run((1000, AMPLE), old, "u t:9 w:i a:2-3 m p", expected="open; 1; 2?; 3; 3; 0; ")
-run((24, AMPLE), old, "u t:9 w:i w:i t:9 a:2-3 m p u", "u t:9", expected="open; 1; 2?; 3; 4; 3i 4i; 4; 0; 0; open; 2; 3i 4i; ")
+run((1000, AMPLE), old, "u t:9 w:i", expected="open; 1; 2; 3; ")
+run((1000, AMPLE), old, "u t:9 w:i a:2-3 m p", expected="open; 1; 2; 3; 3; 0; ")
+run((24, AMPLE), old, "u t:9 w:i w:i t:9 a:2-3 m p u", "u t:9", expected="open; 1; 2; 3; 4; 3 4; 4; 0; 0; open; 2; 3 4; ")
 run((1000, AMPLE), folder(NONE, overlaid(0, b"\2", OLD)), "u", expected="q/page.0 at 1: 0, not 8; ")
-run((1000, AMPLE), folder((0, 1, 1, 1, 25), OLD + element(3, EMPTY)[:9]), "t:9 w:i", expected="open; 1? 2?; 3; ")
-run((59, AMPLE), folder((0, 1, 1, 3, 88), TWO + THIRD), "w:i t:9", expected="open; 4; 1i 2i 3i 4i; ")
+run((1000, AMPLE), folder((0, 1, 1, 1, 25), OLD + element(3, EMPTY)[:9]), "t:9 w:i", expected="open; 1 2; 3; ")
+run((59, AMPLE), folder((0, 1, 1, 3, 88), TWO + THIRD), "w:i t:9", expected="open; 4; 1 2 3 4; ")
 
 # a mark doesn't pass a gap, and a purge leaves each page of which a row isn't recorded as acknowledged
-run((88, AMPLE), {}, "w:i w:i w:i w:i t:4 a:1-2 a:3-4 p m p", "u", expected="open; 1; 2; 3; 4; 1i 2i 3i 4i; none; 4; none; open; 3; ")
-run((30, AMPLE), {}, "w:i w:i w:i t:3 a:1-4 p m p p p", "u w:i", expected="open; 1; 2; 3; 1i 2i 3i; none; 3; 0; 1; none; open; 0; 4; ")
-run((59, AMPLE), {}, "w:i w:i w:i t:3 a:1-3 w:j w:k p p", "u", expected="open; 1; 2; 3; 1i 2i 3i; 4; 5; 0; none; open; 3; ")
-run((59, AMPLE), {}, "w:i t:1 a:1-2 m w:i t:9 m", "t:9", expected="open; 1; 1i; 1; 2; 2i; 2; open; 2i; ")
-run((59, AMPLE), {}, "t:1 w:i a:0-9 a:7-3 t:1 t:1 u m", "u", expected="open; none; 1; 1i; none; 0; 1; open; 0; ")
+run((88, AMPLE), {}, "w:i w:i w:i w:i t:4 a:1-2 a:3-4 p m p", "u", expected="open; 1; 2; 3; 4; 1 2 3 4; none; 4; none; open; 3; ")
+run((30, AMPLE), {}, "w:i w:i w:i t:3 a:1-4 p m p p p", "u w:i", expected="open; 1; 2; 3; 1 2 3; none; 3; 0; 1; none; open; 0; 4; ")
+run((59, AMPLE), {}, "w:i w:i w:i t:3 a:1-3 w:j w:k p p", "u", expected="open; 1; 2; 3; 1 2 3; 4; 5; 0; none; open; 3; ")
+run((59, AMPLE), {}, "w:i t:1 a:1-2 m w:i t:9 m", "t:9", expected="open; 1; 1; 1; 2; 2; 2; open; 2; ")
+run((59, AMPLE), {}, "t:1 w:i a:0-9 a:7-3 t:1 t:1 u m", "u", expected="open; none; 1; 1; none; 0; 1; open; 0; ")
 
 # numbers go on behind an opening, up to the last ones
-run((59, AMPLE), {}, "w:i w:i t:2 a:1-3 m", "t:1 w:i t:1", expected="open; 1; 2; 1i 2i; 2; open; none; 3; 3i; ")
-run((59, AMPLE), folder((3, 7, 7, 0, 1), b"\2"), "u w:i t:1", expected="open; 0; 7; 7i; ")
-run((59, AMPLE), folder((0, LAST - 1, LAST - 1, 0, 1), b"\2"), "w:i w:i", "t:9 w:i", expected=f"open; {LAST - 1}; spent; open; {LAST - 1}i; spent; ")
+run((59, AMPLE), {}, "w:i w:i t:2 a:1-3 m", "t:1 w:i t:1", expected="open; 1; 2; 1 2; 2; open; none; 3; 3; ")
+run((59, AMPLE), folder((3, 7, 7, 0, 1), b"\2"), "u w:i t:1", expected="open; 0; 7; 7; ")
+run((59, AMPLE), folder((0, LAST - 1, LAST - 1, 0, 1), b"\2"), "w:i w:i", "t:9 w:i", expected=f"open; {LAST - 1}; spent; open; {LAST - 1}; spent; ")
 run((59, AMPLE), folder((W - 1, 5, 5, 0, 1), b"\2"), "w:i w:i w:i", "u", expected="open; 5; 6; spent; open; 2; ")
-run((59, AMPLE), {"page.0": TWO, HEAD: slot(2**64 - 2, *ALL) + slot(2**64 - 1, *ALL)}, "t:1 a:1-2 m", "t:9 m", expected="open; 1i; 2; open; 2i; 2; ")
+run((59, AMPLE), {"page.0": TWO, HEAD: slot(2**64 - 2, *ALL) + slot(2**64 - 1, *ALL)}, "t:1 a:1-2 m", "t:9 m", expected="open; 1; 2; open; 2; 2; ")
 
 # full only while a row isn't acknowledged
-run((1000, 59), {}, "w:i w:i t:2 a:1-3 w:i w:i", "t:9 a:1-4 w:i", expected="open; 1; 2; 1i 2i; 3; full; open; 1i 2i 3i; 4; ")
+run((1000, 59), {}, "w:i w:i t:2 a:1-3 w:i w:i", "t:9 a:1-4 w:i", expected="open; 1; 2; 1 2; 3; full; open; 1 2 3; 4; ")
 run((30, 60), {}, "w:i w:i w:i", expected="open; 1; 2; full; ")
 run((30, 59), {}, "w:i w:i", expected="open; 1; full; ")
-run((30, 89), {}, "w:i w:i w:i", "t:1 a:1-2 m p w:i", expected="open; 1; 2; full; open; 1i; 2; 0; 3; ")
-run((1000, 1), {}, "w:longer t:1 a:1-2 w:i w:i", expected="open; 1; 1longer; 2; full; ")
+run((30, 89), {}, "w:i w:i w:i", "t:1 a:1-2 m p w:i", expected="open; 1; 2; full; open; 1; 2; 0; 3; ")
+run((1000, 1), {}, "w:longer t:1 a:1-2 w:i w:i", expected="open; 1; 1; 2; full; ")
 
 # files that aren't the queue's, and those of which nothing is found
 others = {name: b"x" for name in ["page.007", "page.00", "page.4294967296", "page.0.old", "page", "page.", "checkpoint.01", "checkpoint.head.old", "out.log", "page.-1"]}
 run((59, AMPLE), others, "u w:i", expected="open; 0; 1; ")
-run((59, AMPLE), fourteen | others, "u t:9 w:i", expected="open; 2; 2i 5i; 6; ")
+run((59, AMPLE), fourteen | others, "u t:9 w:i", expected="open; 2; 2 5; 6; ")
 gone = {name: b"x" for name in ["page.3", "page.10", f"page.{W}", "checkpoint.1", "checkpoint.2", f"checkpoint.{W}"]}
-run((59, AMPLE), fourteen | gone, "u t:9 w:i", expected="open; 2; 2i 5i; 6; ")
+run((59, AMPLE), fourteen | gone, "u t:9 w:i", expected="open; 2; 2 5; 6; ")
 run((59, AMPLE), {"page.0": TWO}, "u w:i", expected="open; 0; 1; ")
 run((59, AMPLE), {"page.0": TWO, HEAD: slot(0, *ALL)[:47]}, "u w:i", expected="open; 0; 1; ")
-run((59, AMPLE), folder(ALL, TWO + THIRD + element(5, body_of(2, "i"))), "u t:9 w:i", expected="open; 3; 1i 2i 3i; 4; ")
+run((59, AMPLE), folder(ALL, TWO + THIRD + element(5, body_of(2, "i"))), "u t:9 w:i", expected="open; 3; 1 2 3; 4; ")
 
 # damage, of a folder of each version
 for version in [1, 2]:
@@ -477,21 +477,21 @@ for version in [1, 2]:
     run((1000, AMPLE), {"page.0": two, HEAD: cut}, "u t:9 w:i", expected="open; 0; none; 1; ")
 
 more = folder((1, 3, 3, 0, 1), b"\2", p0=TWO, c0=slot(0, *ALL))
-run((59, AMPLE), more, "u t:9", expected="open; 2; 1i 2i; ")
+run((59, AMPLE), more, "u t:9", expected="open; 2; 1 2; ")
 run((59, AMPLE), more | {HEAD: b""}, "u", expected=f"q/{HEAD} at 0: 0, not 48; ")
 run((59, AMPLE), more | {HEAD: slot(5, *ALL)}, "u", expected=f"q/{HEAD} at 0: 5, not 4; ")
 run((59, AMPLE), folder((1, 3, 3, 0, 1), b"\2", p0=TWO), "u", expected="q/checkpoint.0 at 0: 0, not 48; ")
 run((59, AMPLE), folder((1, 3, 3, 0, 1), b"\2", p0=TWO, c0=slot(0, *ALL, version=3)), "u", expected="q/checkpoint.0 at 0: 3, not 1; ")
 run((59, AMPLE), folder((1, 2, 2, 0, 1), b"\2", p0=TWO, c0=slot(0, *ALL)), "u", expected="q/page.1 at 0: 2, not 3; ")
-run((59, AMPLE), folder((1, 4, 4, 0, 1), b"\2", p0=TWO, c0=slot(0, *ALL)), "u t:9 w:i", expected="open; 2; 1i 2i; 4; ")
+run((59, AMPLE), folder((1, 4, 4, 0, 1), b"\2", p0=TWO, c0=slot(0, *ALL)), "u t:9 w:i", expected="open; 2; 1 2; 4; ")
 run((59, AMPLE), folder((1, 3, 3, 0, 1), b"", p0=TWO, c0=slot(0, *ALL)), "u", expected="q/page.1 at 0: 0, not 1; ")
 run((59, AMPLE), folder((1, 3, 3, 0, 1), b"\2", p0=TWO[:58], c0=slot(0, *ALL)), "u", expected="q/page.0 at 58: 58, not 59; ")
-run((59, AMPLE), folder((1, 3, 3, 0, 1), b"\2", p0=TWO + b"x", c0=slot(0, *ALL)), "u t:9", expected="open; 2; 1i 2i; ")
+run((59, AMPLE), folder((1, 3, 3, 0, 1), b"\2", p0=TWO + b"x", c0=slot(0, *ALL)), "u t:9", expected="open; 2; 1 2; ")
 
 # a page below the head that others wrote: its slot has another number, and bytes stand behind its rows
 strange = folder((1, 3, 3, 0, 1), b"\2", p0=TWO + THIRD + b"x", c0=slot(0, 7, *ALL[1:]))
-run((59, AMPLE), strange, "u t:1 a:1-2 m", "u t:9 a:2-3 w:i m p", "u t:9", expected="open; 2; 1i; 2; open; 1; 2i; 3; 3; 0; open; 1; 3i; ")
-run((59, AMPLE), strange, "w:i w:i w:i t:9 a:1-6 m p p", "u w:i", expected="open; 3; 4; 5; 1i 2i 3i 4i 5i; 5; 0; 1; open; 0; 6; ")
+run((59, AMPLE), strange, "u t:1 a:1-2 m", "u t:9 a:2-3 w:i m p", "u t:9", expected="open; 2; 1; 2; open; 1; 2; 3; 3; 0; open; 1; 3; ")
+run((59, AMPLE), strange, "w:i w:i w:i t:9 a:1-6 m p p", "u w:i", expected="open; 3; 4; 5; 1 2 3 4 5; 5; 0; 1; open; 0; 6; ")
 
 # ---- a stop at each change, and a call that fails
 

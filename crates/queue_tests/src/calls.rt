@@ -5,10 +5,9 @@ ghost use Rattle.queue_core.specs.Opens.{IsReady, IsSlotted};
 
 use crate::files::add_damage;
 use crate::queues::FOLDER;
-use element_code::Origin;
 use event_tree::Event;
 use io_traits::{QueueFault, Store};
-use queue_core::{Limits, Numbers, Queue, QueueRow, WriteFault};
+use queue_core::{Limits, Numbers, Queue, WriteFault};
 use std::alloc::AllocError;
 
 /// How many bytes an origin may have.
@@ -125,14 +124,10 @@ fn add_batch<S: Store>(
     Ok(true)
 }
 
-fn add_rows(to: &mut String, rows: &[QueueRow]) -> Result<(), AllocError> {
+fn add_rows(to: &mut String, rows: &[u64]) -> Result<(), AllocError> {
     for (at, row) in rows.iter().enumerate() {
         to.push_str(if at > 0 { " " } else { "" })?;
-        let origin = match &row.origin {
-            Origin::Unknown => "?",
-            Origin::Id(id) => id.as_str(),
-        };
-        write!(to, "{}{origin}", row.number)?;
+        write!(to, "{row}")?;
     }
     to.push_str("; ")
 }

@@ -7,20 +7,15 @@ use history_judges::{Fault, Judged};
 use io_memory::{FileTable, Script, bytes_in, copy};
 use io_traits::QueueFault;
 use plain_data::Items;
-use queue_core::{Limits, Queue, QueueRow};
-use queue_files::{OpenedQueue, open_folder};
+use queue_core::{BatchReader, QueueRow};
+use queue_files::{OpenedQueue, open_folder, page_name};
+use queue_page::{BLOCK_LEN, Page, PageBuffer};
 use slot_files::{Recorded, read_position};
 use std::alloc::Global;
 use store_memory::MemoryStore;
 
-/// What a queue may hold where it is opened to be read alone.
-const LIMITS: Limits = Limits {
-    page_capacity: 1_048_576,
-    max_bytes: u64::MAX,
-};
-
-/// How many rows are read at once.
-const MOST: u32 = 1024;
+/// The place of the first row in the file of a page.
+const FIRST_PLACE: u64 = 1;
 
 /// What the folder of a queue holds.
 #[derive(Drop)]
@@ -42,13 +37,9 @@ pub fn found_rows(image: &FileTable, folder: &str) -> Judged<Option<FoundRows>> 
     let Some(opened) = unless_damaged(open_folder(image.allocator(), &mut store, folder))? else {
         return Ok(None);
     };
-    let Some(queue) = unless_damaged(Queue::open_on(image.allocator(), &mut store, folder, LIMITS))?
-    else {
-        return Ok(None);
-    };
     let (next, recorded) = numbers_of(&opened);
     Ok(Some(FoundRows {
-        rows: rows_of(image.allocator(), &mut store, queue)?,
+        rows: rows_of(image.allocator(), &mut store, folder, &opened)?,
         next,
         recorded,
     }))
@@ -65,18 +56,51 @@ fn numbers_of(opened: &OpenedQueue) -> (u64, u64) {
     (next, recorded)
 }
 
-// The rows that a queue gives, up to the last.
-fn rows_of(alloc: Global, store: &mut MemoryStore, queue: Queue) -> Judged<Items<QueueRow>> {
-    let mut left = queue;
+// The rows of all pages that aren't recorded as acknowledged, in order.
+fn rows_of(
+    alloc: Global,
+    store: &mut MemoryStore,
+    folder: &str,
+    opened: &OpenedQueue,
+) -> Judged<Items<QueueRow>> {
     let mut rows = Items::new(alloc);
-    for _ in 0..u64::MAX {
-        match unless_damaged(left.take_batch(alloc, store, MOST))? {
-            Some(Some(batch)) => rows.append(batch.rows)?,
-            Some(None) => return Ok(rows),
-            None => return Err(Fault::Memory),
-        }
+    let sealed = opened.pages.tails.as_slice();
+    for (tail, page) in sealed.iter().zip(opened.pages.pages.iter()) {
+        let from = tail.state.first_open;
+        rows.append(page_rows(alloc, store, folder, tail.number, page, from)?)?;
     }
-    Err(Fault::Memory)
+    let from = opened.state.first_open;
+    let last = page_rows(alloc, store, folder, opened.state.page, &opened.pages.top, from)?;
+    rows.append(last)?;
+    Ok(rows)
+}
+
+// Those of the page of this number, from a number on.
+fn page_rows(
+    alloc: Global,
+    store: &mut MemoryStore,
+    folder: &str,
+    number: u32,
+    page: &Page,
+    from: u64,
+) -> Judged<Items<QueueRow>> {
+    let state = page.state();
+    if state.least.checked_add(u64::from(state.count)).is_none() {
+        return Err(Fault::Memory);
+    }
+    let name = page_name(alloc, folder, number)?;
+    let mut block = PageBuffer::new(alloc, BLOCK_LEN)?;
+    let mut reader = BatchReader::new(
+        Items::new(alloc),
+        usize::MAX,
+        u64::MAX,
+        state.least,
+        FIRST_PLACE,
+    );
+    match reader.read_page(alloc, store, name.as_str(), page, from, &mut block) {
+        Ok(()) => Ok(reader.rows),
+        Err(_) => Err(Fault::Memory),
+    }
 }
 
 fn unless_damaged<T: Drop>(read: Result<T, QueueFault>) -> Judged<Option<T>> {

@@ -4,17 +4,18 @@ use Rattle.queue_core.specs.Batching.{Finds}
 use Rattle.queue_core.specs.Taking.{Stand, stand, begun, pages_read, AreThere}
 use Rattle.queue_core.specs.Views.{CursorView, OpenPageView}
 use Rattle.queue_core.specs.declared.page_rows.BatchReader.{BatchReader}
+use Rattle.queue_core.specs.declared.taking.RowsRead.{RowsRead}
 use Rattle.queue_core.proofs.PagesRead.{any_view}
 use Rattle.queue_core.proofs.taking.read_from.Goals as goal
 
-pub returns-clause-rows : goal.returns-clause-rows
-returns-clause-rows g c = λ names told there.
+pub returns-in-Ok-clause-rows : goal.returns-in-Ok-clause-rows
+returns-in-Ok-clause-rows g c = λ names told there.
     let old = g.S.Store.seen c.args.store.now in
     let pages : List OpenPageView = c.args.tails.now ++ c.args.top.now ∷ [] in
     let cursor = c.cursor.inside in
     let same = c.cursor.view_is ∙ c.begun-reading.ensures.cursor in
     let made = c.begun-reading.ensures.reading ∙ ap (λ (cur : CursorView). (begun c.args.most cur).reading) (sym same) in
-    subst (λ (cur : CursorView). AreThere names old cur.page cur.block pages → pages_read old pages (begun c.args.most cur) ≡ Ok (stand c.read_all.new.page c.read_all.new.reading)) same
+    subst (λ (cur : CursorView). AreThere names old cur.page cur.block pages → pages_read old pages (begun c.args.most cur) ≡ Ok (stand c.read_rows.new.page c.in-Ok.read.reading)) same
     (λ there. ap (λ (r : BatchReader). pages_read old pages (stand cursor.page r)) (sym made)
     ∙ c.in-Ok.ensures.rows names told (subst (λ (b : PageBufferView). AreThere names old cursor.page b pages) (sym c.replace-block.ensures.value) there)) there
 
@@ -26,9 +27,9 @@ returns-in-Err-clause-rows g c = λ names told there.
     let same = c.cursor.view_is ∙ c.begun-reading.ensures.cursor in
     let made = c.begun-reading.ensures.reading ∙ ap (λ (cur : CursorView). (begun c.args.most cur).reading) (sym same) in
     let fault = c.in-Err.fault in
-    let view : Unit {0} → Stand = λ x. stand c.read_all.new.page c.read_all.new.reading in
+    let view : RowsRead → Stand = λ read. stand c.read_rows.new.page read.reading in
     let lost = subst (λ (cur : CursorView). AreThere names old cur.page cur.block pages → Finds view (Err fault) (pages_read old pages (begun c.args.most cur))) same
     (λ there. subst (λ (r : BatchReader). Finds view (Err fault) (pages_read old pages (stand cursor.page r))) made
     (c.in-Err.ensures.rows names told (subst (λ (b : PageBufferView). AreThere names old cursor.page b pages) (sym c.replace-block.ensures.value) there))) there in
-    let other : BatchReader → Stand = λ r. stand cursor.page r in
+    let other : RowsRead → Stand = λ read. stand cursor.page read.reading in
     any_view old view other fault (pages_read old pages (begun c.args.most c.args.cursor.now)) lost
