@@ -20,7 +20,7 @@ use Rattle.pipeline_bus.specs.declared.link.LinkSender.{LinkSender}
 use Rattle.dead_letters.specs.Found.{Held, found}
 use Rattle.dead_letters.specs.Opening.{HoldsStill, LeavesHeld}
 use Rattle.dead_letters.specs.Queues.{Role, segment, names, position, name_in}
-use Rattle.dead_letters.specs.Rows.{AnswersRows, rows_of}
+use Rattle.dead_letters.specs.Rows.{Answers, rows_of}
 use Rattle.dead_letters.specs.Segments.{counted_in}
 use Rattle.dead_letters.specs.Views.{IsOwn}
 use Rattle.dead_letters.specs.declared.segments.Counted.{Counted}
@@ -32,12 +32,12 @@ use Rattle.dead_letter_reader.specs.Opening.{AreAll, IsDamaged, LeavesQueue, let
 
 -- ---- letters
 
-module _ (folder q_folder : List ℕ) (content : Content) (held : Held) (r : Result (List DeadRow) QueueFault) (same : q_folder ≡ folder) (found_is : found folder content ≡ Ok held) (answers : AnswersRows r (rows_of q_folder held)) where
+module _ (folder q_folder : List ℕ) (content : Content) (held : Held) (r : Result (List DeadRow) QueueFault) (same : q_folder ≡ folder) (found_is : found folder content ≡ Ok held) (answers : Answers r (rows_of q_folder held)) where
   pub all_found : (rows : List DeadRow) → r ≡ Ok rows → AreAll folder content rows
-  all_found rows is = record { held = held; found_is = found_is; are = subst (λ n. rows_of n held ≡ Ok rows) same (subst (λ x. AnswersRows x (rows_of q_folder held)) is answers) }
+  all_found rows is = record { held = held; found_is = found_is; are = subst (λ n. rows_of n held ≡ Ok rows) same (subst (λ x. Answers x (rows_of q_folder held)) is answers) }
 
   pub one_damaged : (d : Damage) → r ≡ Err (f.Damaged d) → IsDamaged folder content d
-  one_damaged d is = letter held found_is (subst (λ n. rows_of n held ≡ Err d) same (subst (λ x. AnswersRows x (rows_of q_folder held)) is answers))
+  one_damaged d is = letter held found_is (subst (λ n. rows_of n held ≡ Err d) same (subst (λ x. Answers x (rows_of q_folder held)) is answers))
 
 pub if_all : {X : Type 0} (P : List DeadRow → Type 0) (r : Result (List DeadRow) X) → ((rows : List DeadRow) → r ≡ Ok rows → P rows) → IfOk r P
 if_all P (Ok rows) each = each rows refl

@@ -3,15 +3,15 @@ use Rattle.std.proofs.Common.{◌≡◌, ⊎_elim, ℕ, zero, suc, ◌+◌, ◌-
 use Rattle.std.proofs.lemmas.Bool.{cond-true, cond-false, cases_Bool}
 use Rattle.std.proofs.lemmas.Bool.Decides.{nat_tests}
 use Rattle.io_traits.specs.declared.queue_faults.Damage.{Damage}
-use Rattle.dead_letters.specs.Letters.{letter_body}
+use Rattle.dead_letters.specs.Letters.{letter_body, size_of}
 use Rattle.dead_letters.specs.Queues.{segment, name_in}
 use Rattle.dead_letters.specs.Records.{records_in}
-use Rattle.dead_letters.specs.Found.{Held, in_file}
-use Rattle.dead_letters.specs.Appends.{size_of}
-use Rattle.dead_letters.specs.Rows.{placed, placed_in, row, rows_from, rows_of, rows_then}
+use Rattle.dead_letters.specs.Found.{Held}
+use Rattle.dead_letters.specs.Rows.{followed_by, in_file, placed, placed_in, row, rows_from, rows_of}
 use Rattle.dead_letters.proofs.RecordReads.{length-record_of}
 use Rattle.dead_letters.specs.declared.segments.Counted.{Counted}
 use Rattle.dead_letters.specs.declared.letter.DeadLetter.{DeadLetter}
+use Rattle.dead_letters.specs.declared.faults.RecordFault.{RecordFault}
 use Rattle.dead_letters.specs.declared.rows.DeadRow.{DeadRow}
 use Rattle.dead_letter_reader.specs.Places.{AllBehind, Passes, Rise, is_behind, place, place_at, place_in, rows_behind}
 use Rattle.dead_letter_reader.specs.Steps.{recorded_at}
@@ -70,19 +70,19 @@ placed_from n before (l ∷ ls) more from = (omega arith, placed_from n (before 
 abbrev RiseFrom : ℕ → List DeadRow → Type 0
 RiseFrom n rows = StandFrom n rows × Rise rows
 
-then_rise : (n : ℕ) (own : Result (List DeadLetter) Damage) (rest : Result (List DeadRow) Damage) (all : List DeadRow) → ((more : List DeadRow) → rest ≡ Ok more → RiseFrom (suc n) more)
-    → rows_then (placed_in n own) rest ≡ Ok all → RiseFrom n all
-then_rise n (Ok ls) (Ok more) all later is =
+then_rise : (n : ℕ) (file : List ℕ) (own : Result (List DeadLetter) RecordFault) (rest : Result (List DeadRow) Damage) (all : List DeadRow) → ((more : List DeadRow) → rest ≡ Ok more → RiseFrom (suc n) more)
+    → followed_by (in_file file (placed_in n own)) rest ≡ Ok all → RiseFrom n all
+then_rise n file (Ok ls) (Ok more) all later is =
     let r = later more refl in
     let same : placed n 0 ls ++ more ≡ all = cc in
     subst (RiseFrom n) same (placed_from n 0 ls more r.0, placed_rise n 0 ls more r.0 r.1)
-then_rise n (Ok ls) (Err d) all later is = absurd cc
-then_rise n (Err d) rest all later is = absurd cc
+then_rise n file (Ok ls) (Err d) all later is = absurd cc
+then_rise n file (Err at) rest all later is = absurd cc
 
 from_rise : (folder : List ℕ) (n : ℕ) (segments : List (List ℕ)) (all : List DeadRow) → rows_from folder n segments ≡ Ok all → RiseFrom n all
 from_rise folder n [] all is = let same : [] ≡ all = cc in subst (RiseFrom n) same (tt, tt)
 from_rise folder n (bytes ∷ rest) all is =
-    then_rise n (in_file (name_in folder (segment n)) (records_in bytes)) (rows_from folder (suc n) rest) all (from_rise folder (suc n) rest) is
+    then_rise n (name_in folder (segment n)) (records_in bytes) (rows_from folder (suc n) rest) all (from_rise folder (suc n) rest) is
 
 pub letters_rise : (folder : List ℕ) (h : Held) (all : List DeadRow) → rows_of folder h ≡ Ok all → Rise all
 letters_rise folder h all is = (from_rise folder h.first h.segments all is).1

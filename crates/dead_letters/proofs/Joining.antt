@@ -10,11 +10,11 @@ use Rattle.std.proofs.lemmas.List.{map-append, length-map}
 use Rattle.io_traits.specs.Folders.{Content}
 use Rattle.io_traits.specs.Reads.{bytes_of}
 use Rattle.slot_files.specs.Each.{laid}
-use Rattle.dead_letters.specs.Letters.{record_bytes}
+use Rattle.dead_letters.specs.Letters.{record_bytes, size_of}
 use Rattle.dead_letters.specs.Queues.{segment, names, name_in, grown, pieces, cut, joined, behind}
 use Rattle.dead_letters.specs.Segments.{counted_in}
 use Rattle.dead_letters.specs.Found.{bytes_in, cut_from, found_by, found}
-use Rattle.dead_letters.specs.Appends.{size_of, with_records, append_to, kept_from}
+use Rattle.dead_letters.specs.Appends.{with_records, append_to, kept_from}
 use Rattle.dead_letters.specs.Views.{DeadQueue, names_from, last_of, held_last, named, sheds, joining, taken_by, sizes_with, behind_append}
 use Rattle.dead_letters.specs.Ready.{files_from, held_now, IsSaid}
 use Rattle.dead_letters.specs.declared.letter.DeadLetter.{DeadLetter}

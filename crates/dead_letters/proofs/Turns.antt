@@ -1,17 +1,12 @@
--- One turn of each loop: over letters, over names, and over segments.
-use Rattle.std.proofs.Common.{◌≡◌, ℕ, suc, ◌+◌, ◌≤◌, List, [], ◌∷◌, ◌++◌, length, map, take, drop, get_or, Result, Ok, Err, refl, sym, ap, ◌∙◌, arith}
+-- One turn of each loop: over letters, over names, and over files.
+use Rattle.std.proofs.Common.{◌≡◌, ℕ, suc, ◌+◌, List, [], ◌∷◌, ◌++◌, length, map, drop, get_or, sym, ap, ◌∙◌, refl, arith}
 use Rattle.std.specs.List.{sum}
 use Rattle.std.proofs.Math.Path.{ap₂}
-use Rattle.std.proofs.lemmas.List.{append_assoc, append-nil, drop_all, take_all}
+use Rattle.std.proofs.lemmas.List.{append_assoc, take_all}
 use Rattle.io_traits.specs.Folders.{Content}
-use Rattle.io_traits.specs.declared.queue_faults.Damage.{Damage}
-use Rattle.io_traits.specs.declared.queue_faults.QueueFault.{QueueFault}
-use Rattle.io_traits.specs.declared.queue_faults.QueueFault.TheVariants as f
-use Rattle.dead_letters.specs.Letters.{record_bytes}
+use Rattle.dead_letters.specs.Letters.{record_bytes, size_of}
 use Rattle.dead_letters.specs.Queues.{segment, name_in, joined}
-use Rattle.dead_letters.specs.Records.{records_in}
-use Rattle.dead_letters.specs.Found.{bytes_in, in_file, in_front, letters_then, letters_from, fronts_from, Answers}
-use Rattle.dead_letters.specs.Appends.{size_of}
+use Rattle.dead_letters.specs.Found.{bytes_in, fronts_from}
 use Rattle.dead_letters.specs.Views.{names_from}
 use Rattle.dead_letters.specs.Ready.{files_from}
 use Rattle.dead_letters.specs.declared.letter.DeadLetter.{DeadLetter}
@@ -46,32 +41,6 @@ one_measured folder c n k m j made items whole size some next pushed is so_far =
     ∙ sym (ap (λ i. made ++ map length (files_from folder c n i)) some) ∙ so_far
 
 -- ---- segments
-
-in_front_both : (ls more : List DeadLetter) (r : Result (List DeadLetter) Damage) → in_front ls (in_front more r) ≡ in_front (ls ++ more) r
-in_front_both ls more (Ok rest) = ap Ok (sym (append_assoc ls more rest))
-in_front_both ls more (Err d) = refl
-
-module _ (folder : List ℕ) (c : Content) (n m s : ℕ) (sizes rest : List ℕ) (next : m ≡ suc n) (split : sizes ≡ s ∷ rest) (ls : List DeadLetter) (whole : Result (List DeadLetter) Damage)
-    (so_far : whole ≡ in_front ls (letters_from folder n (fronts_from folder c n sizes))) where
-  abbrev own : Result (List DeadLetter) Damage
-  own = in_file (name_in folder (segment n)) (records_in (take s (bytes_in folder c n)))
-
-  opened_up : whole ≡ in_front ls (letters_then own (letters_from folder m (fronts_from folder c m rest)))
-  opened_up = so_far ∙ ap (λ l. in_front ls (letters_from folder n (fronts_from folder c n l))) split ∙ ap (λ k. in_front ls (letters_then own (letters_from folder k (fronts_from folder c k rest)))) (sym next)
-
-  pub segment_read : (more items : List DeadLetter) → own ≡ Ok more → items ≡ ls ++ more → whole ≡ in_front items (letters_from folder m (fronts_from folder c m rest))
-  segment_read more items is pushed =
-      opened_up ∙ ap (λ r. in_front ls (letters_then r (letters_from folder m (fronts_from folder c m rest)))) is ∙ in_front_both ls more (letters_from folder m (fronts_from folder c m rest))
-      ∙ ap (λ l. in_front l (letters_from folder m (fronts_from folder c m rest))) (sym pushed)
-
-  pub segment_lost : (fault : QueueFault) → Answers (Err fault) own → Answers (Err fault) whole
-  segment_lost (f.Damaged d) is = opened_up ∙ ap (λ r. in_front ls (letters_then r (letters_from folder m (fronts_from folder c m rest)))) is
-  segment_lost f.Fault is = tt
-  segment_lost f.Memory is = tt
-
-pub segments_end : (folder : List ℕ) (c : Content) (n i : ℕ) (sizes : List ℕ) (ls : List DeadLetter) (whole : Result (List DeadLetter) Damage) → length sizes ≤ i
-    → whole ≡ in_front ls (letters_from folder n (fronts_from folder c n (drop i sizes))) → whole ≡ Ok ls
-segments_end folder c n i sizes ls whole past so_far = so_far ∙ ap (λ l. in_front ls (letters_from folder n (fronts_from folder c n l))) (drop_all i sizes past) ∙ ap Ok (append-nil ls)
 
 -- so many bytes of each are all that it has
 pub fronts_are : (folder : List ℕ) (c : Content) (n : ℕ) (sizes : List ℕ) → map length (files_from folder c n (length sizes)) ≡ sizes → fronts_from folder c n sizes ≡ files_from folder c n (length sizes)

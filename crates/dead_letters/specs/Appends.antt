@@ -2,10 +2,11 @@
 use Rattle.std.specs.Prelude.{◌≡◌, ℕ, suc, ◌+◌, ◌==◌, List, [], ◌∷◌, ◌++◌, length, map, drop, All, Ok, if◌then◌else◌, ⊤}
 use Rattle.settings_lines.specs.declared.settings.Policy.{Policy}
 use Rattle.crc_frame.specs.Bytes.{IsBytes}
-use Rattle.dead_letters.specs.Letters.{FitsRecord, AreLetters, record_bytes}
+use Rattle.dead_letters.specs.Letters.{FitsRecord, AreLetters, record_bytes, size_of}
 use Rattle.dead_letters.specs.Queues.{grown}
 use Rattle.dead_letters.specs.Shedding.{shed}
-use Rattle.dead_letters.specs.Found.{Held, letters_from, letters_of}
+use Rattle.dead_letters.specs.Found.{Held}
+use Rattle.dead_letters.specs.Rows.{letters_from, letters_of}
 use Rattle.dead_letters.specs.declared.letter.DeadLetter.{DeadLetter}
 use Rattle.dead_letters.specs.declared.shedding.Shedding.{Shedding}
 
@@ -20,10 +21,6 @@ abbrev pub with_records : ℕ → ℕ → List (List ℕ) → List (List ℕ) �
 with_records limit n [] records = grown limit n [] records
 with_records limit n (s ∷ []) records = grown limit n s records
 with_records limit n (s ∷ t ∷ rest) records = s ∷ with_records limit (suc n) (t ∷ rest) records
-
--- how many bytes the record of a letter has
-abbrev pub size_of : DeadLetter → ℕ
-size_of l = length (record_bytes l)
 
 -- the records of letters can be written
 abbrev pub AllFit : List DeadLetter → Type 0

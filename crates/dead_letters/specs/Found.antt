@@ -1,5 +1,5 @@
 -- What a folder holds, as a queue of dead letters: the number of its oldest segment, and the bytes of each one, or how it is damaged.
-use Rattle.std.specs.Prelude.{◌≡◌, ◌≢◌, ℕ, zero, suc, ◌-◌, nat_lt, List, [], ◌∷◌, ◌++◌, length, take, Result, Ok, Err, if◌then◌else◌, ⊤}
+use Rattle.std.specs.Prelude.{◌≡◌, ◌≢◌, ℕ, zero, suc, ◌-◌, nat_lt, List, [], ◌∷◌, length, take, Result, Ok, Err, if◌then◌else◌, ⊤}
 use Rattle.io_traits.specs.Folders.{Content}
 use Rattle.io_traits.specs.Reads.{bytes_of}
 use Rattle.io_traits.specs.declared.queue_faults.Damage.{Damage}
@@ -8,12 +8,9 @@ use Rattle.io_traits.specs.declared.queue_faults.QueueFault.TheVariants as f
 use Rattle.slot_files.specs.Contents.{damage, counted_in as first_version}
 use Rattle.dead_letters.specs.Queues.{segment, names, position, name_in}
 use Rattle.dead_letters.specs.Segments.{segments, counted_in}
-use Rattle.dead_letters.specs.Records.{records_in}
 use Rattle.dead_letters.specs.declared.segments.Segments.{Segments}
 use Rattle.dead_letters.specs.declared.segments.Counted.{Counted}
 use Rattle.dead_letters.specs.declared.segments.Counted.TheVariants.{Nothing, Count, Damaged}
-use Rattle.dead_letters.specs.declared.letter.DeadLetter.{DeadLetter}
-use Rattle.dead_letters.specs.declared.faults.RecordFault.{RecordFault}
 
 -- ---- the segments of a folder
 
@@ -54,43 +51,12 @@ found_by folder content (Damaged there expected) = Err (damage (name_in folder n
 abbrev pub found : List ℕ → Content → Result Held Damage
 found folder content = found_by folder content (counted_in (bytes_of (content (name_in folder names))))
 
--- ---- their letters
-
--- the letters of the file of a name, or its damage
-abbrev pub in_file : List ℕ → Result (List DeadLetter) RecordFault → Result (List DeadLetter) Damage
-in_file file (Ok ls) = Ok ls
-in_file file (Err at) = Err (damage file at.place at.found at.expected)
-
-abbrev pub in_front : List DeadLetter → Result (List DeadLetter) Damage → Result (List DeadLetter) Damage
-in_front ls (Ok rest) = Ok (ls ++ rest)
-in_front ls (Err d) = Err d
-
--- letters, and then others; or the first damage
-abbrev pub letters_then : Result (List DeadLetter) Damage → Result (List DeadLetter) Damage → Result (List DeadLetter) Damage
-letters_then (Ok ls) rest = in_front ls rest
-letters_then (Err d) rest = Err d
-
--- the letters of the segment of a number and of those behind it
-abbrev pub letters_from : List ℕ → ℕ → List (List ℕ) → Result (List DeadLetter) Damage
-letters_from folder n [] = Ok []
-letters_from folder n (bytes ∷ rest) = letters_then (in_file (name_in folder (segment n)) (records_in bytes)) (letters_from folder (suc n) rest)
-
-abbrev pub letters_of : List ℕ → Held → Result (List DeadLetter) Damage
-letters_of folder h = letters_from folder h.first h.segments
-
--- ---- what is answered
-
--- the letters are these, or the first damage is this, where the store and memory lasted
-abbrev pub Answers : Result (List DeadLetter) QueueFault → Result (List DeadLetter) Damage → Type 0
-Answers (Ok ls) read = read ≡ Ok ls
-Answers (Err (f.Damaged d)) read = read ≡ Err d
-Answers (Err f.Fault) read = ⊤
-Answers (Err f.Memory) read = ⊤
-
 -- of each segment from a number on so many bytes
 abbrev pub fronts_from : List ℕ → Content → ℕ → List ℕ → List (List ℕ)
 fronts_from folder content n [] = []
 fronts_from folder content n (s ∷ sizes) = take s (bytes_in folder content n) ∷ fronts_from folder content (suc n) sizes
+
+-- ---- what is answered
 
 -- the store failed, or memory ran out
 abbrev pub IsNoDamage : QueueFault → Type 0

@@ -28,6 +28,10 @@ record_of body = covered body ++ big_bytes 4 (crc32 (covered body))
 abbrev pub record_bytes : DeadLetter → List ℕ
 record_bytes l = record_of (letter_body l)
 
+-- how many bytes the record of a letter has
+abbrev pub size_of : DeadLetter → ℕ
+size_of l = length (record_bytes l)
+
 -- a letter: three texts, a moment of the calendar, and an event of at most 16,777,216 bytes
 pub record IsLetter (l : DeadLetter) : Type 0 where
   pub kind : IsUtf8 l.kind

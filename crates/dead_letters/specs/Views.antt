@@ -7,7 +7,8 @@ use Rattle.crc_frame.specs.Slots.{next_turn}
 use Rattle.dead_letters.specs.Queues.{Role, segment, name_in, IsRole, pieces}
 use Rattle.dead_letters.specs.Segments.{segments}
 use Rattle.dead_letters.specs.Shedding.{shed}
-use Rattle.dead_letters.specs.Appends.{kept_from, size_of}
+use Rattle.dead_letters.specs.Appends.{kept_from}
+use Rattle.dead_letters.specs.Letters.{size_of}
 use Rattle.dead_letters.specs.declared.segments.Segments.{Segments}
 use Rattle.dead_letters.specs.declared.letter.DeadLetter.{DeadLetter}
 use Rattle.dead_letters.specs.declared.shedding.Shedding.{Shedding}

@@ -1,50 +1,21 @@
 // The letters of a queue, read segment by segment.
-ghost use Rattle.std.specs.Prelude.{◌≡◌, ◌≤◌, ◌<◌, ◌+◌, ◌^◌, IsTrue, Err, length, take, IfOk, IfErr};
+ghost use Rattle.std.specs.Prelude.{◌≡◌, ◌≤◌, ◌+◌, ◌^◌, IsTrue, Err, length, take, IfOk, IfErr};
 ghost use Rattle.io_traits.specs.Counts.{HasCause};
 ghost use Rattle.io_traits.specs.Reads.{bytes_of};
 ghost use Rattle.io_traits.specs.Calls.{ChangesNothing};
 ghost use Rattle.io_traits.specs.declared.queue_faults.QueueFault.TheVariants as f;
-ghost use Rattle.dead_letters.specs.Found.{Answers, IsNoDamage, bytes_in, fronts_from, in_file, letters_from};
-ghost use Rattle.dead_letters.specs.Letters.{AreLetters, segment_bytes};
+ghost use Rattle.dead_letters.specs.Found.{IsNoDamage, bytes_in, fronts_from};
 ghost use Rattle.dead_letters.specs.Queues.{name_in, segment};
 ghost use Rattle.dead_letters.specs.Records.{Told, records_in};
-ghost use Rattle.dead_letters.specs.Rows.{AnswersRows, placed_in, rows_from};
+ghost use Rattle.dead_letters.specs.Rows.{Answers, in_file, placed_in, rows_from};
 
 use crate::faults::{ReadFault, RecordFault};
-use crate::letter::Letters;
 use crate::queue::segment_name;
 use crate::records::read_records;
 use crate::rows::{DeadRows, placed};
 use event_tree::{Items, Text};
 use io_traits::{Damage, QueueFault, Store};
 use std::alloc::Global;
-
-/// The letters in so many bytes of each of these segments, from a number on.
-pub(crate) fn read_letters<S: Store>(
-    alloc: Global,
-    store: &mut S,
-    folder: &str,
-    first: u32,
-    sizes: &[u64],
-) -> Result<Letters, QueueFault>
-    requires { first + length sizes.now ≤ 2 ^ 32 }
-    ensures letters { IsTrue S.tells → Answers result
-        (letters_from folder.now first (fronts_from folder.now (S.seen store.old) first sizes.now)) }
-    ensures same { ChangesNothing S.tells S.seen S.moment S.may_leave store.old store.new }
-    ensures cause { HasCause (S.faults store.old) (S.faults store.new) (result ≡ Err f.Fault) }
-{
-    let mut letters = Items::new(alloc);
-    for (place, size) in sizes.iter().enumerate() {
-        match read_segment(alloc, store, folder, first + place as u32, *size) {
-            Ok(more) => match letters.append(more) {
-                Ok(()) => {}
-                Err(_) => return Err(QueueFault::Memory),
-            },
-            Err(fault) => return Err(fault),
-        }
-    }
-    Ok(letters)
-}
 
 /// The letters in so many bytes of each of these segments, from a number on, with their places.
 pub(crate) fn read_rows<S: Store>(
@@ -55,14 +26,14 @@ pub(crate) fn read_rows<S: Store>(
     sizes: &[u64],
 ) -> Result<DeadRows, QueueFault>
     requires { first + length sizes.now ≤ 2 ^ 32 }
-    ensures rows { IsTrue S.tells → AnswersRows result
+    ensures rows { IsTrue S.tells → Answers result
         (rows_from folder.now first (fronts_from folder.now (S.seen store.old) first sizes.now)) }
     ensures same { ChangesNothing S.tells S.seen S.moment S.may_leave store.old store.new }
     ensures cause { HasCause (S.faults store.old) (S.faults store.new) (result ≡ Err f.Fault) }
 {
     let mut rows = Items::new(alloc);
     for (place, size) in sizes.iter().enumerate() {
-        match read_segment_rows(alloc, store, folder, first + place as u32, *size) {
+        match read_segment(alloc, store, folder, first + place as u32, *size) {
             Ok(more) => match rows.append(more) {
                 Ok(()) => {}
                 Err(_) => return Err(QueueFault::Memory),
@@ -74,56 +45,34 @@ pub(crate) fn read_rows<S: Store>(
 }
 
 // The letters in so many bytes of a segment, with their places.
-fn read_segment_rows<S: Store>(
-    alloc: Global,
-    store: &mut S,
-    folder: &str,
-    number: u32,
-    size: u64,
-) -> Result<DeadRows, QueueFault>
-    ensures rows { IsTrue S.tells → AnswersRows result (placed_in number (in_file
-        (name_in folder.now (segment number))
-        (records_in (take size (bytes_in folder.now (S.seen store.old) number))))) }
-    ensures same { ChangesNothing S.tells S.seen S.moment S.may_leave store.old store.new }
-    ensures cause { HasCause (S.faults store.old) (S.faults store.new) (result ≡ Err f.Fault) }
-{
-    let letters = read_segment(alloc, store, folder, number, size)?;
-    let rows = placed(alloc, number, letters)?;
-    Ok(rows)
-}
-
-// The letters in so many bytes of a segment.
 fn read_segment<S: Store>(
     alloc: Global,
     store: &mut S,
     folder: &str,
     number: u32,
     size: u64,
-) -> Result<Letters, QueueFault>
-    ensures letters { IsTrue S.tells → Answers result (in_file (name_in folder.now (segment number))
-        (records_in (take size (bytes_in folder.now (S.seen store.old) number)))) }
-    ensures spelled { IfOk result AreLetters }
-    ensures room { IfOk result (λ letters. length (segment_bytes letters) < 2 ^ 63) }
+) -> Result<DeadRows, QueueFault>
+    ensures rows { IsTrue S.tells → Answers result (in_file (name_in folder.now (segment number))
+        (placed_in number (records_in (take size (bytes_in folder.now (S.seen store.old) number))))) }
     ensures same { ChangesNothing S.tells S.seen S.moment S.may_leave store.old store.new }
     ensures cause { HasCause (S.faults store.old) (S.faults store.new) (result ≡ Err f.Fault) }
 {
     let name = segment_name(alloc, folder, number)?;
     let bytes = read_front(alloc, store, name.as_str(), size)?;
-    match letters_in(alloc, &bytes) {
-        Ok(letters) => Ok(letters),
+    match rows_in(alloc, number, &bytes) {
+        Ok(rows) => Ok(rows),
         Err(ReadFault::At(fault)) => Err(damaged(name, fault)),
         Err(ReadFault::Memory) => Err(QueueFault::Memory),
     }
 }
 
-// The letters of which these bytes are the records, which fit records.
-fn letters_in(alloc: Global, bytes: &[u8]) -> Result<Letters, ReadFault>
-    ensures letters { Told (λ letters. letters) result (records_in bytes.now) }
-    ensures spelled { IfOk result AreLetters }
-    ensures room { IfOk result (λ letters. length (segment_bytes letters) < 2 ^ 63) }
+// The letters of which these bytes of the segment of a number are the records, with their places.
+fn rows_in(alloc: Global, number: u32, bytes: &[u8]) -> Result<DeadRows, ReadFault>
+    ensures { Told (λ rows. rows) result (placed_in number (records_in bytes.now)) }
 {
     let letters = read_records(alloc, bytes)?;
-    Ok(letters)
+    let rows = placed(alloc, number, letters)?;
+    Ok(rows)
 }
 
 // The first bytes of a file.

@@ -1,8 +1,8 @@
 // New letters as records.
 ghost use Rattle.std.specs.Prelude.{◌≡◌, ◌<◌, ◌^◌, ◌==◌, ◌&&◌, IsTrue, IfOk, get_or, length, map, nat_lt};
 ghost use Rattle.std.specs.List.{sum};
-ghost use Rattle.dead_letters.specs.Appends.{AllFit, kept_from, size_of};
-ghost use Rattle.dead_letters.specs.Letters.{record_bytes};
+ghost use Rattle.dead_letters.specs.Appends.{AllFit, kept_from};
+ghost use Rattle.dead_letters.specs.Letters.{record_bytes, size_of};
 ghost use Rattle.dead_letters.specs.Queues.{joined};
 
 use crate::letter::DeadLetter;

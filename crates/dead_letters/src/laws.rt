@@ -7,7 +7,7 @@ ghost use Rattle.dead_letters.specs.Places.{PlacesAreExact};
 ghost use Rattle.dead_letters.specs.Queues.{NamesDiffer, PiecesMakeSegments};
 ghost use Rattle.dead_letters.specs.Ready.{HoldsBeside, StaysReady};
 ghost use Rattle.dead_letters.specs.Records.{RecordsAreReadBack, RecordsAreSpelled};
-ghost use Rattle.dead_letters.specs.Rows.{RowsHaveTheLetters};
+ghost use Rattle.dead_letters.specs.Rows.{LettersBySegments};
 ghost use Rattle.dead_letters.specs.Segments.{CountedHaveRoom, DamagesDiffer};
 ghost use Rattle.dead_letters.specs.Shedding.{FewestSegmentsLeave};
 
@@ -63,10 +63,10 @@ pub fn appended_letters_are_read()
     ensures { AppendedAreRead }
 {}
 
-/// The letters that are read with their places are those that are read without, in the same order, and a
-/// queue is damaged for both alike.
-pub fn rows_have_the_letters()
-    ensures { RowsHaveTheLetters }
+/// The letters of a queue are those that the records of its segments say, one segment behind the other; or the
+/// first damage among these.
+pub fn letters_are_read_by_segments()
+    ensures { LettersBySegments }
 {}
 
 /// Whatever a stop leaves while others change files of their own, a queue that was ready holds what it held;

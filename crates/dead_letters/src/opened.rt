@@ -7,24 +7,25 @@ ghost use Rattle.io_traits.specs.Calls.{ChangesNothing};
 ghost use Rattle.io_traits.specs.Moments.{EachMoment, ReadsBeside};
 ghost use Rattle.io_traits.specs.declared.queue_faults.Damage.{Damage as DamageValue};
 ghost use Rattle.io_traits.specs.declared.queue_faults.QueueFault.TheVariants as f;
-ghost use Rattle.dead_letters.specs.Appends.{AllFit, size_of};
+ghost use Rattle.dead_letters.specs.Appends.{AllFit};
+ghost use Rattle.dead_letters.specs.Letters.{size_of};
 ghost use Rattle.dead_letters.specs.Views.{IsOwn, behind_append, holds_all, is_full, sheds};
 ghost use Rattle.dead_letters.specs.Plans.{IsJoining, IsPlan};
 ghost use Rattle.dead_letters.specs.Ready.{AppendLeaves, IsAppended, IsReady, held_now};
 ghost use Rattle.dead_letters.specs.Opening.{IsCleared, LeavesHeld};
-ghost use Rattle.dead_letters.specs.Found.{Answers, found, letters_of};
-ghost use Rattle.dead_letters.specs.Rows.{AnswersRows, rows_of};
+ghost use Rattle.dead_letters.specs.Found.{found};
+ghost use Rattle.dead_letters.specs.Rows.{Answers, letters_of, rows_of};
 ghost use Rattle.dead_letters.specs.declared.faults.DeadFault.TheVariants as d;
 
 use crate::append_plan::{AppendPlan, Joining, names_from, segments_of, sizes_with};
 use crate::appending::carry_out;
-use crate::entries::{read_letters, read_rows};
+use crate::entries::read_rows;
 use crate::faults::DeadFault;
 use crate::keeping::{added_by, kept_records, record_sizes};
 use crate::letter::{DeadLetter, Letters};
 use crate::opening::{OpenedLetters, open_folder};
 use crate::queue::{pieces, slot_name};
-use crate::rows::DeadRows;
+use crate::rows::{DeadRows, without_places};
 use crate::shedding::{Shedding, shed, total};
 use event_tree::{Items, Text};
 use io_traits::{QueueFault, Store};
@@ -171,16 +172,16 @@ impl DeadLetters {
         ensures same { ChangesNothing S.tells S.seen S.moment S.may_leave store.old store.new }
         ensures cause { HasCause (S.faults store.old) (S.faults store.new) (result ≡ Err f.Fault) }
     {
-        let alloc = self.folder.allocator();
-        let sizes = self.sizes.as_slice();
-        read_letters(alloc, store, self.folder.as_str(), self.first, sizes)
+        let rows = self.rows(store)?;
+        let letters = without_places(rows)?;
+        Ok(letters)
     }
 
     /// The letters of the queue in order, each with the place where its record ends, or the first record that
     /// doesn't read, with its file. It reads one segment after the other.
     pub fn rows<S: Store>(&self, store: &mut S) -> Result<DeadRows, QueueFault>
         requires ready { IsReady S.Store self.now store.old }
-        ensures rows { IsTrue S.tells → AnswersRows result
+        ensures rows { IsTrue S.tells → Answers result
             (rows_of self.now.folder (held_now self.now (S.seen store.old))) }
         ensures same { ChangesNothing S.tells S.seen S.moment S.may_leave store.old store.new }
         ensures cause { HasCause (S.faults store.old) (S.faults store.new) (result ≡ Err f.Fault) }

@@ -1,7 +1,7 @@
-// Letters with their places.
+// Letters with their places, and without.
 ghost use Rattle.std.specs.Prelude.{◌≡◌, ◌<◌, ◌^◌, length, IfOk};
 ghost use Rattle.dead_letters.specs.Letters.{AreLetters, segment_bytes};
-ghost use Rattle.dead_letters.specs.Rows.{placed};
+ghost use Rattle.dead_letters.specs.Rows.{placed, without_places};
 
 use crate::letter::{DeadLetter, Letters};
 use event_tree::Items;
@@ -39,4 +39,15 @@ pub(crate) fn placed(alloc: Global, number: u32, letters: Letters) -> Result<Dea
         })?;
     }
     Ok(rows)
+}
+
+/// The letters alone, which are moved. An error is want of memory.
+pub(crate) fn without_places(rows: DeadRows) -> Result<Letters, AllocError>
+    ensures { IfOk result (λ letters. letters ≡ without_places rows) }
+{
+    let mut letters = Items::with_capacity(rows.allocator(), rows.len())?;
+    for row in rows.into_vec() {
+        letters.push(row.letter)?;
+    }
+    Ok(letters)
 }

@@ -14,7 +14,7 @@ use Rattle.pipeline_bus.specs.Parcels.{is_last, ends_with_last}
 use Rattle.pipeline_bus.specs.declared.parcel.Parcel.{Parcel}
 use Rattle.event_flow.specs.Meaning.{Makes, Due, UsesExactly}
 use Rattle.event_flow.specs.Meaning as due
-use Rattle.dead_letters.specs.Appends.{size_of}
+use Rattle.dead_letters.specs.Letters.{size_of}
 use Rattle.dead_letters.specs.Found.{Held}
 use Rattle.dead_letters.specs.declared.letter.DeadLetter.{DeadLetter}
 use Rattle.dead_letters.specs.declared.shedding.Shedding.{Shedding}

@@ -4,8 +4,8 @@ use Rattle.io_traits.specs.Folders.{Content}
 use Rattle.io_traits.proofs.Looking.{nothing_then}
 use Rattle.dead_letters.specs.Queues.{segment, name_in}
 use Rattle.dead_letters.specs.Records.{records_in}
-use Rattle.dead_letters.specs.Found.{bytes_in, fronts_from, in_file}
-use Rattle.dead_letters.specs.Rows.{AnswersRows, placed_in, rows_from}
+use Rattle.dead_letters.specs.Found.{bytes_in, fronts_from}
+use Rattle.dead_letters.specs.Rows.{Answers, in_file, placed_in, rows_from}
 use Rattle.dead_letters.proofs.Placing.{segment_read, segment_lost, segments_end}
 use Rattle.dead_letters.proofs.entries.read_rows.Goals as goal
 
@@ -20,7 +20,7 @@ returns-in-Err-clause-rows g c told =
     let old = g.S.Store.seen c.args.store.now in
     segment_lost folder old n (c.args.first + (at + 1)) (get_or sizes at 0) (drop at sizes) (drop (at + 1) sizes) next (drop_more sizes at 0 c.loop-place-test.true) c.loop-place.rows
     (rows_from folder c.args.first (fronts_from folder old c.args.first sizes)) (inv.so_far told) c.in-Err.fault
-    (subst (λ (s : Content). AnswersRows (Err c.in-Err.fault) (placed_in n (in_file (name_in folder (segment n)) (records_in (take (get_or sizes at 0) (bytes_in folder s n)))))) (inv.same.reads told) (c.in-Err.ensures.rows told))
+    (subst (λ (s : Content). Answers (Err c.in-Err.fault) (in_file (name_in folder (segment n)) (placed_in n (records_in (take (get_or sizes at 0) (bytes_in folder s n)))))) (inv.same.reads told) (c.in-Err.ensures.rows told))
 
 pub loop-place-preserved : goal.loop-place-preserved
 loop-place-preserved g c =
@@ -32,11 +32,11 @@ loop-place-preserved g c =
     let folder = c.args.folder.now in
     let old = g.S.Store.seen c.args.store.now in
     record {
-      same = nothing_then g.S.Store c.args.store.now c.loop-place.store c.read_segment_rows.new.store inv.same c.read_segment_rows.ensures.same;
+      same = nothing_then g.S.Store c.args.store.now c.loop-place.store c.read_segment.new.store inv.same c.read_segment.ensures.same;
       faults = c.in-Ok.ensures.cause.same (λ is. absurd cc) ∙ inv.faults;
       so_far = λ told. segment_read folder old n (c.args.first + (at + 1)) (get_or sizes at 0) (drop at sizes) (drop (at + 1) sizes) next (drop_more sizes at 0 c.loop-place-test.true) c.loop-place.rows
           (rows_from folder c.args.first (fronts_from folder old c.args.first sizes)) (inv.so_far told) c.in-Ok.more c.append.new.self
-          (subst (λ (s : Content). placed_in n (in_file (name_in folder (segment n)) (records_in (take (get_or sizes at 0) (bytes_in folder s n)))) ≡ Ok c.in-Ok.more) (inv.same.reads told) (c.in-Ok.ensures.rows told)) c.in-Ok-append.ensures.ok;
+          (subst (λ (s : Content). in_file (name_in folder (segment n)) (placed_in n (records_in (take (get_or sizes at 0) (bytes_in folder s n)))) ≡ Ok c.in-Ok.more) (inv.same.reads told) (c.in-Ok.ensures.rows told)) c.in-Ok-append.ensures.ok;
     }
 
 pub returns-clause-rows : goal.returns-clause-rows

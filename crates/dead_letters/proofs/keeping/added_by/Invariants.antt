@@ -1,6 +1,6 @@
 use Rattle.std.proofs.Common.{◌≡◌, ◌≤◌, ◌+◌, ◌*◌, ◌^◌, drop, map}
 use Rattle.std.specs.List.{sum}
-use Rattle.dead_letters.specs.Appends.{size_of}
+use Rattle.dead_letters.specs.Letters.{size_of}
 use Rattle.dead_letters.proofs.keeping.added_by.Given as goal
 
 abbrev pub invariant-loop-letter : goal.invariant-loop-letter

@@ -1,8 +1,7 @@
 use Rattle.std.proofs.Common.{◌++◌, drop, map, sym, ap, ◌∙◌}
 use Rattle.std.proofs.lemmas.List.{append-nil, drop_all}
-use Rattle.dead_letters.specs.Letters.{record_bytes}
+use Rattle.dead_letters.specs.Letters.{record_bytes, size_of}
 use Rattle.dead_letters.specs.Queues.{joined}
-use Rattle.dead_letters.specs.Appends.{size_of}
 use Rattle.dead_letters.proofs.Kept.{kept_none}
 use Rattle.dead_letters.proofs.keeping.kept_records.Goals as goal
 

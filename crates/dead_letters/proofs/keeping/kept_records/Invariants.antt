@@ -1,7 +1,7 @@
 use Rattle.std.proofs.Common.{◌≡◌, ◌++◌, drop, map}
-use Rattle.dead_letters.specs.Letters.{record_bytes}
+use Rattle.dead_letters.specs.Letters.{record_bytes, size_of}
 use Rattle.dead_letters.specs.Queues.{joined}
-use Rattle.dead_letters.specs.Appends.{kept_from, size_of}
+use Rattle.dead_letters.specs.Appends.{kept_from}
 use Rattle.dead_letters.proofs.keeping.kept_records.Given as goal
 
 abbrev pub invariant-loop-place : goal.invariant-loop-place

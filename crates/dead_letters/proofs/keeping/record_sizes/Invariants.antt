@@ -1,5 +1,5 @@
 use Rattle.std.proofs.Common.{◌≡◌, ◌++◌, drop, map}
-use Rattle.dead_letters.specs.Appends.{size_of}
+use Rattle.dead_letters.specs.Letters.{size_of}
 use Rattle.dead_letters.proofs.keeping.record_sizes.Given as goal
 
 abbrev pub invariant-loop-letter : goal.invariant-loop-letter

@@ -1,10 +1,10 @@
 use Rattle.std.proofs.Common.{◌≡◌, ◌<◌, ◌≤◌, ◌+◌, ◌-◌, ◌^◌, ℕ, List, length, map, get_or, sym, ap, ◌∙◌, subst, arith}
 use Rattle.std.specs.List.{sum}
 use Rattle.std.proofs.Math.Path.{ap₂}
-use Rattle.dead_letters.specs.Letters.{record_bytes}
+use Rattle.dead_letters.specs.Letters.{record_bytes, size_of}
 use Rattle.dead_letters.specs.Queues.{joined, pieces}
 use Rattle.dead_letters.specs.Shedding.{shed}
-use Rattle.dead_letters.specs.Appends.{kept_from, size_of}
+use Rattle.dead_letters.specs.Appends.{kept_from}
 use Rattle.dead_letters.specs.Plans.{IsJoining}
 use Rattle.dead_letters.specs.Views.{DeadQueue, joining}
 use Rattle.dead_letters.specs.declared.append_plan.Joining.{Joining}

@@ -1,6 +1,6 @@
 use Rattle.std.proofs.Common.{length, sym, ap, subst, arith}
 use Rattle.dead_letters.specs.Found.{fronts_from}
-use Rattle.dead_letters.specs.Rows.{AnswersRows, rows_from, rows_of}
+use Rattle.dead_letters.specs.Rows.{Answers, rows_from, rows_of}
 use Rattle.dead_letters.specs.Ready.{IsReady, held_now}
 use Rattle.dead_letters.specs.Views.{DeadQueue}
 use Rattle.dead_letters.proofs.Turns.{fronts_are}
@@ -16,7 +16,7 @@ returns-clause-rows g c told =
     let old = g.S.Store.seen c.args.store.now in
     let q : DeadQueue = record { folder = c.self.inside.folder; limit = c.self.inside.limit; policy = c.self.inside.policy; turn = c.self.inside.turn; first = c.self.inside.first; sizes = c.self.inside.sizes } in
     let ready = subst (λ q. IsReady g.S.Store q c.args.store.now) (sym c.self.view_is) c.requires.ready in
-    let by_folder = subst (λ f. AnswersRows c.read_rows.result (rows_from f q.first (fronts_from f old q.first c.as_slice-sizes.result.now))) c.as_str.ensures (c.read_rows.ensures.rows told) in
-    let by_sizes = subst (λ l. AnswersRows c.read_rows.result (rows_from q.folder q.first (fronts_from q.folder old q.first l))) c.as_slice-sizes.ensures by_folder in
-    let by_files = subst (λ l. AnswersRows c.read_rows.result (rows_from q.folder q.first l)) (fronts_are q.folder old q.first q.sizes (ready.said told).sizes) by_sizes in
-    subst (λ (s : DeadQueue). AnswersRows c.read_rows.result (rows_of s.folder (held_now s old))) c.self.view_is by_files
+    let by_folder = subst (λ f. Answers c.read_rows.result (rows_from f q.first (fronts_from f old q.first c.as_slice-sizes.result.now))) c.as_str.ensures (c.read_rows.ensures.rows told) in
+    let by_sizes = subst (λ l. Answers c.read_rows.result (rows_from q.folder q.first (fronts_from q.folder old q.first l))) c.as_slice-sizes.ensures by_folder in
+    let by_files = subst (λ l. Answers c.read_rows.result (rows_from q.folder q.first l)) (fronts_are q.folder old q.first q.sizes (ready.said told).sizes) by_sizes in
+    subst (λ (s : DeadQueue). Answers c.read_rows.result (rows_of s.folder (held_now s old))) c.self.view_is by_files
