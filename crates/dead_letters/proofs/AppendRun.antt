@@ -23,7 +23,7 @@ use Rattle.dead_letters.specs.Segments.{counted_in, OldOrNewSegments}
 use Rattle.dead_letters.specs.Found.{bytes_in, found}
 use Rattle.dead_letters.specs.Appends.{append_to}
 use Rattle.dead_letters.specs.Views.{DeadQueue, IsOwn, names_from, last_of, named, sheds, joining, taken_by, behind_append}
-use Rattle.dead_letters.specs.Ready.{files_from, held_now, IsReady, LeavesOldOrNew, IsAppended}
+use Rattle.dead_letters.specs.Ready.{files_from, held_now, AppendLeaves, IsReady, LeavesOldOrNew, IsAppended}
 use Rattle.dead_letters.specs.declared.letter.DeadLetter.{DeadLetter}
 use Rattle.dead_letters.specs.declared.segments.Segments.{Segments}
 use Rattle.dead_letters.specs.declared.segments.Counted.TheVariants.{Count}
@@ -72,11 +72,52 @@ laid_behind (y ∷ ns) (n ∷ sizes) bytes c name =
     by true is x behind = (take n bytes ++ x, behind ∙ ap (λ o. bytes_of o ++ x) (cond-true _ _ _ is) ∙ append_assoc (bytes_of (c name)) (take n bytes) x)
     by false is x behind = (x, behind ∙ ap (λ o. bytes_of o ++ x) (cond-false _ _ _ is))
 
--- what the calls told
+-- ---- what the calls told
+
+-- records are laid behind the files of these names, and once they are
+pub record Lays {S : Type 0} (store : StoreWords S) (old mid : S) (ns : List (List ℕ)) : Type 0 where
+  pub moments : EachMoment store old mid (AltersEach store ns (KeepsBytes (store.seen old)) old)
+  pub beside : ReadsBeside store (Contains ns) old mid
+
 pub record WasLaid {S : Type 0} (store : StoreWords S) (old mid : S) (ns : List (List ℕ)) (sizes bytes : List ℕ) : Type 0 where
+  pub lays : Lays store old mid ns
   pub reads : IsTrue store.tells → (name : List ℕ) → store.seen mid name ≡ laid ns sizes bytes (store.seen old) name
   pub rests : AllRest store mid
-  pub beside : ReadsBeside store (Contains ns) old mid
+
+-- they are those of letters, behind the segments of a queue
+abbrev pub LaidFor : {S : Type 0} → StoreWords S → DeadQueue → List DeadLetter → S → S → Type 0
+LaidFor store q letters old mid = WasLaid store old mid (names_from q.folder (last_of q) (length (taken_by q (joining q letters)))) (taken_by q (joining q letters)) (joined (map record_bytes (joining q letters)))
+
+-- the slot is written in the file of this name, and once it is
+pub record Counts {S : Type 0} (store : StoreWords S) (mid two : S) (turn : ℕ) (s : Segments) (name : List ℕ) : Type 0 where
+  pub moments : EachMoment store mid two (Alters store name (OldOrNewSegments turn s) mid)
+  pub beside : ReadsBeside store (λ n. n ≡ name) mid two
+
+pub record WasCounted {S : Type 0} (store : StoreWords S) (mid two : S) (turn : ℕ) (s : Segments) (name : List ℕ) : Type 0 where
+  pub counts : Counts store mid two turn s name
+  pub counted : IsTrue store.tells → ComesNext 32 (bytes_of (store.seen mid name)) turn → counted_in (bytes_of (store.seen two name)) ≡ Count turn s
+  pub rests : AllRest store two
+
+-- the files of these names are removed
+pub record Removes {S : Type 0} (store : StoreWords S) (two new : S) (ns : List (List ℕ)) : Type 0 where
+  pub moments : EachMoment store two new (AltersEach store ns GoneOrSame two)
+  pub beside : ReadsBeside store (Contains ns) two new
+
+-- what an append leaves, wherever it ends
+pub record HasLeft {S : Type 0} (store : StoreWords S) (q : DeadQueue) (letters : List DeadLetter) (old new : S) : Type 0 where
+  pub any_moment : AppendLeaves store q letters old new
+  pub beside : ReadsBeside store (IsOwn q.folder) old new
+
+-- by the parts of a plan
+pub laid_as : {S : Type 0} (store : StoreWords S) (old mid : S) (one_files files : List (List ℕ)) (one_sizes sizes one_text text : List ℕ) → one_files ≡ files → one_sizes ≡ sizes → one_text ≡ text
+    → WasLaid store old mid one_files one_sizes one_text → WasLaid store old mid files sizes text
+laid_as store old mid one_files files one_sizes sizes one_text text is_files is_sizes is_text l =
+    subst (λ n. WasLaid store old mid n sizes text) is_files (subst (λ s. WasLaid store old mid one_files s text) is_sizes (subst (WasLaid store old mid one_files one_sizes) is_text l))
+
+pub counted_as : (P : ℕ → Segments → List ℕ → Type 0) (one_turn turn : ℕ) (one s : Segments) (one_name name : List ℕ) → one_turn ≡ turn → one ≡ s → one_name ≡ name → P one_turn one one_name → P turn s name
+counted_as P one_turn turn one s one_name name is_turn is is_name p = subst (λ t. P t s name) is_turn (subst (λ x. P one_turn x name) is (subst (P one_turn one) is_name p))
+
+-- ---- an append
 
 module _ {S : Type 0} (store : StoreWords S) (tell : ImagesTell store) (q : DeadQueue) (letters : List DeadLetter) (old : S) (ready : IsReady store q old) where
   abbrev c : Content
@@ -140,22 +181,25 @@ module _ {S : Type 0} (store : StoreWords S) (tell : ImagesTell store) (q : Dead
         beside = (d, a.1, λ name other. ⊎_elim (λ same. same) (λ x. absurd (other (are_own q.folder (last_of q) (length ps) name fit x.0))) (a.2 name));
       }
 
-  pub laying : (mid : S) → EachMoment store old mid Appends → EachMoment store old mid Leaves
+  laying : (mid : S) → EachMoment store old mid Appends → EachMoment store old mid Leaves
   laying mid run = weaker store tell old mid Appends Leaves run while_laid
 
   -- before the first call
   pub untouched : EachMoment store old old Leaves
   untouched = laying old (none_altered store tell ns (KeepsBytes c) old)
 
-  pub laid_own : (mid : S) → ReadsBeside store (Contains ns) old mid → ReadsBeside store (IsOwn q.folder) old mid
+  laid_own : (mid : S) → ReadsBeside store (Contains ns) old mid → ReadsBeside store (IsOwn q.folder) old mid
   laid_own mid beside told name other = beside told name (λ has. other (are_own q.folder (last_of q) (length ps) name fit has))
+
+  pub left_laying : (mid : S) → Lays store old mid ns → HasLeft store q letters old mid
+  left_laying mid l = record { any_moment = laying mid l.moments; beside = laid_own mid l.beside }
 
   module _ (mid : S) (l : WasLaid store old mid ns ps bytes) where
     abbrev after : Content
     after = laid ns ps bytes c
 
-    abbrev Counts : Image → Type 0
-    Counts = Alters store slot (OldOrNewSegments new.turn (named new)) mid
+    abbrev Names : Image → Type 0
+    Names = Alters store slot (OldOrNewSegments new.turn (named new)) mid
 
     slot_reads : IsTrue store.tells → store.seen mid slot ≡ c slot
     slot_reads told = l.reads told slot ∙ laid_other ns ps bytes c slot (none_names q.folder (last_of q) (length ps) fit)
@@ -182,7 +226,7 @@ module _ {S : Type 0} (store : StoreWords S) (tell : ImagesTell store) (q : Dead
         ∙ ap Ok (new_held q letters ready.some ready.numbers c said)
 
     -- while it is written which segments count
-    while_counted : (i : Image) → IsTrue store.tells → Counts i → Leaves i
+    while_counted : (i : Image) → IsTrue store.tells → Names i → Leaves i
     while_counted i told a =
         let said = ready.said told in
         let rests = mid_rests a.0 a.1 in
@@ -202,74 +246,76 @@ module _ {S : Type 0} (store : StoreWords S) (tell : ImagesTell store) (q : Dead
           beside = (
             resting c,
             inr (told, λ n. refl),
-            λ name other. a.2.there name (λ is. other (names, tt, is)) ∙ rests name ∙ ap at_rest (laid_own mid l.beside told name other),
+            λ name other. a.2.there name (λ is. other (names, tt, is)) ∙ rests name ∙ ap at_rest (laid_own mid l.lays.beside told name other),
           );
         }
 
-    pub counting : (two : S) → EachMoment store old mid Appends → EachMoment store mid two Counts → EachMoment store old two Leaves
-    counting two one other = one_then_other store tell old mid two Appends Counts Leaves one other while_laid while_counted
+    counted_own : (two : S) → ReadsBeside store (λ n. n ≡ slot) mid two → ReadsBeside store (IsOwn q.folder) old two
+    counted_own two beside told name other = beside told name (λ is. other (names, tt, is)) ∙ laid_own mid l.lays.beside told name other
 
-    pub counted_own : (two : S) → ReadsBeside store (λ n. n ≡ slot) mid two → ReadsBeside store (IsOwn q.folder) old two
-    counted_own two beside told name other = beside told name (λ is. other (names, tt, is)) ∙ laid_own mid l.beside told name other
+    pub left_counting : (two : S) → Counts store mid two new.turn (named new) slot → HasLeft store q letters old two
+    left_counting two w = record {
+      any_moment = one_then_other store tell old mid two Appends Names Leaves l.lays.moments w.moments while_laid while_counted;
+      beside = counted_own two w.beside;
+    }
 
-    module _ (two : S) (rests : AllRest store two) (beside : ReadsBeside store (λ n. n ≡ slot) mid two)
-        (counted : IsTrue store.tells → ComesNext 32 (bytes_of (store.seen mid slot)) new.turn → counted_in (bytes_of (store.seen two slot)) ≡ Count new.turn (named new)) where
+    module _ (two : S) (w : WasCounted store mid two new.turn (named new) slot) where
       abbrev gone : List (List ℕ)
       gone = names_from q.folder q.first (sheds q letters).older
 
-      abbrev Removes : Image → Type 0
-      Removes = AltersEach store gone GoneOrSame two
+      abbrev Goes : Image → Type 0
+      Goes = AltersEach store gone GoneOrSame two
 
       gone_fit : q.first + (sheds q letters).older ≤ 2 ^ 32
       gone_fit = omega (arith, stays q letters ready.some ready.numbers, ready.numbers)
 
       two_rests : (d : Image) → NowOrSynced store two d → IsAtRest (store.seen two) d
-      two_rests d (inl left) = rests d left
+      two_rests d (inl left) = w.rests d left
       two_rests d (inr synced) = synced.1
 
       segment_reads : IsTrue store.tells → (m : ℕ) → m < 2 ^ 32 → bytes_of (store.seen two (name_in q.folder (segment m))) ≡ bytes_in q.folder after m
-      segment_reads told m low = ap bytes_of (beside told (name_in q.folder (segment m)) (λ same. names_apart q.folder m low (sym same)) ∙ l.reads told (name_in q.folder (segment m)))
+      segment_reads told m low = ap bytes_of (w.counts.beside told (name_in q.folder (segment m)) (λ same. names_apart q.folder m low (sym same)) ∙ l.reads told (name_in q.folder (segment m)))
 
       -- a file that counts is none of those that leave
-      slot_same : (i : Image) → Removes i → i slot ≡ at_rest (store.seen two slot)
+      slot_same : (i : Image) → Goes i → i slot ≡ at_rest (store.seen two slot)
       slot_same i a = ⊎_elim (λ same. same ∙ two_rests a.0 a.1 slot) (λ x. absurd (none_names q.folder q.first (sheds q letters).older gone_fit x.0)) (a.2 slot)
 
-      segment_same : (i : Image) → Removes i → (m : ℕ) → new.first ≤ m → m < 2 ^ 32 → i (name_in q.folder (segment m)) ≡ at_rest (store.seen two (name_in q.folder (segment m)))
+      segment_same : (i : Image) → Goes i → (m : ℕ) → new.first ≤ m → m < 2 ^ 32 → i (name_in q.folder (segment m)) ≡ at_rest (store.seen two (name_in q.folder (segment m)))
       segment_same i a m low high = ⊎_elim
           (λ same. same ∙ two_rests a.0 a.1 (name_in q.folder (segment m)))
           (λ x. absurd (none_segment q.folder q.first (sheds q letters).older m gone_fit high (λ from to. omega (arith, low, to)) x.0))
           (a.2 (name_in q.folder (segment m)))
 
-      while_removed : (i : Image) → IsTrue store.tells → Removes i → Leaves i
+      while_removed : (i : Image) → IsTrue store.tells → Goes i → Leaves i
       while_removed i told a = record {
-        own = λ chance. inr (new_holds i told (ap (λ (f : FileImage). counted_in (bytes_of f.file)) (slot_same i a) ∙ counted told (next_comes told))
+        own = λ chance. inr (new_holds i told (ap (λ (f : FileImage). counted_in (bytes_of f.file)) (slot_same i a) ∙ w.counted told (next_comes told))
             (λ m low high. bytes_as i m (store.seen two (name_in q.folder (segment m))) (segment_same i a m low high) ∙ segment_reads told m high));
         beside = (
           resting c,
           inr (told, λ n. refl),
-          λ name other. ⊎_elim (λ same. same ∙ two_rests a.0 a.1 name) (λ x. absurd (other (are_own q.folder q.first (sheds q letters).older name gone_fit x.0))) (a.2 name) ∙ ap at_rest (counted_own two beside told name other),
+          λ name other. ⊎_elim (λ same. same ∙ two_rests a.0 a.1 name) (λ x. absurd (other (are_own q.folder q.first (sheds q letters).older name gone_fit x.0))) (a.2 name) ∙ ap at_rest (counted_own two w.counts.beside told name other),
         );
       }
 
-      pub removing : (s : S) → EachMoment store old mid Appends → EachMoment store mid two Counts → EachMoment store two s Removes → EachMoment store old s Leaves
-      removing s one other third = one_then_other store tell old two s Leaves Removes Leaves (counting two one other) third (λ i told leaves. leaves) while_removed
+      pub left_removing : (s : S) → Removes store two s gone → HasLeft store q letters old s
+      left_removing s r = record {
+        any_moment = one_then_other store tell old two s Leaves Goes Leaves (left_counting two w.counts).any_moment r.moments (λ i told leaves. leaves) while_removed;
+        beside = λ told name other. r.beside told name (λ has. other (are_own q.folder q.first (sheds q letters).older name gone_fit has)) ∙ counted_own two w.counts.beside told name other;
+      }
 
-      pub removed_own : (s : S) → ReadsBeside store (Contains gone) two s → ReadsBeside store (IsOwn q.folder) old s
-      removed_own s again told name other = again told name (λ has. other (are_own q.folder q.first (sheds q letters).older name gone_fit has)) ∙ counted_own two beside told name other
-
-      pub appended : (s : S) → EachMoment store two s Removes → ReadsBeside store (Contains gone) two s → IsAppended store q letters old new s
-      appended s run again = record {
+      pub appended : (s : S) → Removes store two s gone → IsAppended store q letters old new s
+      appended s r = record {
         ready = record {
           some = some_new;
           numbers = numbers_new;
           turn_fits = omega arith;
           said = λ told. record {
-            counted = ap (λ o. counted_in (bytes_of o)) (slot_is told) ∙ counted told (next_comes told);
+            counted = ap (λ o. counted_in (bytes_of o)) (slot_is told) ∙ w.counted told (next_comes told);
             sizes = ap (map length) (files_are told) ∙ new_sizes q letters ready.some ready.numbers c (ready.said told);
             fresh = λ m low high. segment_is told m (omega (arith, low)) high ∙ new_fresh q letters ready.some ready.numbers c (ready.said told) m low high;
           };
-          names_rest = λ i left. slot_same i (holds_now store two s Removes run i left) ∙ ap at_rest (sym (slot_is (tell s (store.moment s) i left)));
-          segments_rest = λ i left m low high. segment_same i (holds_now store two s Removes run i left) m low high ∙ ap at_rest (sym (file_is (tell s (store.moment s) i left) m low high));
+          names_rest = λ i left. slot_same i (holds_now store two s Goes r.moments i left) ∙ ap at_rest (sym (slot_is (tell s (store.moment s) i left)));
+          segments_rest = λ i left m low high. segment_same i (holds_now store two s Goes r.moments i left) m low high ∙ ap at_rest (sym (file_is (tell s (store.moment s) i left) m low high));
         };
         held = λ told. ap (λ l. record { first = new.first; segments = l }) (files_are told) ∙ new_held q letters ready.some ready.numbers c (ready.said told);
       }
@@ -284,31 +330,13 @@ module _ {S : Type 0} (store : StoreWords S) (tell : ImagesTell store) (q : Dead
           numbers_new = omega (arith, long, fit, stays q letters ready.some ready.numbers)
 
           slot_is : IsTrue store.tells → store.seen s slot ≡ store.seen two slot
-          slot_is told = again told slot (none_names q.folder q.first (sheds q letters).older gone_fit)
+          slot_is told = r.beside told slot (none_names q.folder q.first (sheds q letters).older gone_fit)
 
           file_is : IsTrue store.tells → (m : ℕ) → new.first ≤ m → m < 2 ^ 32 → store.seen s (name_in q.folder (segment m)) ≡ store.seen two (name_in q.folder (segment m))
-          file_is told m low high = again told (name_in q.folder (segment m)) (none_segment q.folder q.first (sheds q letters).older m gone_fit high (λ from to. omega (arith, low, to)))
+          file_is told m low high = r.beside told (name_in q.folder (segment m)) (none_segment q.folder q.first (sheds q letters).older m gone_fit high (λ from to. omega (arith, low, to)))
 
           segment_is : IsTrue store.tells → (m : ℕ) → new.first ≤ m → m < 2 ^ 32 → bytes_in q.folder (store.seen s) m ≡ bytes_in q.folder after m
           segment_is told m low high = ap bytes_of (file_is told m low high) ∙ segment_reads told m high
 
           files_are : IsTrue store.tells → files_from q.folder (store.seen s) new.first (length new.sizes) ≡ files_from q.folder after new.first (length new.sizes)
           files_are told = files_same q.folder (store.seen s) after new.first (length new.sizes) (λ m low high. segment_is told m low (omega (arith, high, numbers_new)))
-
--- what was laid, by the parts of a plan
-pub laid_as : {S : Type 0} (store : StoreWords S) (old mid : S) (one_files files : List (List ℕ)) (one_sizes sizes one_text text : List ℕ) → one_files ≡ files → one_sizes ≡ sizes → one_text ≡ text
-    → WasLaid store old mid one_files one_sizes one_text → WasLaid store old mid files sizes text
-laid_as store old mid one_files files one_sizes sizes one_text text is_files is_sizes is_text l =
-    subst (λ n. WasLaid store old mid n sizes text) is_files (subst (λ s. WasLaid store old mid one_files s text) is_sizes (subst (WasLaid store old mid one_files one_sizes) is_text l))
-
--- what the slot's call told, of the file of a name
-pub record WasCounted {S : Type 0} (store : StoreWords S) (mid two : S) (turn : ℕ) (s : Segments) (name : List ℕ) : Type 0 where
-  pub moments : EachMoment store mid two (Alters store name (OldOrNewSegments turn s) mid)
-  pub beside : ReadsBeside store (λ n. n ≡ name) mid two
-
-pub record HasCounted {S : Type 0} (store : StoreWords S) (mid two : S) (turn : ℕ) (s : Segments) (name : List ℕ) : Type 0 where
-  pub counted : IsTrue store.tells → ComesNext 32 (bytes_of (store.seen mid name)) turn → counted_in (bytes_of (store.seen two name)) ≡ Count turn s
-  pub rests : AllRest store two
-
-pub as_planned : (P : ℕ → Segments → List ℕ → Type 0) (one_turn turn : ℕ) (one s : Segments) (one_name name : List ℕ) → one_turn ≡ turn → one ≡ s → one_name ≡ name → P one_turn one one_name → P turn s name
-as_planned P one_turn turn one s one_name name is_turn is is_name p = subst (λ t. P t s name) is_turn (subst (λ x. P one_turn x name) is (subst (P one_turn one) is_name p))

@@ -18,11 +18,16 @@ use Rattle.dead_letters.specs.Appends.{with_records, append_to, kept_from}
 use Rattle.dead_letters.specs.Views.{DeadQueue, names_from, last_of, held_last, named, sheds, joining, taken_by, sizes_with, behind_append}
 use Rattle.dead_letters.specs.Ready.{files_from, held_now, IsSaid}
 use Rattle.dead_letters.specs.declared.letter.DeadLetter.{DeadLetter}
+use Rattle.dead_letters.specs.declared.opened.DeadLetters.TheInside.{Inside}
 use Rattle.dead_letters.specs.declared.segments.Counted.TheVariants.{Count}
 use Rattle.dead_letters.proofs.QueueNames.{pieces_make_segments}
 use Rattle.std.proofs.lemmas.List.Sums.{get_or-le-sum_by}
 use Rattle.dead_letters.proofs.Kept.{one_stays, kept_map, last_fits}
 use Rattle.dead_letters.proofs.Growing.{files_split, files_same, files_length, files_drop, is_none_of, segment_apart, laid_other, laid_segments, with_records_split, sizes_with_split, sizes_with_length, behind_sizes, pieces_sum, pieces_some, pieces_numbers, joined_length}
+
+-- a queue that is open, as it is seen
+abbrev pub view : Inside → DeadQueue
+view q = record { folder = q.folder; limit = q.limit; policy = q.policy; turn = q.turn; first = q.first; sizes = q.sizes }
 
 -- ---- what a folder holds
 
