@@ -50,7 +50,7 @@ fn make(rt: &HostRuntime, file: &str, codec: Codec, rounds: u64) -> Option<u64> 
 /// Polls a file up to its end, or so many times.
 fn watch(rt: &HostRuntime, file: &str, codec: Codec, polls: u64) -> Option<u64> {
     let mut store = FileStore::new(rt.alloc(), rt);
-    let mut files = RealFiles::new(rt);
+    let mut files = RealFiles::new(rt.alloc(), rt);
     let plan = FilePlan {
         from_start: true,
         ends: true,

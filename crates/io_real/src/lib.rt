@@ -10,6 +10,7 @@ mod fault_counts;
 mod file_stores;
 mod folders;
 mod go_controls;
+mod kept_files;
 mod known_folders;
 mod listeners;
 mod opened_files;

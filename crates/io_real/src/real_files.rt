@@ -5,7 +5,7 @@ ghost use Rattle.io_real.specs.Adapters.{called, called_list};
 
 use crate::fault_counts::{counted, counted_list};
 use crate::folders::names_in;
-use crate::opened_files::read_from;
+use crate::kept_files::KeptFiles;
 use io_traits::{Failed, Files, ListFault};
 use plain_data::Names;
 use std::alloc::Global;
@@ -17,10 +17,12 @@ use std::rt::Files as RuntimeFiles;
 /// The files of the machine, which other programs write. A contract sees its counts.
 ///
 /// Each call goes by the path, so that it sees the file that has this name at that time. A folder is no
-/// file.
+/// file. A file that was read is kept open for the next read, up to 32 of them; it is closed where a read
+/// finds that its name is gone or is another file's.
 #[derive(Drop)]
 pub struct RealFiles<R> {
     rt: R,
+    kept: KeptFiles,
     calls: u64,
     faults: u64,
 }
@@ -35,11 +37,12 @@ impl<R> Model for RealFiles<R> {
 
 impl<R> RealFiles<R> {
     /// Files over a runtime, or a reference to one.
-    pub fn new(rt: R) -> RealFiles<R>
+    pub fn new(alloc: Global, rt: R) -> RealFiles<R>
         ensures { result ≡ record { calls = 0; faults = 0 } }
     {
         RealFiles {
             rt,
+            kept: KeptFiles::new(alloc),
             calls: 0,
             faults: 0,
         }
@@ -66,24 +69,6 @@ fn length_of(rt: &impl RuntimeFiles<File = File>, path: &str) -> io::Result<Opti
         Ok(metadata) if metadata.is_dir() => Ok(None),
         Ok(metadata) => Ok(Some(metadata.len())),
         Err(error) if error.kind() == ErrorKind::NotFound => Ok(None),
-        Err(error) => Err(error),
-    }
-}
-
-fn read_path(
-    rt: &impl RuntimeFiles<File = File>,
-    path: &str,
-    at: u64,
-    into: &mut [u8],
-) -> io::Result<usize>
-    ensures { IfOk result (λ n. n ≤ length into.old) }
-{
-    match File::open(rt, path) {
-        Ok(file) => match read_from(&file, at, into) {
-            Err(error) if error.kind() == ErrorKind::IsADirectory => Ok(0),
-            outcome => outcome,
-        },
-        Err(error) if error.kind() == ErrorKind::NotFound => Ok(0),
         Err(error) => Err(error),
     }
 }
@@ -127,7 +112,7 @@ impl<R: RuntimeFiles<File = File> + AllocGlobal + Clone + Drop> Files for RealFi
         ensures cause { HasCause self.old.faults self.new.faults (IsErr result) }
     {
         self.calls = self.calls.saturating_add(1);
-        let outcome = read_path(&self.rt, path, at, into);
+        let outcome = self.kept.read(&self.rt, path, at, into);
         counted(&mut self.faults, outcome)
     }
 }

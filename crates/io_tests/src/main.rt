@@ -71,7 +71,7 @@ fn answer_all(rt: &HostRuntime, folder: &str) -> io::Result<()> {
         a: FileStore::new(rt.alloc(), rt),
         b: FileStore::new(rt.alloc(), rt),
         memory,
-        files: RealFiles::new(rt),
+        files: RealFiles::new(rt.alloc(), rt),
         links: TcpLinks::new(rt.alloc(), rt),
         peers: Peers::new(rt.alloc()),
     };
