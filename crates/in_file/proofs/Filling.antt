@@ -1,30 +1,38 @@
 -- Bytes that a read put behind others.
-use Rattle.std.proofs.Common.{◌≡◌, ◌≤◌, ◌+◌, ◌-◌, ℕ, IsTrue, List, ◌++◌, length, take, drop, ap, ◌∙◌, arith, length-take, length-drop}
-use Rattle.std.proofs.Math.Seq.{take-add, take-append_seam}
-use Rattle.std.proofs.lemmas.List.{take_all}
+use Rattle.std.proofs.Common.{◌≡◌, ◌≤◌, ◌+◌, ◌-◌, min, ℕ, IsTrue, List, ◌++◌, length, take, drop, sym, ap, ◌∙◌, subst, arith, length-take, length-drop}
+use Rattle.std.proofs.Math.Seq.{take-add}
+use Rattle.std.proofs.lemmas.List.{drop-append-le, take-append-le, length-take-le}
+use Rattle.byte_lines.specs.Split.{HasNoLineFeed}
 use Rattle.io_traits.specs.Folders.{IsOneCall}
 use Rattle.io_traits.specs.Reads.{Gives, bytes_of}
 use Rattle.io_traits.specs.declared.files.Files.{Ghosts as FilesWords}
 use Rattle.in_file.specs.Looks.{IsRead}
 
--- the front of a room stays that was widened behind these
-pub front_stays : (held room : ℕ) (before zeros wide new : List ℕ) → held ≡ length before → wide ≡ take (held + room) before ++ zeros → take held new ≡ take held wide → take held new ≡ before
-front_stays held room before zeros wide new is wider same =
-    let all : take (held + room) before ≡ before = take_all (held + room) before (omega (arith, is)) in
-    same ∙ ap (take held) (wider ∙ ap (λ t. t ++ zeros) all) ∙ ap (λ n. take n (before ++ zeros)) is ∙ take-append_seam before zeros
+module _ (start filled count : ℕ) (old new before : List ℕ) (order : start ≤ filled) (within : filled ≤ length old) (same : take filled new ≡ take filled old) (held : drop start (take filled old) ≡ before) where
+  -- what is held then
+  pub held_behind : drop start (take (filled + count) new) ≡ before ++ take count (drop filled new)
+  held_behind =
+      let more = take count (drop filled new) in
+      let long = length-take-le filled old within in
+      ap (drop start) (take-add filled count new ∙ ap (λ t. t ++ more) same) ∙ drop-append-le start (take filled old) more (omega (arith, long, order)) ∙ ap (λ t. t ++ more) held
+
+  -- what was searched before has no line feed still
+  pub searched_still : (searched : ℕ) → start + searched ≤ filled → HasNoLineFeed (take searched (drop start (take filled old))) → HasNoLineFeed (take searched (drop start (take (filled + count) new)))
+  searched_still searched short free =
+      let more = take count (drop filled new) in
+      let long = length-take-le filled old within in
+      let left = length-drop start (take filled old) in
+      subst HasNoLineFeed (sym (ap (take searched) (held_behind ∙ ap (λ t. t ++ more) (sym held)) ∙ take-append-le searched (drop start (take filled old)) more (omega (arith, long, left, short)))) free
 
 module _ {F : Type 0} (files : FilesWords F) where
-  pub read_so : (path : List ℕ) (place held room count : ℕ) (before zeros wide new after : List ℕ) (old next : F) → held ≡ length before → wide ≡ take (held + room) before ++ zeros → length wide ≡ held + room
-      → length new ≡ length wide → take held new ≡ take held wide → count ≤ length wide - held
-      → (IsTrue files.tells → Gives (files.shows old (files.calls old) path) place (length wide - held) count (drop held new))
-      → IsOneCall files.tells files.shows files.calls old next → after ≡ take (held + count) new → IsRead files path place room before after old next count
-  read_so path place held room count before zeros wide new after old next is wider long same_length same within gives call after_is = record {
-    bytes = take count (drop held new);
-    counted = length-take count (drop held new) ∙ (let l = length-drop held new in omega (arith, l, same_length, within));
-    within = omega (arith, within, long);
-    whole = after_is ∙ take-add held count new ∙ ap (λ t. t ++ take count (drop held new)) (front_stays held room before zeros wide new is wider same);
-    seen = λ told.
-        let size : length wide - held ≡ room = omega (arith, long) in
-        (gives told).bytes ∙ ap (λ n. take n (drop place (bytes_of (files.shows old (files.calls old) path)))) size;
+  -- of a file, so many from a place on
+  pub read_so : (path : List ℕ) (place room filled count : ℕ) (before after new : List ℕ) (old next : F) → after ≡ before ++ take count (drop filled new) → filled + room ≤ length new → count ≤ room
+      → (IsTrue files.tells → Gives (files.shows old (files.calls old) path) place room count (drop filled new)) → IsOneCall files.tells files.shows files.calls old next → IsRead files path place room before after old next count
+  read_so path place room filled count before after new old next whole long within gives call = record {
+    bytes = take count (drop filled new);
+    counted = length-take count (drop filled new) ∙ (let l = length-drop filled new in omega (arith, l, long, within));
+    within = within;
+    whole = whole;
+    seen = λ told. (gives told).bytes;
     call = call;
   }

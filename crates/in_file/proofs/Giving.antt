@@ -5,13 +5,12 @@ use Rattle.byte_lines.specs.Text.{text_of}
 use Rattle.byte_lines.specs.Unread.{Unread, lines_left}
 use Rattle.byte_lines.proofs.Giving.{lines_left-nil}
 use Rattle.event_tree.specs.Events.{Ev}
-use Rattle.in_lines.specs.Decoding.{event_by}
 use Rattle.in_lines.specs.Polls.{Poll, Received}
 use Rattle.in_lines.specs.Readings.{IsReading}
 use Rattle.in_lines.proofs.Reading.{line_given, last_given}
 use Rattle.in_file.specs.Held.{IsLast, IsFirst, passed}
 use Rattle.in_file.specs.Views.{Watched}
-use Rattle.in_file.specs.Looks.{HasRead, GaveEvent}
+use Rattle.in_file.specs.Looks.{HasRead, GaveEvent, event_from}
 use Rattle.in_file.proofs.Holding.{whole_first, last_first}
 
 module _ (u : Unread) (says n : ℕ) (some : 0 < u.limit) where
@@ -44,9 +43,13 @@ module _ (u : Unread) (says n : ℕ) (some : 0 < u.limit) where
       (subst (λ b. IsReading polls (given ++ record { line = text_of u.bytes; moment = moment } ∷ []) (record u { bytes = b }) moment) (sym (none_behind l))
       (last_given polls given u moment some is l.free l.short l.some l.at_end))
 
+-- the bytes in front and those behind them
+pub front_of : (n : ℕ) (bytes : List ℕ) → bytes ≡ take n bytes ++ drop n bytes
+front_of n bytes = sym (take-append-drop n bytes)
+
 -- the event of the first line was given
 pub gave_so : (w after : Watched) (event : Ev) (says n : ℕ) → 0 < w.unread.limit → IsFirst w.unread says n → n ≤ length w.unread.bytes
-    → event ≡ event_by w.codec (record { line = text_of (take says w.unread.bytes); moment = w.moment }) → after ≡ record w { behind = w.behind + n; unread = passed n w.unread }
+    → event ≡ event_from w.path w.codec (record { line = text_of (take says w.unread.bytes); moment = w.moment }) → after ≡ record w { behind = w.behind + n; unread = passed n w.unread }
     → GaveEvent event w after
 gave_so w after event says n some first within event_is after_is =
     let bytes = take n w.unread.bytes in
@@ -58,7 +61,7 @@ gave_so w after event says n some first within event_is after_is =
       event_is = event_is;
       first = first_is w.unread says n some first ∙ ap (λ u. line ∷ lines_left u) held;
       bytes = bytes;
-      whole = sym (take-append-drop n w.unread.bytes) ∙ ap (λ (u : Unread). bytes ++ u.bytes) held;
+      whole = front_of n w.unread.bytes ∙ ap (λ (u : Unread). bytes ++ u.bytes) held;
       after_is = after_is ∙ ap (λ k. record w { behind = w.behind + k; unread = passed n w.unread }) (sym long) ∙ ap (λ (u : Unread). record w { behind = w.behind + length bytes; unread = record w.unread { bytes = u.bytes } }) held;
       read = λ polls given h. subst (HasRead polls (given ++ record { line = line; moment = w.moment } ∷ [])) (sym after_is) (record {
         reading = reading_on w.unread says n some polls given w.moment first h.reading;

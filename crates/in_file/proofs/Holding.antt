@@ -1,7 +1,10 @@
 -- The lines among the bytes that are held.
-use Rattle.std.proofs.Common.{◌≡◌, ◌<◌, inl, inr, ℕ, true, List, [], ◌∷◌, length, drop, sym, ap, ◌∙◌, arith}
+use Rattle.std.proofs.Common.{◌≡◌, ◌<◌, inl, inr, ℕ, true, false, true≢false, List, [], ◌∷◌, length, drop, refl, sym, ap, ◌∙◌, arith}
 use Rattle.std.proofs.Math.Path.{ap₂}
+use Rattle.std.specs.Prelude.{Option, Some, None, IfSome, IfNone}
+use Rattle.std.specs.Option.{is_some as is_found}
 use Rattle.byte_lines.specs.Split.{HasNoLineFeed}
+use Rattle.byte_lines.specs.declared.find.FoundLine.{FoundLine}
 use Rattle.byte_lines.specs.Text.{text_of}
 use Rattle.byte_lines.specs.Lines.{line_text}
 use Rattle.byte_lines.specs.Unread.{Unread, lines_left}
@@ -23,3 +26,12 @@ last_first u says n l = ap (λ e. lines_left (unread u.limit u.bytes e)) l.at_en
 pub line_held : (u : Unread) (says n : ℕ) → 0 < u.limit → IsFirst u says n → true ≡ has_line u
 line_held u says n some (inl w) = sym (ap is_some (whole_first u says n some w))
 line_held u says n some (inr l) = sym (ap is_some (last_first u says n l))
+
+-- by a search for one
+pub held_by : (u : Unread) (found : Option FoundLine) → 0 < u.limit → IfSome found (λ line. IsFirst u line.content_len line.taken) → IfNone found (lines_left u ≡ []) → is_found found ≡ has_line u
+held_by u None some first none = sym (ap is_some none)
+held_by u (Some line) some first none = line_held u line.content_len line.taken some first
+
+pub none_is : (lines : List (List ℕ)) → is_some lines ≡ false → lines ≡ []
+none_is [] is = refl
+none_is (line ∷ lines) is = absurd (true≢false is)

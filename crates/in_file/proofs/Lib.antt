@@ -7,3 +7,4 @@ pub mod Staying
 pub mod NamedPaths
 pub mod GrownFiles
 pub mod Ends
+pub mod Streaming

@@ -10,15 +10,16 @@ use Rattle.in_lines.specs.Polls.{Poll, joined, is_ended, Received}
 use Rattle.in_lines.specs.Readings.{with_piece}
 use Rattle.in_lines.proofs.Receiving.{joined-append}
 use Rattle.in_lines.proofs.Reading.{came, end_came, nothing_came, joined-nothing}
+use Rattle.in_file.specs.Held.{looks_by}
 use Rattle.in_file.specs.Views.{Watched, taken}
-use Rattle.in_file.specs.Looks.{Keeps, HasRead, IsRead, Found, WasPolled, looks, looks_by, piece_of, polled, taken_in, room_at}
+use Rattle.in_file.specs.Looks.{Keeps, HasRead, IsRead, Found, WasPolled, looks, piece_of, polled, taken_in, room_at}
 
 -- where it looks, it holds no line and isn't at its end
-looks_none : (lines : List (List ℕ)) (ended : Bool) → looks_by lines ended ≡ true → lines ≡ []
+pub looks_none : (lines : List (List ℕ)) (ended : Bool) → looks_by lines ended ≡ true → lines ≡ []
 looks_none [] ended is = refl
 looks_none (line ∷ lines) ended is = absurd (false≢true is)
 
-looks_still : (lines : List (List ℕ)) (ended : Bool) → looks_by lines ended ≡ true → ended ≡ false
+pub looks_still : (lines : List (List ℕ)) (ended : Bool) → looks_by lines ended ≡ true → ended ≡ false
 looks_still [] true is = absurd (false≢true is)
 looks_still [] false is = refl
 looks_still (line ∷ lines) ended is = absurd (false≢true is)
@@ -101,10 +102,10 @@ keeps_so files moment old new w after p = subst (Keeps w) (sym p.after_is) (keep
 abbrev pub Holds : Unread → Unread → List ℕ → Type 0
 Holds before held bytes = (held ≡ record before { bytes = held.bytes }) × (held.bytes ≡ before.bytes ++ bytes)
 
-holds_more : (before held : Unread) (bytes : List ℕ) → Holds before held bytes → held ≡ record before { bytes = before.bytes ++ bytes }
+pub holds_more : (before held : Unread) (bytes : List ℕ) → Holds before held bytes → held ≡ record before { bytes = before.bytes ++ bytes }
 holds_more before held bytes h = h.0 ∙ ap (λ b. record before { bytes = b }) h.1
 
-holds_same : (before held : Unread) (bytes : List ℕ) → Holds before held bytes → length bytes ≡ 0 → held ≡ before
+pub holds_same : (before held : Unread) (bytes : List ℕ) → Holds before held bytes → length bytes ≡ 0 → held ≡ before
 holds_same before held [] h none = holds_more before held [] h ∙ ap (λ b. record before { bytes = b }) (append-nil before.bytes)
 holds_same before held (b ∷ bytes) h none = absurd (omega (arith, none))
 

@@ -1,7 +1,9 @@
--- The lines among the bytes that an input holds.
-use Rattle.std.specs.Prelude.{◌≡◌, ◌⊎◌, ◌<◌, ℕ, Bool, true, false, List, [], ◌∷◌, ◌++◌, length, take, drop}
+-- The lines among the bytes that an input holds, and what a poll makes of them.
+use Rattle.std.specs.Prelude.{◌≡◌, ◌⊎◌, ◌<◌, ℕ, Bool, true, false, List, [], ◌∷◌, ◌++◌, length, take, drop, if◌then◌else◌}
 use Rattle.byte_lines.specs.Split.{HasNoLineFeed, RawLine, IsRawLine, line_bytes, line_content}
 use Rattle.byte_lines.specs.Unread.{Unread, lines_left}
+use Rattle.in_lines.specs.declared.poll_outcome.Got.{Got}
+use Rattle.in_lines.specs.declared.poll_outcome.Got.TheVariants as got
 
 -- a whole line stands in front, so many bytes with what ends it, of which it says the first
 pub record IsWholeFirst (u : Unread) (says bytes : ℕ) : Type 0 where
@@ -34,3 +36,13 @@ has_line u = is_some (lines_left u)
 -- without so many bytes in front
 abbrev pub passed : ℕ → Unread → Unread
 passed n u = record u { bytes = drop n u.bytes }
+
+-- whether a poll looks at the file or the source: no whole line is held, and its end was not met
+abbrev pub looks_by : List (List ℕ) → Bool → Bool
+looks_by [] ended = if ended then false else true
+looks_by (line ∷ lines) ended = false
+
+-- the answer of a poll: whole lines are held; or none, and the end was met, or not yet
+abbrev pub got_by : List (List ℕ) → Bool → Got
+got_by [] ended = if ended then got.End else got.NotYet
+got_by (line ∷ lines) ended = got.Lines

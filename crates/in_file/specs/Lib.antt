@@ -6,3 +6,4 @@ pub mod Positions
 pub mod Watching
 pub mod Growing
 pub mod Matching
+pub mod Streams

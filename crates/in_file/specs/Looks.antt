@@ -1,17 +1,20 @@
 -- What a file input takes of its file and gives of it, poll by poll and line by line (this project's rules for inputs).
-use Rattle.std.specs.Prelude.{◌≡◌, ◌≤◌, ℕ, zero, suc, ◌+◌, ◌-◌, ◌^◌, min, ℤ, Bool, true, false, IsTrue, List, [], ◌∷◌, ◌++◌, length, take, drop, Option, Some, None, if◌then◌else◌}
+use Rattle.std.specs.Prelude.{◌≡◌, ◌≤◌, ℕ, zero, suc, ◌+◌, ◌-◌, ◌^◌, min, ℤ, Bool, true, false, IsTrue, List, [], ◌∷◌, ◌++◌, codes, length, take, drop, Option, Some, None, if◌then◌else◌}
 use Rattle.io_traits.specs.Folders.{Content, IsOneCall}
 use Rattle.io_traits.specs.Pieces.{Piece, Came, End, Nothing}
 use Rattle.io_traits.specs.Reads.{bytes_of}
 use Rattle.io_traits.specs.declared.files.Files.{Ghosts as FilesWords}
 use Rattle.byte_lines.specs.Unread.{lines_left}
-use Rattle.event_tree.specs.Events.{Ev}
+use Rattle.event_tree.specs.Events.{Ev, Way, to}
+use Rattle.event_tree.specs.declared.value.Value.TheVariants as v
+use Rattle.event_text.specs.Options.{set_at}
+use Rattle.in_lines.specs.declared.codec.Codec.{Codec}
 use Rattle.in_lines.specs.Decoding.{event_by}
 use Rattle.in_lines.specs.Polls.{Poll, joined, Received}
 use Rattle.in_lines.specs.Readings.{IsReading, with_piece}
+use Rattle.in_file.specs.Held.{got_by, looks_by}
 use Rattle.in_file.specs.Views.{Watched, taken}
 use Rattle.in_lines.specs.declared.poll_outcome.Got.{Got}
-use Rattle.in_lines.specs.declared.poll_outcome.Got.TheVariants as got
 
 -- what a poll and a line leave as it was: all but what was read and given
 abbrev pub Keeps : Watched → Watched → Type 0
@@ -28,7 +31,7 @@ pub record HasRead (polls : List Poll) (given : List Received) (w : Watched) : T
 
 -- how many bytes a look asks for at most
 abbrev pub read_limit : ℕ
-read_limit = 65536
+read_limit = 262144
 
 -- and how many from a place on: a place has 64 bits
 abbrev pub room_at : ℕ → ℕ
@@ -54,19 +57,11 @@ abbrev pub taken_in : ℕ → ℤ → Watched → Watched
 taken_in zero moment w = if w.ends then record w { unread = with_piece End w.unread; moment = moment } else w
 taken_in (suc count) moment w = record w { moment = moment }
 
--- whether it looks: it holds no whole line, and isn't at its end
-abbrev pub looks_by : List (List ℕ) → Bool → Bool
-looks_by [] ended = if ended then false else true
-looks_by (line ∷ lines) ended = false
-
+-- whether it looks
 abbrev pub looks : Watched → Bool
 looks w = looks_by (lines_left w.unread) w.unread.ended
 
--- the answer: whole lines are held; or none, and it is at its end, or not yet
-abbrev pub got_by : List (List ℕ) → Bool → Got
-got_by [] ended = if ended then got.End else got.NotYet
-got_by (line ∷ lines) ended = got.Lines
-
+-- the answer
 abbrev pub got_of : Watched → Got
 got_of w = got_by (lines_left w.unread) w.unread.ended
 
@@ -99,10 +94,18 @@ module _ {F : Type 0} (files : FilesWords F) where
 
 -- ---- lines
 
+-- where an event keeps the path of its file
+abbrev pub file_path : Way
+file_path = to false (codes "log" ∷ codes "file" ∷ codes "path" ∷ [])
+
+-- the event of a line of the file of this path; what the event can't hold is not set
+abbrev pub event_from : List ℕ → Codec → Received → Ev
+event_from path codec r = set_at file_path (v.Text path) (event_by codec r)
+
 -- an event was given: that of the first line held, at the moment of the poll that made the line whole
 pub record GaveEvent (event : Ev) (before after : Watched) : Type 0 where
   pub line : List ℕ
-  pub event_is : event ≡ event_by before.codec (record { line = line; moment = before.moment })
+  pub event_is : event ≡ event_from before.path before.codec (record { line = line; moment = before.moment })
   pub first : lines_left before.unread ≡ line ∷ lines_left after.unread
   -- the bytes in which it stands, with what ends it
   pub bytes : List ℕ

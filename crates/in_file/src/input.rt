@@ -1,15 +1,16 @@
 // The file input: polls a watched file and records how far its lines are assured.
-ghost use Rattle.std.specs.Prelude.{◌≡◌, ◌≢◌, ◌≤◌, ◌↔◌, ℕ, ◌+◌, [], true, IsTrue, IsErr, Err, None, Some, length, IfOk, OnOk, OnErr};
+ghost use Rattle.std.specs.Prelude.{◌≡◌, ◌≢◌, ◌≤◌, ◌↔◌, ℕ, ◌+◌, [], true, false, IsTrue, IsErr, Err, None, Some, length, take, IfOk, OnOk, OnErr};
 ghost use Rattle.io_traits.specs.Counts.{HasCause};
 ghost use Rattle.io_traits.specs.Folders.{IsOneCall};
 ghost use Rattle.io_traits.specs.Reads.{bytes_of, file_length};
+ghost use Rattle.byte_lines.specs.Text.{text_of};
 ghost use Rattle.byte_lines.specs.Unread.{lines_left};
 ghost use Rattle.crc_frame.specs.Slots.{place_of, next_turn};
 ghost use Rattle.io_traits.specs.Moments.{EachMoment, NowOrSynced, ReadsBeside};
 ghost use Rattle.io_traits.specs.declared.queue_faults.Damage.{Damage as DamageValue};
 ghost use Rattle.slot_files.specs.Positions.{recorded_in};
 ghost use Rattle.slot_files.specs.declared.recorded.Recorded.{Recorded as RecordedValue};
-ghost use Rattle.in_file.specs.Looks.{Gave, Keeps, WasPolled, got_of, looks, taken_in};
+ghost use Rattle.in_file.specs.Looks.{Gave, Keeps, WasPolled, event_from, file_path, got_of, looks, taken_in};
 ghost use Rattle.in_file.specs.Openings.{IsOpened, IsDamaged, IsWhole, line_limit, opened};
 ghost use Rattle.in_file.specs.Positions.{AssureLeaves, IsAssured, IsOwn, IsReady};
 ghost use Rattle.in_file.specs.Views.{taken};
@@ -17,10 +18,11 @@ ghost use Rattle.in_file.specs.declared.faults.OpenFault.TheVariants as o;
 ghost use Rattle.in_lines.specs.declared.poll_outcome.PollFault.TheVariants as p;
 
 use crate::faults::OpenFault;
-use crate::line_buffer::LineBuffer;
+use crate::line_buffer::{LineBuffer, READ_LEN};
 use crate::opening::{begins_at, opened, position_by, turn_by};
 use crate::plan::FilePlan;
-use event_tree::Event;
+use event_text::try_put;
+use event_tree::{Event, Names, Path, Value};
 use in_lines::{Codec, Got, PollFault, event_of_bytes};
 use io_traits::{Failed, Files, Store};
 use plain_data::{Instant, Text};
@@ -28,16 +30,68 @@ use slot_files::{Recorded, record_position};
 use std::alloc::{AllocError, Global};
 use std::marker::Model;
 
-/// How many bytes one look asks for at most: 64 KiB.
-const READ_LEN: u64 = 65_536;
+/// What a watched file is called.
+pub(crate) struct FileNames {
+    /// The name of the file.
+    pub path: Text,
+    /// The name of its position file in the store.
+    pub slot: Text,
+    /// Where each event keeps the name of its file.
+    pub field: Path,
+}
+
+// Written out, so that it is one call wherever an error is handed on while they are held.
+impl Drop for FileNames {
+    fn drop(self) {
+        let FileNames {
+            path: _path,
+            slot: _slot,
+            field: _field,
+        } = self;
+    }
+}
+
+impl FileNames {
+    pub(crate) fn of(alloc: Global, path: &str, slot: &str) -> Result<FileNames, AllocError>
+        ensures path { IfOk result (λ names. names.path ≡ path.now) }
+        ensures slot { IfOk result (λ names. names.slot ≡ slot.now) }
+        ensures field { IfOk result (λ names. names.field ≡ file_path) }
+    {
+        Ok(FileNames {
+            path: Text::of(alloc, path)?,
+            slot: Text::of(alloc, slot)?,
+            field: file_path(alloc)?,
+        })
+    }
+
+    /// The name of the position file, where the others aren't needed any more.
+    pub(crate) fn into_slot(self) -> Text
+        ensures { result ≡ self.slot }
+    {
+        let FileNames {
+            path: _path,
+            slot,
+            field: _field,
+        } = self;
+        slot
+    }
+}
+
+// The path `[log][file][path]`.
+fn file_path(alloc: Global) -> Result<Path, AllocError>
+    ensures { IfOk result (λ path. path ≡ file_path) }
+{
+    let mut parts = Names::new(alloc);
+    parts.push(Text::of(alloc, "log")?)?;
+    parts.push(Text::of(alloc, "file")?)?;
+    parts.push(Text::of(alloc, "path")?)?;
+    Ok(Path::of_parts(parts))
+}
 
 /// An input that watches a file: its lines, from a place on, as events, with the position that is recorded of it.
 pub struct FileInput {
     alloc: Global,
-    /// The name of the file.
-    path: Text,
-    /// The name of its position file in the store.
-    slot: Text,
+    names: FileNames,
     /// Whether the end of the file is the end of the input.
     ends: bool,
     codec: Codec,
@@ -60,8 +114,7 @@ impl Drop for FileInput {
     fn drop(self) {
         let FileInput {
             alloc: _,
-            path: _path,
-            slot: _slot,
+            names: _names,
             ends: _,
             codec: _,
             began: _,
@@ -76,13 +129,14 @@ impl Drop for FileInput {
 
 impl Model for FileInput {
     ghost use Rattle.std.specs.Prelude.{◌+◌, ◌<◌, ◌≡◌, ◌^◌, length};
+    ghost use Rattle.in_file.specs.Looks.{file_path};
     ghost use Rattle.in_file.specs.Views.{Watched};
 
     ghost Value = { Watched };
 
     ghost view = { λ w. record {
-      path = w.path;
-      slot = w.slot;
+      path = w.names.path;
+      slot = w.names.slot;
       ends = w.ends;
       codec = w.codec;
       began = w.began;
@@ -93,7 +147,8 @@ impl Model for FileInput {
       turn = w.turn;
     } };
 
-    ghost invariant = { λ w. (w.behind + length w.held.bytes < 2 ^ 64) × (w.held.limit ≡ 1048576) };
+    ghost invariant = { λ w. (w.behind + length w.held.bytes < 2 ^ 64) × (w.held.limit ≡ 1048576)
+        × (w.names.field ≡ file_path) };
 }
 
 impl FileInput {
@@ -133,31 +188,27 @@ impl FileInput {
         ensures files_cause { HasCause (F.faults files.old) (F.faults files.new)
             (result ≡ Err o.Files) }
     {
-        let Ok(path) = Text::of(alloc, path) else {
+        let Ok(names) = FileNames::of(alloc, path, slot) else {
             return Err(OpenFault::Memory);
         };
-        let Ok(slot) = Text::of(alloc, slot) else {
-            return Err(OpenFault::Memory);
-        };
-        opened(alloc, store, files, path, slot, plan)
+        opened(alloc, store, files, names, plan)
     }
 
     /// An input that begins to read a file of so many bytes, of which this is recorded.
     pub(crate) fn of(
         alloc: Global,
-        path: Text,
-        slot: Text,
+        names: FileNames,
         plan: FilePlan,
         length: u64,
         recorded: Recorded,
     ) -> FileInput
-        ensures { result ≡ opened path slot plan length recorded }
+        requires { names.field ≡ file_path }
+        ensures { result ≡ opened names.path names.slot plan length recorded }
     {
         let began = begins_at(plan, length, recorded);
         FileInput {
             alloc,
-            path,
-            slot,
+            names,
             ends: plan.ends,
             codec: plan.codec,
             began,
@@ -170,7 +221,7 @@ impl FileInput {
     }
 
     /// Looks whether lines came, at a moment of the clock. Where it holds a whole line, or met its end, it does not look at the
-    /// file; else it reads of it, once, up to 65,536 bytes.
+    /// file; else it reads of it, once, up to 262,144 bytes.
     ///
     /// - `Lines`: it holds a whole line.
     /// - `End`: it holds none, and the file was read to its end, which is that of the input.
@@ -210,20 +261,14 @@ impl FileInput {
         ensures same { self.new ≡ self.old }
         ensures limit { self.new.unread.limit ≡ line_limit }
     {
-        !self.held.is_ended() && !self.held.has_line()
+        self.held.wants_read()
     }
 
     fn outcome(&mut self) -> Got
         ensures got { result ≡ got_of self.old }
         ensures same { self.new ≡ self.old }
     {
-        if self.held.has_line() {
-            Got::Lines
-        } else if self.held.is_ended() {
-            Got::End
-        } else {
-            Got::NotYet
-        }
+        self.held.outcome()
     }
 
     // Reads of the file.
@@ -236,10 +281,10 @@ impl FileInput {
         ensures cause { HasCause (F.faults files.old) (F.faults files.new) (result ≡ Err p.Fault) }
     {
         let place = self.behind + self.held.len() as u64;
-        let room = (u64::MAX - place).min(READ_LEN);
+        let room = (u64::MAX - place).min(READ_LEN as u64);
         let count = self
             .held
-            .fill(files, self.path.as_str(), place, room as usize)?;
+            .fill(files, self.names.path.as_str(), place, room as usize)?;
         self.append_read(count, moment);
         Ok(())
     }
@@ -257,7 +302,8 @@ impl FileInput {
     }
 
     /// The event of the next line, before the settings of the input are applied to it, with the moment of the poll that made
-    /// the line whole. None exactly where no whole line is held.
+    /// the line whole. Its `[log][file][path]` is the name of the file, unless the event can't hold it. None exactly where no
+    /// whole line is held.
     ///
     /// The only error is want of memory, and then the input is as it was.
     pub fn next(&mut self) -> Result<Option<Event>, AllocError>
@@ -269,11 +315,33 @@ impl FileInput {
         let Some(line) = self.held.first() else {
             return Ok(None);
         };
-        let bytes = self.held.front(line.content_len);
-        let event = event_of_bytes(self.alloc, self.codec, bytes, self.moment)?;
+        let event = self.event(line.content_len)?;
         self.held.pass(line.taken);
         self.behind += line.taken as u64;
         Ok(Some(event))
+    }
+
+    // The event of so many bytes in front.
+    fn event(&self, count: usize) -> Result<Event, AllocError>
+        requires within { count ≤ length self.now.unread.bytes }
+        requires short { count ≤ line_limit }
+        ensures { let line = text_of (take count self.now.unread.bytes) in
+            IfOk result (λ event. event ≡ event_from self.now.path self.now.codec
+            (record { line = line; moment = self.now.moment })) }
+    {
+        let bytes = self.held.front(count);
+        let mut event = event_of_bytes(self.alloc, self.codec, bytes, self.moment)?;
+        let name = Value::Text(self.names.path.copy()?);
+        try_put(&mut event, &self.names.field, name)?;
+        Ok(event)
+    }
+
+    /// Whether [`FileInput::next`] would give an event: whether a whole line is held among the bytes that were read. It does not
+    /// look at the file, and takes no memory.
+    pub fn holds(&self) -> bool
+        ensures { (result ≡ false) ↔ (lines_left self.now.unread ≡ []) }
+    {
+        self.held.holds()
     }
 
     /// Records a position, in the slot whose turn it is, and settles the store. It is meant to be where this reading began, or
@@ -293,7 +361,7 @@ impl FileInput {
         ensures cause { HasCause (S.faults store.old) (S.faults store.new) (IsErr result) }
     {
         let turn = self.turn;
-        record_position(store, self.slot.as_str(), turn, bytes)?;
+        record_position(store, self.names.slot.as_str(), turn, bytes)?;
         self.turn = turn.wrapping_add(1);
         self.position = bytes;
         Ok(())

@@ -8,11 +8,12 @@ ghost use Rattle.io_traits.specs.declared.queue_faults.Damage.{Damage as DamageV
 ghost use Rattle.slot_files.specs.Positions.{recorded_in};
 ghost use Rattle.slot_files.specs.declared.recorded.Recorded.TheVariants as r;
 ghost use Rattle.in_file.specs.Openings.{IsOpened, IsDamaged, IsWhole, IsBegun, begins_at, opened, position_by, turn_by};
+ghost use Rattle.in_file.specs.Looks.{file_path};
 ghost use Rattle.in_file.specs.Positions.{IsReady};
 ghost use Rattle.in_file.specs.declared.faults.OpenFault.TheVariants as o;
 
 use crate::faults::OpenFault;
-use crate::input::FileInput;
+use crate::input::{FileInput, FileNames};
 use crate::plan::FilePlan;
 use io_traits::{Damage, Files, Store};
 use plain_data::Text;
@@ -24,17 +25,17 @@ pub(crate) fn opened<S: Store, F: Files>(
     alloc: Global,
     store: &mut S,
     files: &mut F,
-    path: Text,
-    slot: Text,
+    names: FileNames,
     plan: FilePlan,
 ) -> Result<FileInput, OpenFault>
+    requires { names.field ≡ file_path }
     ensures opened { IfOk result
-        (IsOpened S.Store F.Files path slot plan store.old files.old) }
+        (IsOpened S.Store F.Files names.path names.slot plan store.old files.old) }
     ensures ready { IfOk result (λ w. IsReady S.Store w store.new) }
     ensures damaged { (damage : DamageValue) → result ≡ Err (o.Damaged damage) → IsTrue S.tells
-        → IsDamaged slot (recorded_in (bytes_of (S.seen store.old slot))) damage }
+        → IsDamaged names.slot (recorded_in (bytes_of (S.seen store.old names.slot))) damage }
     ensures not_damaged { result ≡ Err o.Files → IsTrue S.tells
-        → IsWhole (recorded_in (bytes_of (S.seen store.old slot))) }
+        → IsWhole (recorded_in (bytes_of (S.seen store.old names.slot))) }
     ensures reads { IsTrue S.tells → S.seen store.new ≡ S.seen store.old }
     ensures any_moment { EachMoment S.Store store.old store.new (NowOrSynced S.Store store.old) }
     ensures call { OnOk result (IsOneCall F.tells F.shows F.calls files.old files.new) }
@@ -42,13 +43,13 @@ pub(crate) fn opened<S: Store, F: Files>(
     ensures store_cause { HasCause (S.faults store.old) (S.faults store.new) (result ≡ Err o.Store) }
     ensures files_cause { HasCause (F.faults files.old) (F.faults files.new) (result ≡ Err o.Files) }
 {
-    match settle_and_read(store, slot.as_str()) {
-        Ok(Recorded::Nothing) => begin(alloc, files, path, slot, plan, Recorded::Nothing),
+    match settle_and_read(store, names.slot.as_str()) {
+        Ok(Recorded::Nothing) => begin(alloc, files, names, plan, Recorded::Nothing),
         Ok(Recorded::Position(turn, position)) => {
             let recorded = Recorded::Position(turn, position);
-            begin(alloc, files, path, slot, plan, recorded)
+            begin(alloc, files, names, plan, recorded)
         }
-        Ok(Recorded::Damaged(found, expected)) => Err(damaged(slot, found, expected)),
+        Ok(Recorded::Damaged(found, expected)) => Err(damaged(names.into_slot(), found, expected)),
         Err(_) => Err(OpenFault::Store),
     }
 }
@@ -57,20 +58,21 @@ pub(crate) fn opened<S: Store, F: Files>(
 fn begin<F: Files>(
     alloc: Global,
     files: &mut F,
-    path: Text,
-    slot: Text,
+    names: FileNames,
     plan: FilePlan,
     recorded: Recorded,
 ) -> Result<FileInput, OpenFault>
-    requires { IsWhole recorded }
-    ensures begun { IfOk result (IsBegun F.Files path slot plan files.old recorded) }
+    requires field { names.field ≡ file_path }
+    requires whole { IsWhole recorded }
+    ensures begun { IfOk result
+        (IsBegun F.Files names.path names.slot plan files.old recorded) }
     ensures call { OnOk result (IsOneCall F.tells F.shows F.calls files.old files.new) }
     ensures fault { IfErr result (λ fault. fault ≡ o.Files) }
     ensures cause { HasCause (F.faults files.old) (F.faults files.new) (result ≡ Err o.Files) }
 {
-    match files.length(path.as_str()) {
-        Ok(Some(length)) => Ok(FileInput::of(alloc, path, slot, plan, length, recorded)),
-        Ok(None) => Ok(FileInput::of(alloc, path, slot, plan, 0, recorded)),
+    match files.length(names.path.as_str()) {
+        Ok(Some(length)) => Ok(FileInput::of(alloc, names, plan, length, recorded)),
+        Ok(None) => Ok(FileInput::of(alloc, names, plan, 0, recorded)),
         Err(_) => Err(OpenFault::Files),
     }
 }

@@ -4,14 +4,16 @@ The answers are worked out here from what is promised of inputs, and from nothin
 joined, the slots of position files with the CRC-32 of `zlib`, and what a stop leaves by the calls of the store.
 """
 
+from json import JSONDecodeError, loads
 from zlib import crc32
 
 import polls
+import streams
 
 TABLES = ["reads", "stops", "paths"]
 ROWS = {name: [] for name in TABLES}
 LIMIT = 1048576
-ROOM = 65536
+ROOM = 262144
 
 
 def slot(turn, position):
@@ -117,8 +119,8 @@ class World:
 
 
 class Input:
-    def __init__(self, world, mode, start):
-        self.world, self.mode = world, mode
+    def __init__(self, world, mode, start, codec):
+        self.world, self.mode, self.codec = world, mode, codec
         found = recorded(world.slots or b"")
         self.turn = 0 if found is None else (found[0] + 1) % 2**64
         length = len(world.file())
@@ -155,6 +157,21 @@ class Input:
         size = len(message.encode())
         return f"{message if size <= 40 else f'{size} bytes'}@{self.moments[self.given - 1]}"
 
+    def path(self):
+        """Where the next event came from: an object with another `log` keeps what it has, since the event can't hold the path."""
+        line = text(self.all()[self.given][0])
+        self.given += 1
+        try:
+            event = loads(line) if self.codec == "json" else {}
+        except JSONDecodeError:
+            event = {}
+        log = event.get("log", {})
+        file = log.get("file", {}) if isinstance(log, dict) else None
+        return "of logs/a.log" if isinstance(file, dict) else "of no file"
+
+    def holds(self):
+        return "held" if self.held() else "none held"
+
     def assure(self, position):
         w = self.world
         w.store()
@@ -167,7 +184,7 @@ class Input:
         self.turn, self.position = (self.turn + 1) % 2**64, position
 
 
-def run(world, mode, start, calls):
+def run(world, mode, start, codec, calls):
     out = ""
     for part in calls.split(";"):
         try:
@@ -182,7 +199,7 @@ def run(world, mode, start, calls):
             out += f"in.pos at 0: {found[0]}, not {found[1]}; "
             continue
         try:
-            it = Input(world, mode, start)
+            it = Input(world, mode, start, codec)
         except Fault:
             out += "files fault; "
             continue
@@ -199,6 +216,10 @@ def run(world, mode, start, calls):
                 out += f", {answer}" if call == "p" else ""
             elif call == "n":
                 out += f", {it.next()}"
+            elif call == "f":
+                out += f", {it.path()}"
+            elif call == "h":
+                out += f", {it.holds()}"
             elif call == "b":
                 out += f", {it.position} of {it.behind()}"
             else:
@@ -231,7 +252,7 @@ def row(plan, slots, contents, calls, of_store=-1, of_files=-1, codec="plain", s
     mode, start = plan.split()
     contents = contents if isinstance(contents, list) else [(0, contents)]
     world = World(slots, contents, of_store, of_files)
-    answer = run(world, mode, start, calls)
+    answer = run(world, mode, start, codec, calls)
     number = lambda n: str(n) if n >= 0 else "-"
     words = f"{plan} {codec} {number(of_store)} {number(of_files)} | {digits(slots)} | {' '.join(f'{n}:{digits(c)}' for n, c in contents)} | {calls}"
     if stops:
@@ -267,9 +288,9 @@ row("tail start", None, [(0, b"a\nb\n"), (2, b"a\nb\nc\n")], "p p n p n p n")
 row("read end", None, b"\n\r\n\r\r\nx\r", "p n n n n n p")
 row("read end", None, b"a\r\nb\rc\n\rd", "p n n n p n p")
 row("tail start", None, b"a\xffb\n\xe2\x82A\n\xc3\xa9\xed\xa0\x80\n", "p n n n")
-row("tail start", None, b"a" * (LIMIT + 1) + b"\n", "P " * 16 + "p n p n n b")
-row("tail start", None, b"a" * LIMIT + b"\n", "P " * 15 + "p n p n n b")
-row("tail start", None, b"a" * (LIMIT - 1) + b"\r\n", "P " * 15 + "p n p n b")
+row("tail start", None, b"a" * (LIMIT + 1) + b"\n", "P " * 4 + "p n p n n b")
+row("tail start", None, b"a" * LIMIT + b"\n", "P " * 3 + "p n p n n b")
+row("tail start", None, b"a" * (LIMIT - 1) + b"\r\n", "P " * 4 + "p n p n b")
 row("tail start", None, b"a\xffb\n", "p n n")
 row("tail start", None, b"a" * (ROOM - 1) + b"\nb\n", "p n n p n")
 row("tail start", None, b"a" * ROOM + b"\nb\n", "p n p n n")
@@ -279,6 +300,15 @@ WHOLE = b"ab\r\n\n\xc3\xa9\xffc\r\nd"
 for size in range(1, len(WHOLE) + 1):
     pieces = [(n, WHOLE[: n * size]) for n in range(len(WHOLE) // size + 2)]
     row("read end", None, pieces, "p n " * (len(WHOLE) // size + 7) + "b a b")
+# whether a line is held is told by what was read: neither by what the file has, nor by a part of a line
+row("tail start", None, b"a\nb", "h p h n h p h")
+# and at the end of a file that is read to its end what is left is a line
+row("read end", None, b"a", "h p h p h n h p h")
+# each event has the name of its file
+row("tail start", None, b"a\n\nb\n", "p f f f")
+# also one whose object brought another name, but where the event can't hold it
+OBJECTS = [b'{"log":{"file":{"path":"mine","x":1}}}', b'{"log":{"x":1}}', b'{"log":"x"}', b'{"log":{"file":7}}', b"no object", b"{}"]
+row("tail start", None, b"\n".join(OBJECTS) + b"\n", "p f f f f f f", codec="json")
 # positions
 row("tail start", None, b"a\nb\nc\n", "b a b p n a n b a:1 b; p n n n n a; p n b")
 row("tail start", slot(2**64 - 1, 2) + b"", b"a\nb\nc\n", "b")
@@ -351,6 +381,9 @@ paths("logs/*", [], ["logs/" + "\u00e9" * 40, "logs/" + "\u00e9" * 41])
 
 TABLES.append("polls")
 ROWS["polls"] = [(row, polls.answers(row)) for row in polls.ROWS]
+
+TABLES.append("streams")
+ROWS["streams"] = [(row, streams.answers(row, lines, text)) for row in streams.ROWS]
 
 for name in TABLES:
     with open(name, "w") as file:

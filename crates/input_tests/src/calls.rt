@@ -3,12 +3,11 @@ ghost use Rattle.std.specs.Prelude.{IsTrue, IfOk, OnOk};
 ghost use Rattle.in_file.specs.Looks.{Keeps};
 ghost use Rattle.in_file.specs.Positions.{IsReady};
 
-use crate::events::add_event;
-use crate::words::number;
+use crate::events::{add_event, add_path};
+use crate::words::{moment_of, number};
 use in_file::{FileInput, FilePlan, OpenFault};
 use in_lines::{Got, PollFault};
 use io_traits::{Files, Store};
-use plain_data::Instant;
 use std::alloc::AllocError;
 
 /// The name of the watched file.
@@ -88,6 +87,11 @@ fn add_call<S: Store, F: Files>(
         "p" => add_poll(to, files, input, polls, true),
         "P" => add_poll(to, files, input, polls, false),
         "n" => add_next(to, input),
+        "f" => add_next_path(to, input),
+        "h" => {
+            to.push_str(held_text(input.holds()))?;
+            Ok(true)
+        }
         "a" if place.is_empty() => {
             let place = input.behind();
             add_assured(to, store, input, place)
@@ -132,14 +136,6 @@ fn text_of(got: Got) -> &'static str {
     }
 }
 
-// So many seconds behind the beginning of 1970.
-fn moment_of(seconds: u64) -> Instant {
-    match Instant::from_nanos(i128::from(seconds) * 1_000_000_000) {
-        Some(moment) => moment,
-        None => Instant::epoch(),
-    }
-}
-
 fn add_next(to: &mut String, input: &mut FileInput) -> Result<bool, AllocError>
     ensures { IfOk result (λ well. IsTrue well → Keeps input.old input.new) }
 {
@@ -149,6 +145,22 @@ fn add_next(to: &mut String, input: &mut FileInput) -> Result<bool, AllocError>
         None => to.push_str("none")?,
     }
     Ok(true)
+}
+
+// Adds where the next event came from.
+fn add_next_path(to: &mut String, input: &mut FileInput) -> Result<bool, AllocError>
+    ensures { IfOk result (λ well. IsTrue well → Keeps input.old input.new) }
+{
+    to.push_str(", ")?;
+    match input.next()? {
+        Some(event) => add_path(to, &event)?,
+        None => to.push_str("none")?,
+    }
+    Ok(true)
+}
+
+fn held_text(holds: bool) -> &'static str {
+    if holds { ", held" } else { ", none held" }
 }
 
 fn add_assured<S: Store>(

@@ -73,7 +73,8 @@ fn poll(links: &mut MemoryLinks, input: &mut TcpInput, second: u32) -> Result<Go
     input.poll(links, moment.unwrap_or(Instant::epoch()))
 }
 
-fn text_of(found: Result<Got, PollFault>) -> &'static str {
+/// What a poll answered.
+pub fn text_of(found: Result<Got, PollFault>) -> &'static str {
     match found {
         Ok(Got::Lines) => "lines",
         Ok(Got::NotYet) => "not yet",

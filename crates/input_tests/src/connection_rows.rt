@@ -1,6 +1,6 @@
 // Polls of a TCP input over connections in memory.
 use crate::connection_calls::add_calls;
-use crate::words::small_number;
+use crate::words::{numbers_of, small_number};
 use io_memory::{ConnectionEvent, MemoryLinks, Script, SourceEvent};
 use std::alloc::{AllocError, Global};
 use table_rows::{bytes_of, part};
@@ -20,17 +20,9 @@ fn links_with(
     failing: &str,
     pieces: &str,
 ) -> Result<MemoryLinks, AllocError> {
-    let script = script_of(alloc, failing)?;
+    let script = Script::new(alloc, &numbers_of(alloc, failing)?, &[])?;
     let pieces = pieces_of(alloc, pieces)?;
     Ok(MemoryLinks::new(alloc, connections, pieces, script))
-}
-
-fn script_of(alloc: Global, failing: &str) -> Result<Script, AllocError> {
-    let mut numbers = Vec::new(alloc);
-    for word in failing.split_whitespace() {
-        numbers.push(u64::from(small_number(word)))?;
-    }
-    Script::new(alloc, &numbers, &[])
 }
 
 fn pieces_of(alloc: Global, words: &str) -> Result<Vec<ConnectionEvent>, AllocError> {

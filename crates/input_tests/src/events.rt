@@ -1,4 +1,4 @@
-// Events as they are printed: the message and the moment.
+// Events as they are printed: the message and the moment, or the path of the file.
 use event_tree::{Event, Path, Value};
 use std::alloc::AllocError;
 
@@ -31,5 +31,16 @@ fn add_seconds(to: &mut String, event: &Event) -> Result<(), AllocError> {
     match event.get(&path) {
         Some(Value::Time(moment)) => write!(to, "{}", moment.nanos() / 1_000_000_000),
         _ => to.push_str("no moment"),
+    }
+}
+
+/// Adds the path of the file of which an event is a line.
+pub fn add_path(to: &mut String, event: &Event) -> Result<(), AllocError> {
+    let Ok(path) = Path::read(*to.allocator(), "[log][file][path]") else {
+        return Err(AllocError);
+    };
+    match event.get(&path) {
+        Some(Value::Text(text)) => write!(to, "of {}", text.as_str()),
+        _ => to.push_str("of no file"),
     }
 }

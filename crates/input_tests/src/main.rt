@@ -7,7 +7,7 @@
 //!   of that of the files which fails; the bytes of the position file; those of the watched file, each with the number of the
 //!   call of the files from which on they stand; and runs of calls of the input, with an opening before each: `p` polls,
 //!   with the number of the poll as the seconds of its moment, `P` the same without showing the answer, `n` gives the next
-//!   event, `b` tells the place behind the last line and the recorded position, `a` records the place behind the last line, and
+//!   event, `f` gives it and tells its `[log][file][path]`, `h` tells whether a line is held, `b` tells the place behind the last line and the recorded position, `a` records the place behind the last line, and
 //!   `a:PLACE` this one. The answer has that of each call, the message of an event with the seconds of its moment, and what the
 //!   position file records behind them. A call that doesn't go well ends its run.
 //! - `stops`: such a row. The answer is what the position file may record where a stop comes, for each moment of the store.
@@ -19,6 +19,10 @@
 //!   shows the last answer, `n` gives the next event, `c` tells how many connections came, and `s` with a number whether that
 //!   connection is open.
 //!
+//! - `streams`: the codec of an input of a stream, and how many bytes a read of it gives at most; the numbers of the reads that fail, and of
+//!   those that find nothing yet; the bytes of the stream; and calls: `p` polls, with the number of the poll as the seconds of its moment,
+//!   `n` gives the next event, `h` tells whether a line is held, and `e` whether the stream was read to its end.
+//!
 //! `data/rows.py`, over `data/polls.py`, made the tables and `stdout`: the lines by their definition, on all bytes joined, and
 //! the slots with the CRC-32 of Python's `zlib`.
 #![tactic(auto)]
@@ -29,6 +33,7 @@ mod connection_rows;
 mod events;
 mod paths;
 mod reads;
+mod streams;
 mod words;
 
 use std::alloc::AllocError;
@@ -42,13 +47,15 @@ enum InputTable {
     Stops,
     Paths,
     Polls,
+    Streams,
 }
 
-const TABLES: [(&str, InputTable); 4] = [
+const TABLES: [(&str, InputTable); 5] = [
     ("reads", InputTable::Reads),
     ("stops", InputTable::Stops),
     ("paths", InputTable::Paths),
     ("polls", InputTable::Polls),
+    ("streams", InputTable::Streams),
 ];
 
 impl AnswerRows for InputTable {
@@ -58,6 +65,7 @@ impl AnswerRows for InputTable {
             InputTable::Stops => reads::add_stops(to, row),
             InputTable::Paths => paths::add_watched(to, row),
             InputTable::Polls => connection_rows::add_case(to, row),
+            InputTable::Streams => streams::add_stream(to, row),
         }
     }
 }

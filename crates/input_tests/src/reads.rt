@@ -1,8 +1,7 @@
 // Polls of a watched file, and what may be recorded at each stop.
 use crate::calls::{PATH, SLOT, add_runs};
-use crate::words::{files_with, number};
+use crate::words::{codec_of, files_with, number};
 use in_file::FilePlan;
-use in_lines::Codec;
 use io_memory::{MemoryFiles, Script, Showing};
 use io_traits::{Failed, Store};
 use slot_files::{Recorded, read_position};
@@ -102,7 +101,7 @@ fn case_of(alloc: Global, row: &str) -> Result<(ReadCase, &str), AllocError> {
     let plan = FilePlan {
         from_start: start == "start",
         ends: mode == "read",
-        codec: Codec::named(codec).unwrap_or(Codec::Plain),
+        codec: codec_of(codec),
     };
     let case = ReadCase {
         store: store_with(alloc, slots, number(of_store))?,

@@ -1,8 +1,7 @@
-use Rattle.std.proofs.Common.{◌+◌, refl, ap, ◌∙◌, subst, arith}
+use Rattle.std.proofs.Common.{◌+◌, refl, sym, ap, ◌∙◌, subst, arith, take}
 use Rattle.byte_lines.specs.Text.{text_of}
 use Rattle.byte_lines.specs.Unread.{lines_left}
-use Rattle.in_lines.specs.Decoding.{event_by}
-use Rattle.in_file.specs.Looks.{GaveEvent, Keeps}
+use Rattle.in_file.specs.Looks.{GaveEvent, Keeps, event_from}
 use Rattle.in_file.specs.Views.{Watched}
 use Rattle.in_file.specs.contracts.input.FileInput.{the_view}
 use Rattle.in_file.proofs.Giving.{gave_so, is_held}
@@ -14,7 +13,7 @@ returns-clause-gave c =
     let after : Watched = the_view (record c.self.inside { behind = c.self.inside.behind + c.in-Some.line.taken; held = c.pass.new.self }) in
     subst (λ v. GaveEvent c.in_ok-event.event v after) c.self.view_is
     (gave_so w after c.in_ok-event.event c.in-Some.line.content_len c.in-Some.line.taken (omega (arith, c.self.invariant.1)) c.in-Some.ensures.first c.in-Some.ensures.within
-    (c.in_ok-event.ensures ∙ ap (λ b. event_by c.self.inside.codec (record { line = text_of b; moment = c.self.inside.moment })) c.front-bytes.ensures)
+    (c.in_ok-event.ensures ∙ ap (λ (v : Watched). event_from v.path v.codec (record { line = text_of (take c.in-Some.line.content_len v.unread.bytes); moment = v.moment })) (sym c.self.view_is))
     (ap (λ u. record w { behind = c.self.inside.behind + c.in-Some.line.taken; unread = u }) c.pass.ensures))
 
 pub returns-clause-none : goal.returns-clause-none
