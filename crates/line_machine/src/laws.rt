@@ -85,9 +85,9 @@ pub fn parcels_were_due()
         → ParcelsWereDue makes listening bytes places }
 {}
 
-/// Whatever a line tells, sends and hears is legal, from its opening on, behind each step: each delivery to an address is
-/// told once an answer was heard, since the opening, that a parcel of exactly its events is assured, and each such
-/// answer serves one.
+/// Whatever a line tells, sends and hears is legal, from its opening on, behind each step, whatever earlier runs told:
+/// each delivery to an address is told once an answer was heard, since the opening, that a parcel of exactly its events
+/// is assured, and each such answer serves one.
 pub fn deeds_are_legal()
     ensures opened { (makes : Makes) (listening : Listening) (bytes : Bytes) (places : Places)
         → OpenedDoesLegally makes listening bytes places }
