@@ -98,9 +98,9 @@ module _ (makes : Makes) (listening : Listening) (first : List DeedOf) (entries 
       let now = first ++ run in
       let e = Deliver w.batch (place.Address address) events (fates_of w.entry) in
       let parts = told_by_both k since step ∙ ap (λ (l : List Entry). told_by k since ++ l) is ∙ sym (append_assoc (told_by k since) less (w.entry ∷ w.rest))
-          ∙ ap (λ (x : Entry). (told_by k since ++ less) ++ x ∷ w.rest) (delivery_of w.entry w.batch id (place.Address address) events w.tells) in
+      ∙ ap (λ (x : Entry). (told_by k since ++ less) ++ x ∷ w.rest) (delivery_of w.entry w.batch id (place.Address address) events w.tells) in
       let a : IsAnswered (mail_of k run) address events =
-          deliveries_are_answered makes (told_by k first) (deeds_by k run) (sound.legal k) (told_by k since ++ less) w.batch address events (fates_of w.entry) w.rest parts none in
+      deliveries_are_answered makes (told_by k first) (deeds_by k run) (sound.legal k) (told_by k since ++ less) w.batch address events (fates_of w.entry) w.rest parts none in
       let b = subst (λ (m : Mail). IsAnswered m address events) (sym (mail_since k first run entries)) a in
       let given = sound.heard k address a.parcel.number acts a.heard in
       let l = given.link in
@@ -199,12 +199,15 @@ module _ (makes : Makes) (listening : Listening) (bytes : Bytes) (places : ℕ �
       let told_then = deliveries_were_told makes (told k) w (sound k).legal was d i in
       let told_now = subst (λ l. WasTold makes start l was.out.plan d) (sym was.parts) (told_since makes was.out.plan d was.before (Ack was.batch ∷ was.rest) told_then) in
       ⊎_elim (λ (t : WasTold makes start (told_by k first) was.out.plan d). inl t)
-      (λ (r : (to : ℕ) × AllArrived listening address events (StandsThere makes (told to) (sound to).rows)). inr (r.0, record {
-        rows = r.1.rows;
-        made = r.1.made;
-        whole = r.1.whole;
-        stand = each_over links r.0 over r.1.rows r.1.stand;
-      }))
+      (λ (r : (to : ℕ) × AllArrived listening address events (StandsThere makes (told to) (sound to).rows)). inr (
+        r.0,
+        record {
+          rows = r.1.rows;
+          made = r.1.made;
+          whole = r.1.whole;
+          stand = each_over links r.0 over r.1.rows r.1.stand;
+        },
+      ))
       (deliveries_reach makes listening first steps last (λ n. (sound n).rows) entries are (λ n. (sound n).legal) (λ n. (sound n).fits) k address was.out.plan id events told_now)
 
   all_over : (links : ℕ) → AllOver links

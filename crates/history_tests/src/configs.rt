@@ -27,7 +27,10 @@ pub fn draws_of(alloc: Global, config: &Config) -> Result<Items<(Text, u64)>, Al
 
 /// Whether an output isn't built in.
 pub fn is_boxed(output: &Plugin) -> bool {
-    !matches!(output.name.as_str(), "stdout" | "file" | "pipeline" | "sink")
+    !matches!(
+        output.name.as_str(),
+        "stdout" | "file" | "pipeline" | "sink"
+    )
 }
 
 /// The number of the box of the first output.

@@ -70,7 +70,14 @@ fn rows_of(
         rows.append(page_rows(alloc, store, folder, tail.number, page, from)?)?;
     }
     let from = opened.state.first_open;
-    let last = page_rows(alloc, store, folder, opened.state.page, &opened.pages.top, from)?;
+    let last = page_rows(
+        alloc,
+        store,
+        folder,
+        opened.state.page,
+        &opened.pages.top,
+        from,
+    )?;
     rows.append(last)?;
     Ok(rows)
 }
