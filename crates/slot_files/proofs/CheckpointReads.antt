@@ -1,5 +1,5 @@
 -- What a checkpoint file says.
-use Rattle.std.proofs.Common.{◌≡◌, inl, inr, ℕ, ◌-◌, ◌<◌, nat_lt, true, false, List, length, take, drop, Option, Some, None, option_map, unwrap_or, refl, sym, ap, ◌∙◌, arith, subst, length-take, take-take}
+use Rattle.std.proofs.Common.{◌≡◌, inl, inr, ℕ, ◌-◌, nat_lt, true, false, List, length, take, drop, Option, Some, None, option_map, unwrap_or, refl, sym, ap, ◌∙◌, arith, subst, length-take, take-take}
 use Rattle.std.proofs.Math.Path.{ap₂}
 use Rattle.std.proofs.lemmas.Bool.{cond-true, cond-false, cases_Bool}
 use Rattle.std.proofs.lemmas.Bool.Decides.{nat_tests}

@@ -12,6 +12,7 @@ ghost use Rattle.slot_files.specs.CheckpointWrites.{ComesNext, LeavesOldOrNew};
 use crate::checkpoint_slot::{
     SLOT_LEN, computed_crc, slot_of, state_in, stored_crc, turn_of, version_of,
 };
+use crate::slots::place_of;
 use crc_frame::newest;
 use io_traits::{Failed, PageState, Store};
 
@@ -64,7 +65,7 @@ impl Checkpoint {
         ensures cause { HasCause (S.faults store.old) (S.faults store.new) (IsErr result) }
     {
         let slot = slot_of(turn, state);
-        store.write_at(name, place_of(turn), &slot)
+        store.write_at(name, place_of(SLOT_LEN, turn), &slot)
     }
 
     /// What a checkpoint file says: its newest intact slot, its length, and what is wanted to tell how it
@@ -80,13 +81,6 @@ impl Checkpoint {
         let count = store.read(name, 0, &mut bytes)?;
         Ok(slots_in(&bytes[..count], length))
     }
-}
-
-// Where the slot of a turn stands.
-fn place_of(turn: u64) -> u64
-    ensures { result ≡ place_of 48 turn }
-{
-    if turn % 2 == 0 { 0 } else { SLOT_LEN as u64 }
 }
 
 // The stored and the computed CRC-32 of the slot at 0, and its turn; zeros where the bytes end within it.

@@ -11,8 +11,8 @@ use byteorder::{BigEndian, ByteOrder};
 use crc_frame::crc32;
 use io_traits::{Failed, Store};
 
-// Where the slot of a turn stands.
-fn place_of(width: usize, turn: u64) -> u64
+/// Where the slot of a turn stands.
+pub(crate) fn place_of(width: usize, turn: u64) -> u64
     ensures { result ≡ place_of width turn }
 {
     if turn % 2 == 0 { 0 } else { width as u64 }
