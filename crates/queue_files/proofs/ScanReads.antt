@@ -19,7 +19,9 @@ use Rattle.queue_files.specs.Collected.{collected, IsLost}
 use Rattle.queue_files.specs.Opening.{held_tail, held_of, view_at, views_of, falls_at}
 use Rattle.queue_files.specs.Marks.{read_in}
 use Rattle.queue_files.specs.declared.checkpoint_state.Differing.{Differing}
-use Rattle.queue_files.specs.Reading.{found_of, FindsScanned}
+use Rattle.queue_files.specs.Queues.{HaveBytes}
+use Rattle.queue_files.specs.Reading.{found_of, IsBelow, IsScanned, FindsScanned}
+use Rattle.queue_files.specs.declared.page_scan.PagesBelow.{PagesBelow}
 use Rattle.queue_files.specs.declared.scanned.Scanned.{Scanned}
 use Rattle.queue_files.specs.declared.sealed_pages.SealedPage.{SealedPage}
 use Rattle.queue_files.proofs.Collecting.{lost_of}
@@ -166,11 +168,10 @@ page_read is_head p v is = ap (λ r. or_damage r (λ m. (page p.number, misfit m
 -- ---- exits
 
 -- what a `?` hands on
-pub handed_on : (names : Names) (folder : Folder) (s : PageState) (numbers : List ℕ) (result : Result Scanned QueueFault) (lost : QueueFault) → IsErrAnd result (λ e. e ≡ lost) → IsLost names lost (found_of folder s numbers)
-    → FindsScanned names folder s numbers result
-handed_on names folder s numbers result lost err is_lost =
+pub handed_on : {X : Type 0} (Says : Result X QueueFault → Type 0) (result : Result X QueueFault) (lost : QueueFault) → IsErrAnd result (λ e. e ≡ lost) → Says (Err lost) → Says result
+handed_on Says result lost err says =
     let p = err_from_is_err_and result err in
-    subst (λ r. FindsScanned names folder s numbers r) (sym (p.1 ∙ ap Err p.2)) is_lost
+    subst Says (sym (p.1 ∙ ap Err p.2)) says
 
 -- where none falls
 pub none_falls : (folder : Folder) (s : PageState) (slice tails : List SealedPage) (result : Option (ℕ × Differing)) → slice ≡ tails → result ≡ None
@@ -186,6 +187,9 @@ module _ (names : Names) (old now : Content) (same : now ≡ old) (slice tails :
   pub pages_read : (views : List PageView) → views_of (read_in names now) slice ≡ Ok views → views_of (read_in names old) tails ≡ Ok views
   pages_read views is = subst (λ (c : Content). views_of (read_in names c) tails ≡ Ok views) same (subst (λ l. views_of (read_in names now) l ≡ Ok views) is_slice is)
 
+  pub pages_have : HaveBytes (read_in names now) slice → HaveBytes (read_in names old) tails
+  pages_have have = subst (HaveBytes (read_in names old)) is_slice (subst (λ (c : Content). HaveBytes (read_in names c) slice) same have)
+
 -- and of the head page
 module _ (names : Names) (old now : Content) (same : now ≡ old) (s : PageState) (name : List ℕ) (is_name : name ≡ names (page s.page)) where
   pub head_lost : (fault : QueueFault) → Answers (λ (v : PageView). v) name (Err fault) (opened_view true s (bytes_of (now name))) → IsLost names fault (view_at true (head_held (read_in names old) s))
@@ -198,3 +202,29 @@ module _ (names : Names) (old now : Content) (same : now ≡ old) (s : PageState
   head_read v is =
       page_read true (head_held (read_in names old) s) v
       (subst (λ n. opened_view true s (bytes_of (old n)) ≡ Ok v) is_name (subst (λ (c : Content). opened_view true s (bytes_of (c name)) ≡ Ok v) same is))
+
+-- the head page, behind the pages below it
+module _ (names : Names) (old now : Content) (same : now ≡ old) (s : PageState) (numbers : List ℕ) (b : PagesBelow) (below : IsBelow (read_in names old) numbers b)
+    (rises : (f : Folder) → falling 0 (map (held_tail f) b.tails.items ++ head_held f s ∷ []) ≡ None) (name : List ℕ) (is_name : name ≡ names (page s.page)) where
+  abbrev folder : Folder
+  folder = read_in names old
+
+  pub last_lost : (result : Result Scanned QueueFault) (lost : QueueFault) → IsErrAnd result (λ e. e ≡ lost) → Answers (λ (v : PageView). v) name (Err lost) (opened_view true s (bytes_of (now name)))
+      → FindsScanned names folder s numbers result
+  last_lost result lost err said =
+      handed_on (FindsScanned names folder s numbers) result lost err
+      (found_top_lost folder s numbers b.tails.items below.tails (rises folder) b.pages.items below.pages names lost (head_lost names old now same s name is_name lost said))
+
+  pub last_read : (v : PageView) → opened_view true s (bytes_of (now name)) ≡ Ok v → IsScanned folder s numbers (record { tails = b.tails; pages = b.pages; top = v })
+  last_read v is =
+      let top = head_read names old now same s name is_name v is in
+      let rows = found_rows folder s numbers b.tails.items below.tails (rises folder) b.pages.items below.pages v top in
+      record {
+        tails = below.tails;
+        pages = below.pages;
+        top = top;
+        rows = rows.rows;
+        is_found = rows_found folder s numbers b.tails.items below.tails (rises folder) b.pages.items below.pages v rows;
+        next = rows.next;
+        recorded = rows.recorded;
+      }

@@ -12,11 +12,21 @@ use Rattle.queue_files.specs.Found.{Damaged, Found, head_held, found_in, found}
 use Rattle.queue_files.specs.Collected.{IsLost}
 use Rattle.queue_files.specs.Marks.{read_in, NoChances}
 use Rattle.queue_files.specs.Opening.{held_tail, held_of, view_at, views_of}
+use Rattle.queue_files.specs.declared.page_scan.PagesBelow.{PagesBelow}
 use Rattle.queue_files.specs.declared.scanned.Scanned.{Scanned}
 
 -- what a folder holds whose head slot says this, and that has the pages of these numbers below
 abbrev pub found_of : Folder → PageState → List ℕ → Result Found Damaged
 found_of folder s numbers = and_then (held_of folder numbers) (found_in (head_held folder s))
+
+-- these are its pages below the head
+pub record IsBelow (folder : Folder) (numbers : List ℕ) (r : PagesBelow) : Type 0 where
+  pub tails : held_of folder numbers ≡ Ok (map (held_tail folder) r.tails.items)
+  pub pages : views_of folder r.tails.items ≡ Ok r.pages.items
+
+abbrev pub FindsBelow : Names → Folder → PageState → List ℕ → Result PagesBelow QueueFault → Type 0
+FindsBelow names folder s numbers (Ok r) = IsBelow folder numbers r
+FindsBelow names folder s numbers (Err fault) = IsLost names fault (found_of folder s numbers)
 
 -- these are its pages, and it holds rows, behind which comes this number
 pub record IsScanned (folder : Folder) (s : PageState) (numbers : List ℕ) (r : Scanned) : Type 0 where

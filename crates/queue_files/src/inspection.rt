@@ -19,9 +19,9 @@ use crate::listing::Listing;
 use crate::look::{Look, is_new, look_at};
 use crate::naming::page_name;
 use crate::opening::OpenedQueue;
-use crate::page_scan::{first_out_of_order, scan_tails};
+use crate::page_scan::{PagesBelow, read_below};
 use crate::scanned::Scanned;
-use crate::sealed_pages::{damaged, read_tails};
+use crate::sealed_pages::damaged;
 use crate::starting::FIRST_STATE;
 use io_traits::{PageState, QueueFault, Store};
 use queue_page::Page;
@@ -146,12 +146,7 @@ fn see_pages<S: Store>(
     ensures same { ChangesNothing S.tells S.seen S.moment S.may_leave store.old store.new }
     ensures cause { HasCause (S.faults store.old) (S.faults store.new) (result ≡ Err f.Fault) }
 {
-    let tails = read_tails(alloc, store, folder, numbers)?;
-    if let Some((number, differing)) = first_out_of_order(tails.as_slice(), head) {
-        let name = page_name(alloc, folder, number)?;
-        return Err(damaged(name, differing));
-    }
-    let pages = scan_tails(alloc, store, folder, tails.as_slice())?;
+    let PagesBelow { tails, pages } = read_below(alloc, store, folder, numbers, head)?;
     let name = page_name(alloc, folder, head.page)?;
     let top = Page::look(alloc, store, name.as_str(), head, true)?;
     Ok(Scanned { tails, pages, top })

@@ -10,8 +10,8 @@ ghost use Rattle.queue_files.specs.Queues.{IsAllAtRest, LeavesRead};
 ghost use Rattle.queue_files.specs.Reading.{FindsScanned, KeepsFound};
 
 use crate::naming::page_name;
-use crate::page_scan::{first_out_of_order, scan_tails};
-use crate::sealed_pages::{SealedPage, damaged, read_tails};
+use crate::page_scan::{PagesBelow, read_below};
+use crate::sealed_pages::SealedPage;
 use io_traits::{PageState, QueueFault, Store};
 use queue_page::Page;
 use std::alloc::Global;
@@ -50,12 +50,7 @@ pub fn read_pages<S: Store>(
         store.old store.new }
     ensures cause { HasCause (S.faults store.old) (S.faults store.new) (result ≡ Err f.Fault) }
 {
-    let tails = read_tails(alloc, store, folder, numbers)?;
-    if let Some((number, differing)) = first_out_of_order(tails.as_slice(), head) {
-        let name = page_name(alloc, folder, number)?;
-        return Err(damaged(name, differing));
-    }
-    let pages = scan_tails(alloc, store, folder, tails.as_slice())?;
+    let PagesBelow { tails, pages } = read_below(alloc, store, folder, numbers, head)?;
     let name = page_name(alloc, folder, head.page)?;
     let top = Page::scan(alloc, store, name.as_str(), head, true)?;
     Ok(Scanned { tails, pages, top })
