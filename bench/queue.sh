@@ -4,8 +4,10 @@
 # least of five runs each, with pages of 64 MiB, of 1 MiB and of 2,000 rows, of which 100 are kept, and where they are purged.
 # Beside it a C program that makes the same calls with the same bytes. It fails where the files of the two differ; where ours
 # takes more than 1.5 times what that program, `encode`, `decode` and two CRCs of these rows take together; or where what ours
-# takes beside the calls is 1.25 times as much with 100 pages as with one. Then a folder of 1 GiB is opened, and one of a
-# sixteenth of that: it fails where the first takes more than 4 MiB more of memory. Needs cc and GNU time.
+# takes beside the calls is 1.25 times as much with 100 pages as with one. The same rows are written and kept for their batch,
+# with pages of 64 MiB: it fails where the files differ, or where one of these takes more than 0.6 of what one takes that is
+# read. Then a folder of 1 GiB is opened, and one of a sixteenth of that: it fails where the first takes more than 4 MiB more
+# of memory. Needs cc and GNU time.
 . "$(dirname "$0")/common.sh"
 
 rows=200000
@@ -70,10 +72,19 @@ for way in "keep $large" "keep 1048576" "keep $((2000 * bytes + 1))" "purge $lar
         too_slow="$too_slow, $way"
     fi
     case "$way $pages" in
-    "keep $large 1") least=$((ours - theirs)) ;;
+    "keep $large 1")
+        least=$((ours - theirs)) read=$ours
+        cp -r "$work/theirs/queue" "$work/theirs/one"
+        ;;
     keep*100) most=$((ours - theirs)) ;;
     esac
 done
+
+read -r held elapsed <<<"$(our_times hold $large)"
+held=$((held * 1000000 / rows))
+diff -r "$work/ours/queue" "$work/theirs/one"
+[ "$(cat "$work/output")" = 0 ]
+echo "hold $large: $held ns of processor time a row that is kept for its batch, $((rows * 1000 / elapsed)) rows a second"
 
 open_filled 223696
 small=$(awk '{ print $4 }' "$work/best")
@@ -83,6 +94,10 @@ echo "1 GiB is opened in $elapsed s ($user and $system s of processor time) with
 
 if [ -n "$too_slow" ]; then
     echo "rows take more than 1.5 times what C, encode, decode and two CRCs take together$too_slow"
+    exit 1
+fi
+if [ $((10 * held)) -gt $((6 * read)) ]; then
+    echo "a row that is kept takes $held ns, and one that is read $read ns"
     exit 1
 fi
 if [ $((4 * most)) -gt $((5 * least)) ]; then

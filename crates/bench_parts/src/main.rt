@@ -43,7 +43,7 @@ parse parse|lex|print TIMES FILE
 patterns search FILE LINES
 patterns make FILE COUNT
 queue size|encode|decode ROUNDS
-queue open|fill|keep|purge CAPACITY ROWS
+queue open|fill|keep|hold|purge CAPACITY ROWS
 store FILE APPENDS EVERY
 templates TIMES FILE
 ";

@@ -1,9 +1,10 @@
-//! Writes rows into a queue in a `FileStore`, takes them in batches, acknowledges, marks and purges, or opens the queue
-//! (bench/queue.sh).
+//! Writes rows into a queue in a `FileStore`, kept for their batch or not, takes them in batches, acknowledges, marks and
+//! purges, or opens the queue (bench/queue.sh).
 
 use crate::elements;
 use event_tree::Event;
 use io_real::FileStore;
+use plain_data::Items;
 use queue_core::{Limits, Queue};
 use std::alloc::Global;
 
@@ -52,6 +53,7 @@ pub fn run(rt: &HostRuntime, words: &[String]) -> Option<u64> {
     match call.as_str() {
         "fill" => fill(rt.alloc(), &mut store, &mut queue, &event, rows)?,
         "keep" => pass(rt.alloc(), &mut store, &mut queue, &event, rows, false)?,
+        "hold" => hold(rt.alloc(), &mut store, &mut queue, rows)?,
         "purge" => pass(rt.alloc(), &mut store, &mut queue, &event, rows, true)?,
         _ => {}
     }
@@ -102,6 +104,33 @@ fn pass(
             if purges {
                 purge(store, queue)?;
             }
+        }
+    }
+    Some(())
+}
+
+/// The same with rows that are kept for their batch: the events that a batch gives are those of the next rows.
+fn hold(
+    alloc: Global,
+    store: &mut FileStore<&HostRuntime>,
+    queue: &mut Queue,
+    rows: u32,
+) -> Option<()> {
+    let mut events = Items::new(alloc);
+    for _ in 0..BATCH {
+        events.push(event(alloc)?).ok()?;
+    }
+    for row in 0..rows {
+        let event = events.pop()?;
+        queue.write_and_keep(alloc, store, ORIGIN, event).ok()?;
+        let written = row.wrapping_add(1);
+        if written % BATCH == 0 {
+            let batch = queue.take_batch(alloc, store, BATCH).ok()??;
+            queue.acknowledge(batch.numbers);
+            events = batch.events;
+        }
+        if written % EVERY == 0 {
+            queue.mark(store).ok()?;
         }
     }
     Some(())

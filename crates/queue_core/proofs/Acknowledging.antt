@@ -102,6 +102,7 @@ module _ (numbers : Numbers) where
     top = of.top;
     part = λ has. of.part (⊎_elim (λ (is : v.cursor.page ≡ v.top.number). inl is) (λ (among : IsAmong v.cursor.page (map (with_acknowledged numbers) v.tails)). inr (among_still v.cursor.page v.tails among)) has);
     within = of.within;
+    kept = of.kept;
   }
 
 -- ---- checkpoints

@@ -20,9 +20,11 @@ use Rattle.queue_files.specs.Writes.{NoneShorter}
 use Rattle.queue_files.proofs.TornMarks.{number_of}
 use Rattle.queue_core.specs.Calls.{end_of}
 use Rattle.queue_core.specs.Opens.{AreLong, Climb, HasPage, IsReady, Opens, TailsSlotted, place_behind}
+use Rattle.queue_core.specs.Kept.{AreKept}
 use Rattle.queue_core.specs.Views.{OpenPageView, QueueView}
 use Rattle.queue_core.specs.Writing.{behind_append}
 use Rattle.queue_core.proofs.BitLists.{leads_still}
+use Rattle.queue_core.proofs.KeptLemmas.{kept_grown}
 
 -- ---- the queue with its row is one that can be
 
@@ -155,5 +157,7 @@ module _ {S : Type 0} (store : StoreWords S) (v : QueueView) (frame : List ℕ) 
               top = ap file_length (top_file told) ∙ length-append (bytes_of (store.seen old (names_in v.folder (page v.top.number)))) frame ∙ ap (λ n. n + length frame) (opens.files told).top;
               part = λ has. part_now told has;
               within = (opens.files told).within;
+              kept = subst (λ (f : Option (List ℕ)). AreKept v.top.number v.top.page.version (bytes_of f) v.cursor.kept) (sym (top_file told))
+                  (kept_grown v.top.number v.top.page.version (bytes_of (store.seen old (names_in v.folder (page v.top.number)))) frame v.cursor.kept (opens.files told).kept);
             };
           }

@@ -14,7 +14,6 @@ use Rattle.io_traits.specs.declared.queue_faults.QueueFault.TheVariants as f
 use Rattle.io_traits.proofs.Looking.{nothing_left}
 use Rattle.queue_page.specs.Blocks.{IsPart}
 use Rattle.queue_page.specs.Elements.{and_then}
-use Rattle.queue_page.specs.Views.{PageBufferView}
 use Rattle.queue_files.specs.Folders.{Names, page, folder_in, names_in}
 use Rattle.queue_files.specs.Kept.{Queue, Kept}
 use Rattle.queue_files.specs.Resting.{Held, Rests}
@@ -25,9 +24,11 @@ use Rattle.queue_files.specs.declared.marking.Mark.{Mark}
 use Rattle.queue_core.specs.Batching.{Finds}
 use Rattle.queue_core.specs.Calls.{IsHeldQueue}
 use Rattle.queue_core.specs.Opens.{AreLong, HasPage, IsAmong, IsOfFiles, KeepsQueue, Opens}
-use Rattle.queue_core.specs.Taking.{Stand, begun, pages_read, rows_taken, batch_from, batch_of, number_of, rows_in, all_pages, with_block, behind_take, taken_of, IsThere, AreThere, WasRead}
+use Rattle.queue_core.specs.Taking.{Stand, begun, pages_read, rows_taken, batch_from, batch_of, number_of, rows_in, all_pages, with_held, behind_take, taken_of, IsThere, AreThere, KeptIn, WasRead}
+use Rattle.queue_core.specs.Kept.{AreKept}
 use Rattle.queue_core.specs.Views.{OpenPageView, CursorView, QueueView}
 use Rattle.queue_core.specs.declared.batch.Batch.{Batch}
+use Rattle.queue_core.specs.declared.kept.KeptRow.{KeptRow}
 use Rattle.queue_core.specs.declared.page_rows.QueueRow.{QueueRow}
 use Rattle.queue_core.specs.declared.page_rows.BatchReader.{BatchReader}
 
@@ -44,15 +45,15 @@ module _ (most : ℕ) (content : Content) (v : QueueView) (some : (v.unread == 0
   read_of : rows_taken most content v ≡ pages_read content (all_pages v) (begun most v.cursor)
   read_of = cond-false _ _ _ some
 
-  pub batch_taken : (s : Stand) (block : PageBufferView) (batch : Option Batch) (now : QueueView) → pages_read content (all_pages v) (begun most v.cursor) ≡ Ok s → batch ≡ batch_of s.reading → behind_take block s v ≡ now
-      → and_then (rows_taken most content v) (taken_of block v) ≡ Ok (batch, now)
-  batch_taken s block batch now read is left = ap (λ q. and_then q (taken_of block v)) (read_of ∙ read) ∙ (λ i. Ok (sym is i, left i))
+  pub batch_taken : (s : Stand) (held : CursorView) (batch : Option Batch) (now : QueueView) → pages_read content (all_pages v) (begun most v.cursor) ≡ Ok s → batch ≡ batch_of s.reading → behind_take held s v ≡ now
+      → and_then (rows_taken most content v) (taken_of held v) ≡ Ok (batch, now)
+  batch_taken s held batch now read is left = ap (λ q. and_then q (taken_of held v)) (read_of ∙ read) ∙ (λ i. Ok (sym is i, left i))
 
-  pub batch_lost : {X Y : Type 0} (view : X → Stand) (whole : Y → Option Batch × QueueView) (fault : QueueFault) (block : PageBufferView) → Finds view (Err fault) (pages_read content (all_pages v) (begun most v.cursor))
-      → Finds whole (Err fault) (and_then (rows_taken most content v) (taken_of block v))
-  batch_lost view whole (f.Damaged d) block lost = ap (λ q. and_then q (taken_of block v)) (read_of ∙ lost)
-  batch_lost view whole f.Fault block lost = tt
-  batch_lost view whole f.Memory block lost = tt
+  pub batch_lost : {X Y : Type 0} (view : X → Stand) (whole : Y → Option Batch × QueueView) (fault : QueueFault) (held : CursorView) → Finds view (Err fault) (pages_read content (all_pages v) (begun most v.cursor))
+      → Finds whole (Err fault) (and_then (rows_taken most content v) (taken_of held v))
+  batch_lost view whole (f.Damaged d) held lost = ap (λ q. and_then q (taken_of held v)) (read_of ∙ lost)
+  batch_lost view whole f.Fault held lost = tt
+  batch_lost view whole f.Memory held lost = tt
 
 -- ---- the files
 
@@ -85,10 +86,19 @@ pub all_there : (v : QueueView) (marks : List Mark) (bytes : ℕ) (content : Con
 all_there v marks bytes content held files =
     tails_there v.folder content v.cursor v.tails v.top held.tails files.tails (λ among. files.part (inr among)) (one_there v.folder content v.cursor v.top held.top (omega (arith, files.top)) (λ is. files.part (inl is)))
 
+-- the rows that are kept stand in the file of the head page, and those that are left of them
+pub kept_there : (v : QueueView) (marks : List Mark) (bytes : ℕ) (content : Content) → IsHeldQueue v marks bytes → IsOfFiles v content → KeptIn v.top (bytes_of (content v.top.file)) v.cursor.kept
+kept_there v marks bytes content held files =
+    subst (λ (name : List ℕ). KeptIn v.top (bytes_of (content name)) v.cursor.kept) (sym held.top) (record { long = files.top; are = files.kept })
+
+pub kept_left : (v : QueueView) (marks : List Mark) (bytes : ℕ) (content : Content) (left : List KeptRow) → IsHeldQueue v marks bytes → KeptIn v.top (bytes_of (content v.top.file)) left
+    → AreKept v.top.number v.top.page.version (bytes_of (content (names_in v.folder (page v.top.number)))) left
+kept_left v marks bytes content left held kept = subst (λ (name : List ℕ). AreKept v.top.number v.top.page.version (bytes_of (content name)) left) held.top kept.are
+
 module _ (v : QueueView) (content : Content) where
-  pub files_taken : (unread : ℕ) (cursor : CursorView) → WasRead (λ n. names_in v.folder (page n)) content v.cursor.page v.cursor.block cursor.page cursor.block → cursor.page ≤ v.top.number → IsOfFiles v content
-      → IsOfFiles (record v { unread = unread; cursor = cursor }) content
-  files_taken unread cursor was within files = record {
+  pub files_taken : (unread : ℕ) (cursor : CursorView) → WasRead (λ n. names_in v.folder (page n)) content v.cursor.page v.cursor.block cursor.page cursor.block → cursor.page ≤ v.top.number
+      → AreKept v.top.number v.top.page.version (bytes_of (content (names_in v.folder (page v.top.number)))) cursor.kept → IsOfFiles v content → IsOfFiles (record v { unread = unread; cursor = cursor }) content
+  files_taken unread cursor was within kept files = record {
     tails = files.tails;
     top = files.top;
     part = λ has. ⊎_elim
@@ -97,14 +107,17 @@ module _ (v : QueueView) (content : Content) where
         (λ part. part)
         was.either;
     within = within;
+    kept = kept;
   }
 
-  pub files_lost : (block : PageBufferView) → ((file : List ℕ) → IsPart file v.cursor.block → IsPart file block) → IsOfFiles v content → IsOfFiles (with_block block v) content
-  files_lost block lost files = record {
+  pub files_lost : (held : CursorView) → ((file : List ℕ) → IsPart file v.cursor.block → IsPart file held.block)
+      → AreKept v.top.number v.top.page.version (bytes_of (content (names_in v.folder (page v.top.number)))) held.kept → IsOfFiles v content → IsOfFiles (with_held held v) content
+  files_lost held lost kept files = record {
     tails = files.tails;
     top = files.top;
     part = λ has. lost (bytes_of (content (names_in v.folder (page v.cursor.page)))) (files.part has);
     within = files.within;
+    kept = kept;
   }
 
 -- ---- the queue of the folder

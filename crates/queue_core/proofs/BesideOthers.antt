@@ -16,6 +16,7 @@ use Rattle.queue_files.specs.Ready.{Ready}
 use Rattle.queue_files.proofs.Keeping.{at_rest_rests}
 use Rattle.queue_core.specs.Beside.{HoldsBeside, StaysOpen, StaysReady}
 use Rattle.queue_core.specs.Opens.{TailsSlotted, IsSlotted, AreLong, IsOfFiles, Opens}
+use Rattle.queue_core.specs.Kept.{AreKept}
 use Rattle.queue_core.specs.Views.{OpenPageView, QueueView}
 
 -- what reads give of the files of a folder
@@ -38,6 +39,7 @@ files_still v old new same files = record {
   top = ap file_length (same (page v.top.number)) ∙ files.top;
   part = λ has. subst (λ file. IsPart (bytes_of file) v.cursor.block) (sym (same (page v.cursor.page))) (files.part has);
   within = files.within;
+  kept = subst (λ file. AreKept v.top.number v.top.page.version (bytes_of file) v.cursor.kept) (sym (same (page v.top.number))) files.kept;
 }
 
 module _ {S : Type 0} (store : StoreWords S) where

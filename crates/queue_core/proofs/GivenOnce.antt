@@ -1,12 +1,11 @@
 -- Each row of a queue is given once, in the order of the numbers: call by call, and over whole runs.
-use Rattle.std.proofs.Common.{◌≡◌, ◌↔◌, ◌⊎◌, inl, inr, ⊎_elim, ℕ, suc, ◌≤◌, ◌==◌, Bool, true, false, if◌then◌else◌, IsTrue, List, [], ◌∷◌, ◌++◌, length, map, slice_get, Option, None, Some, Result, Ok, refl, sym, ap, ◌∙◌, subst, arith, append_assoc, append-nil}
+use Rattle.std.proofs.Common.{◌≡◌, ◌↔◌, ◌⊎◌, inl, inr, ⊎_elim, ℕ, suc, ◌≤◌, ◌==◌, Bool, true, false, if◌then◌else◌, IsTrue, List, [], ◌∷◌, ◌++◌, length, map, slice_get, Option, None, Result, Ok, refl, sym, ap, ◌∙◌, subst, arith, append_assoc, append-nil}
 use Rattle.io_traits.specs.Calls.{ChangesNothing}
 use Rattle.io_traits.specs.declared.stores.Store.{Ghosts as StoreWords}
 use Rattle.io_traits.specs.declared.queue_faults.Damage.{Damage}
 use Rattle.event_tree.specs.Events.{Ev}
 use Rattle.io_traits.specs.Folders.{Content}
 use Rattle.queue_page.specs.Elements.{and_then}
-use Rattle.queue_page.specs.Views.{PageBufferView}
 use Rattle.queue_page.specs.declared.row.PageRow.{PageRow}
 use Rattle.queue_files.specs.Found.{Row}
 use Rattle.queue_files.specs.Kept.{Queue, all_rows}
@@ -14,20 +13,24 @@ use Rattle.queue_files.specs.Steps.{marked}
 use Rattle.queue_files.specs.declared.opening.OpenedQueue.{OpenedQueue}
 use Rattle.queue_core.specs.Acknowledging.{acknowledged}
 use Rattle.queue_core.specs.Calls.{behind_acknowledge, behind_mark, behind_purge, end_of, with_marked, with_recorded, without_spent}
-use Rattle.queue_core.specs.GivenOnce.{AreBehind, AreOf, AreOpen, AreRising, Calls, GivesNext, IsBatch, IsGiven, IsOf, RowsAreGivenOnce, StillGives, is_acknowledged, with_batch, acknowledge, mark, no_batch, no_call, purge, take_batch, write}
+use Rattle.queue_core.specs.GivenOnce.{AreBehind, AreOf, AreOpen, AreRising, Calls, GivesNext, IsBatch, IsGiven, IsOf, RowsAreGivenOnce, StillGives, is_acknowledged, with_batch, acknowledge, mark, no_batch, no_call, purge, take_batch, write, write_and_keep}
+use Rattle.queue_core.specs.Keeping.{KeepsOne, with_kept}
 use Rattle.queue_core.specs.Opening.{cursor_at, first_of, queue_opened, OpensAs}
 use Rattle.queue_core.specs.Opens.{Becomes, IsAmong, purged}
 use Rattle.queue_core.specs.QueueBatches.{AreNamed, AreUnread, CursorStands, page_rows}
-use Rattle.queue_core.specs.Taking.{Stand, all_pages, batch_from, batch_of, begun, behind_take, event_of, number_of, pages_read, rows_taken, taken_of, HasSameNext, with_block}
+use Rattle.queue_core.specs.Taking.{Stand, all_pages, batch_from, batch_of, begun, behind_take, event_of, number_of, pages_read, rows_taken, taken_of, HasSameNext, with_held}
 use Rattle.queue_core.specs.Unread.{told}
 use Rattle.queue_core.specs.UnreadRows.{AreGiven, next_row}
 use Rattle.queue_core.specs.Views.{CursorView, OpenPageView, QueueView}
 use Rattle.queue_core.specs.Writing.{behind_append, behind_write, frame_size, made_ready, needs_page, next_top, sealed, with_open_row, with_written}
 use Rattle.queue_core.specs.declared.batch.Batch.{Batch}
+use Rattle.queue_core.specs.declared.kept.KeptRow.{KeptRow}
 use Rattle.queue_core.specs.declared.limits.Limits.{Limits}
 use Rattle.queue_core.specs.declared.limits.Numbers.{Numbers}
 use Rattle.queue_core.specs.declared.page_rows.QueueRow.{QueueRow}
 use Rattle.queue_core.specs.declared.page_rows.BatchReader.{BatchReader}
+use Rattle.queue_core.proofs.KeptLemmas.{opens_fewer}
+use Rattle.queue_core.proofs.KeptWrites.{write_keeps}
 use Rattle.queue_core.proofs.OpenRows.{fresh_open, one_more_open, open_acknowledged, open_by, open_given, open_rest, tails_fresh, unset_behind, unset_marked, unset_page, unset_row, unset_spent, unset_with}
 use Rattle.queue_core.proofs.PageNumbers.{ok_same}
 use Rattle.queue_core.proofs.QueueBatch.{Takes, none_left, takes}
@@ -100,11 +103,11 @@ first_among (o ∷ tails) top = inl refl
 ok_pair : {x y : Option Batch × QueueView} → ◌≡◌ {A = Result (Option Batch × QueueView) Damage} (Ok x) (Ok y) → x ≡ y
 ok_pair is = cc
 
--- the next row stands where it stood, whatever was read last
-block_stands : (content : Content) (c : CursorView) (block : PageBufferView) (pages : List OpenPageView) (rows : List (List PageRow)) → CursorStands content c pages rows → CursorStands content (record c { block = block }) pages rows
-block_stands content c block [] rows stands = tt
-block_stands content c block (o ∷ pages) [] stands = tt
-block_stands content c block (o ∷ pages) (rows ∷ others) stands = (stands.0, block_stands content c block pages others stands.1)
+-- the next row stands where it stood, whatever was read last and is kept
+held_stands : (content : Content) (c held : CursorView) (pages : List OpenPageView) (rows : List (List PageRow)) → CursorStands content c pages rows → CursorStands content (record c { block = held.block; kept = held.kept }) pages rows
+held_stands content c held [] rows stands = tt
+held_stands content c held (o ∷ pages) [] stands = tt
+held_stands content c held (o ∷ pages) (rows ∷ others) stands = (stands.0, held_stands content c held pages others stands.1)
 
 module _ (most : ℕ) (content : Content) (v : QueueView) where
   -- a reading ends where the next row was, or in a page of the queue
@@ -185,6 +188,24 @@ module _ {S : Type 0} (store : StoreWords S) where
           rise = rise_written (next_row v origin event) size (needs_page size v) refl;
         }
 
+    kept_gives : (origin : List ℕ) (event : Ev) (kept : List KeptRow) (new : S) → Becomes store (with_written v origin event) v (with_kept kept (behind_write (frame_size origin event) v)) old new → KeepsOne v.cursor.kept kept
+        → GivesNext store (with_kept kept (behind_write (frame_size origin event) v)) (with_written v origin event q) (rows ++ next_row v origin event ∷ []) new
+    kept_gives origin event kept new becomes one =
+        let size = frame_size origin event in
+        let w = behind_write size v in
+        let same : KeepsOne w.cursor.kept kept = subst (λ (l : List KeptRow). KeepsOne l kept) (sym (write_keeps size v)) one in
+        let plain : Becomes store (with_written v origin event) v w old new = λ r opens. opens_fewer store w (with_written v origin event r) new kept same (becomes r opens) in
+        let next = written_gives origin event new plain in
+        record {
+          unread = record {
+            opens = becomes q g.unread.opens;
+            named = next.unread.named;
+            unread = record { stands = held_stands (store.seen new) w.cursor (record w.cursor { kept = kept }) (all_pages w) (page_rows (with_written v origin event q)) next.unread.unread.stands; rows_are = next.unread.unread.rows_are; count = next.unread.unread.count };
+          };
+          still = next.still;
+          rise = next.rise;
+        }
+
     -- ---- a batch
 
     module _ (most : ℕ) (batch : Option Batch) (next : QueueView) (is : IsBatch most (store.seen old) v batch next) where
@@ -192,10 +213,10 @@ module _ {S : Type 0} (store : StoreWords S) where
       got = takes most (store.seen old) v q rows (is_read store v q old tells g.unread.opens g.unread.named) g.unread.unread
 
       abbrev after : QueueView
-      after = behind_take next.cursor.block got.s v
+      after = behind_take next.cursor got.s v
 
-      pair_is : ◌≡◌ {A = Option Batch × QueueView} (batch_of got.s.reading, behind_take next.cursor.block got.s v) (batch, next)
-      pair_is = ok_pair (sym (ap (λ (r : Result Stand Damage). and_then r (taken_of next.cursor.block v)) got.is) ∙ is)
+      pair_is : ◌≡◌ {A = Option Batch × QueueView} (batch_of got.s.reading, behind_take next.cursor got.s v) (batch, next)
+      pair_is = ok_pair (sym (ap (λ (r : Result Stand Damage). and_then r (taken_of next.cursor v)) got.is) ∙ is)
 
       batch_is : batch_of got.s.reading ≡ batch
       batch_is = ap (λ (x : Option Batch × QueueView). x.0) pair_is
@@ -210,7 +231,7 @@ module _ {S : Type 0} (store : StoreWords S) where
           subst (λ (x : Stand). AreRising x.reading.number got.rest (end_of v.top)) (sym same) (subst (λ (l : List Row). AreRising v.cursor.number l (end_of v.top)) (sym all) g.rise))
           (λ (among : IsAmong got.s.page (all_pages v)).
           let opens = g.unread.opens in
-          let left = got.left next.cursor.block in
+          let left = got.left next.cursor in
           subst (λ (l : List Row). AreRising after.cursor.number l (end_of v.top)) left.rows_are
           (rise_next (store.seen old) after.cursor 0 0 v.tails v.top q.tails q.top opens.tails opens.top opens.ready.is left.stands among))
           (taken_among most (store.seen old) v got.s got.is)
@@ -223,7 +244,7 @@ module _ {S : Type 0} (store : StoreWords S) where
         unread = record {
           opens = becomes q g.unread.opens;
           named = subst (λ (x : QueueView). AreNamed x.folder (all_pages x)) next_is g.unread.named;
-          unread = subst (λ (x : QueueView). AreUnread (store.seen new) x q got.rest) next_is (subst (λ (c : Content). AreUnread c after q got.rest) (sym (same.reads tells)) (got.left next.cursor.block));
+          unread = subst (λ (x : QueueView). AreUnread (store.seen new) x q got.rest) next_is (subst (λ (c : Content). AreUnread c after q got.rest) (sym (same.reads tells)) (got.left next.cursor));
         };
         still = subst (λ (x : QueueView). AreOpen (all_pages x) got.rest) next_is (open_rest (all_pages v) (map told got.s.reading.rows) got.rest (subst (AreOpen (all_pages v)) (sym got.all) g.still));
         rise = subst (λ (x : QueueView). AreRising x.cursor.number got.rest (end_of x.top)) next_is rise_after;
@@ -246,14 +267,14 @@ module _ {S : Type 0} (store : StoreWords S) where
 
     lost_gives : (next : QueueView) (new : S) → HasSameNext v next → ChangesNothing store.tells store.seen store.moment store.may_leave old new → Becomes store (λ q. q) v next old new → GivesNext store next q rows new
     lost_gives next new is same becomes =
-        let block = next.cursor.block in
+        let held = next.cursor in
         let unread = g.unread.unread in
-        let left : AreUnread (store.seen old) (with_block block v) q rows = record { stands = block_stands (store.seen old) v.cursor block (all_pages v) (page_rows q) unread.stands; rows_are = unread.rows_are; count = unread.count } in
+        let left : AreUnread (store.seen old) (with_held held v) q rows = record { stands = held_stands (store.seen old) v.cursor held (all_pages v) (page_rows q) unread.stands; rows_are = unread.rows_are; count = unread.count } in
         record {
           unread = record {
             opens = becomes q g.unread.opens;
             named = subst (λ (x : QueueView). AreNamed x.folder (all_pages x)) (sym is) g.unread.named;
-            unread = subst (λ (x : QueueView). AreUnread (store.seen new) x q rows) (sym is) (subst (λ (c : Content). AreUnread c (with_block block v) q rows) (sym (same.reads tells)) left);
+            unread = subst (λ (x : QueueView). AreUnread (store.seen new) x q rows) (sym is) (subst (λ (c : Content). AreUnread c (with_held held v) q rows) (sym (same.reads tells)) left);
           };
           still = subst (λ (x : QueueView). AreOpen (all_pages x) rows) (sym is) g.still;
           rise = subst (λ (x : QueueView). AreRising x.cursor.number rows (end_of x.top)) (sym is) g.rise;
@@ -287,6 +308,22 @@ module _ {S : Type 0} (store : StoreWords S) where
           queue = with_written before origin event i.queue;
           rows = i.rows ++ row ∷ [];
           next = written_gives before i.queue i.rows old tells i.next origin event new becomes;
+          front = i.front;
+          are = i.are;
+          are_all = sym (append_assoc i.front i.rows (row ∷ [])) ∙ ap (λ (l : List Row). l ++ row ∷ []) i.are_all ∙ append_assoc rows written (row ∷ []);
+          in_order = subst (λ (l : List Row). AreRising 0 l (end_of (behind_write size before).top)) (append_assoc rows written (row ∷ []))
+              (rise_then 0 (rows ++ written) (end_of before.top) (row ∷ []) (end_of (behind_write size before).top) i.in_order (omega arith, grown));
+          behind = behind_row given i.rows row (end_of before.top) (end_of (behind_write size before).top) i.behind refl grown;
+        }
+    calls_give given all w new (write_and_keep {written = written} {w = before} {old = old} origin event kept calls becomes one) =
+        let i = calls_give given written before old calls in
+        let row = next_row before origin event in
+        let size = frame_size origin event in
+        let grown = grown_end before size (needs_page size before) in
+        record {
+          queue = with_written before origin event i.queue;
+          rows = i.rows ++ row ∷ [];
+          next = kept_gives before i.queue i.rows old tells i.next origin event kept new becomes one;
           front = i.front;
           are = i.are;
           are_all = sym (append_assoc i.front i.rows (row ∷ [])) ∙ ap (λ (l : List Row). l ++ row ∷ []) i.are_all ∙ append_assoc rows written (row ∷ []);

@@ -1,3 +1,4 @@
+pub mod KeptLemmas
 pub mod BitLists
 pub mod Ranges
 pub mod EachPlace
@@ -6,6 +7,7 @@ pub mod PurgeRuns
 pub mod HeldQueues
 pub mod RowReads
 pub mod NextRows
+pub mod KeptReads
 pub mod PagesRead
 pub mod PageNumbers
 pub mod BatchTaken
@@ -18,6 +20,7 @@ pub mod AppendRuns
 pub mod RollRuns
 pub mod WriteRuns
 pub mod GrownQueues
+pub mod KeptWrites
 pub mod PlacedRows
 pub mod UnreadRows
 pub mod UnreadCalls

@@ -22,6 +22,7 @@ use Rattle.queue_files.proofs.WriteLemmas.{beside_still}
 use Rattle.queue_files.proofs.Lengths.{longer_wrote}
 use Rattle.queue_core.specs.Calls.{behind_mark, first_open, is_due, mark_of, marks_of, state_of, tail_checkpoints, with_marked, with_recorded}
 use Rattle.queue_core.specs.Opens.{AreLong, ArePagesOf, Becomes, Climb, HasPage, IsAmong, IsPageOf, IsReady, KeepsQueue, Opens, TailsSlotted, place_behind}
+use Rattle.queue_core.specs.Kept.{AreKept}
 use Rattle.queue_core.specs.Views.{OpenPageView, QueueView}
 
 -- ---- files
@@ -226,6 +227,7 @@ module _ {S : Type 0} (store : StoreWords S) (v : QueueView) (marks : List Mark)
             part = λ has. subst (λ (f : Option (List ℕ)). IsPart (bytes_of f) v.cursor.block) (sym (same v.cursor.page))
                 (files.part (has_marked v.cursor.page v has));
             within = files.within;
+            kept = subst (λ (f : Option (List ℕ)). AreKept v.top.number v.top.page.version (bytes_of f) v.cursor.kept) (sym (same v.top.number)) files.kept;
           };
     }
 

@@ -225,6 +225,7 @@ module _ {S : Type 0} (store : StoreWords S) (folder : List ℕ) (limits : Limit
             top = l.exact;
             part = λ has. refl;
             within = first_within v.tails v.top (is_ready told).climb;
+            kept = tt;
           };
         };
       }

@@ -21,6 +21,7 @@ use Rattle.queue_files.specs.declared.marking.Mark.{Mark}
 use Rattle.queue_files.proofs.TornMarks.{number_of}
 use Rattle.queue_core.specs.Calls.{behind_purge, first_spent, is_spent, spent_from, tail_bytes, without_spent}
 use Rattle.queue_core.specs.Opens.{AreLong, ArePagesOf, Climb, HasPage, IsAmong, IsOfFiles, IsPageOf, IsReady, KeepsQueue, Opens, TailsSlotted, purged, unspent}
+use Rattle.queue_core.specs.Kept.{AreKept}
 use Rattle.queue_core.specs.Views.{OpenPageView, QueueView}
 use Rattle.queue_core.proofs.MarkRuns.{Named, first_file, other_files}
 
@@ -355,6 +356,7 @@ module _ {S : Type 0} (store : StoreWords S) (v : QueueView) where
                   top = ap file_length (other_page told v.top.number top_differs) ∙ files.top;
                   part = λ has. part_of told files climb top_differs has;
                   within = files.within;
+                  kept = subst (λ (f : Option (List ℕ)). AreKept v.top.number v.top.page.version (bytes_of f) v.cursor.kept) (sym (other_page told v.top.number top_differs)) files.kept;
                 };
           }
         where

@@ -7,7 +7,6 @@ use Rattle.io_traits.specs.Folders.{Content}
 use Rattle.io_traits.specs.Reads.{bytes_of, file_length}
 use Rattle.queue_page.specs.Blocks.{left_of}
 use Rattle.queue_page.specs.Grammar.{AreElements, IsPage}
-use Rattle.queue_page.specs.Views.{PageBufferView}
 use Rattle.queue_page.specs.declared.row.PageRow.{PageRow}
 use Rattle.queue_files.specs.Folders.{head, page, checkpoint, names_in}
 use Rattle.queue_files.specs.Found.{Row}
@@ -138,12 +137,12 @@ module _ (most : ℕ) (content : Content) (v : QueueView) (q : Queue) (rows : Li
     pub is : rows_taken most content v ≡ Ok s
     pub first : map told s.reading.rows ≡ taken batch_bytes most None rows
     pub all : map told s.reading.rows ++ rest ≡ rows
-    pub left : (block : PageBufferView) → AreUnread content (behind_take block s v) q rest
+    pub left : (held : CursorView) → AreUnread content (behind_take held s v) q rest
 
-  left_unread : (s : Stand) (rest : List Row) → AllStand content s (all_pages v) (page_rows q) → unread_rows_in s (all_pages v) (page_rows q) ≡ rest → map told s.reading.rows ++ rest ≡ rows → (block : PageBufferView)
-      → AreUnread content (behind_take block s v) q rest
-  left_unread s rest stands is all block = record {
-    stands = cursor_stands v.folder content s (behind_take block s v).cursor (all_pages v) (page_rows q) refl refl refl stands;
+  left_unread : (s : Stand) (rest : List Row) → AllStand content s (all_pages v) (page_rows q) → unread_rows_in s (all_pages v) (page_rows q) ≡ rest → map told s.reading.rows ++ rest ≡ rows → (held : CursorView)
+      → AreUnread content (behind_take held s v) q rest
+  left_unread s rest stands is all held = record {
+    stands = cursor_stands v.folder content s (behind_take held s v).cursor (all_pages v) (page_rows q) refl refl refl stands;
     rows_are = is;
     count = omega (arith, unread.count, ap length all, length-append (map told s.reading.rows) rest, length-map s.reading.rows told);
   }

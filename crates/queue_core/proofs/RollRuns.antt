@@ -23,6 +23,7 @@ use Rattle.queue_core.specs.Opens.{AreLong, ArePagesOf, Climb, HasPage, IsAmong,
 use Rattle.queue_core.specs.Views.{OpenPageView, QueueView}
 use Rattle.queue_core.specs.Writing.{behind_roll, next_page, sealed}
 use Rattle.queue_core.proofs.AppendRuns.{slotted_still}
+use Rattle.queue_core.proofs.KeptLemmas.{kept_rolled}
 
 -- ---- one page more
 
@@ -155,6 +156,7 @@ module _ {S : Type 0} (store : StoreWords S) (v : QueueView) (old new : S) (next
           top = ap (λ n. file_length (store.seen new (names (page (suc n))))) (sym opens.top.number) ∙ begun_long q (store.seen new (names head)) (store.seen new (names (page (suc q.top.number)))) behind.top;
           part = part_now;
           within = omega (arith, (opens.files told).within);
+          kept = kept_rolled v.top.number v.top.page.version 2 (bytes_of (store.seen old (names (page v.top.number)))) (bytes_of (store.seen new (names (page (suc v.top.number))))) v.cursor.kept (opens.files told).kept;
         }
 
       pub opens_rolled : Opens store (behind_roll v) (rolled q) new

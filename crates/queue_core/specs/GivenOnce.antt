@@ -9,6 +9,7 @@ use Rattle.queue_files.specs.Kept.{Queue, all_rows}
 use Rattle.queue_files.specs.Steps.{marked}
 use Rattle.queue_files.specs.declared.opening.OpenedQueue.{OpenedQueue}
 use Rattle.queue_core.specs.Calls.{behind_acknowledge, behind_mark, behind_purge, end_of}
+use Rattle.queue_core.specs.Keeping.{KeepsOne, with_kept}
 use Rattle.queue_core.specs.Opening.{queue_opened, OpensAs}
 use Rattle.queue_core.specs.Opens.{Becomes, purged}
 use Rattle.queue_core.specs.Taking.{all_pages, GivesNextRows, HasSameNext}
@@ -16,6 +17,7 @@ use Rattle.queue_core.specs.UnreadRows.{HasUnread, next_row}
 use Rattle.queue_core.specs.Views.{OpenPageView, QueueView}
 use Rattle.queue_core.specs.Writing.{behind_write, frame_size, with_written}
 use Rattle.queue_core.specs.declared.batch.Batch.{Batch}
+use Rattle.queue_core.specs.declared.kept.KeptRow.{KeptRow}
 use Rattle.queue_core.specs.declared.limits.Limits.{Limits}
 
 -- ---- rows and their numbers
@@ -86,6 +88,9 @@ module _ {S : Type 0} (store : StoreWords S) where
     write : {given : List Batch} {written : List Row} {w : QueueView} {old new : S} (origin : List ℕ) (event : Ev) → Calls v s given written w old
         → Becomes store (with_written w origin event) w (behind_write (frame_size origin event) w) old new
         → Calls v s given (written ++ next_row w origin event ∷ []) (behind_write (frame_size origin event) w) new
+    write_and_keep : {given : List Batch} {written : List Row} {w : QueueView} {old new : S} (origin : List ℕ) (event : Ev) (kept : List KeptRow) → Calls v s given written w old
+        → Becomes store (with_written w origin event) w (with_kept kept (behind_write (frame_size origin event) w)) old new → KeepsOne w.cursor.kept kept
+        → Calls v s given (written ++ next_row w origin event ∷ []) (with_kept kept (behind_write (frame_size origin event) w)) new
     take_batch : {given : List Batch} {written : List Row} {w next : QueueView} {old new : S} (most : ℕ) (batch : Option Batch) → Calls v s given written w old → IsBatch most (store.seen old) w batch next
         → ChangesNothing store.tells store.seen store.moment store.may_leave old new → Becomes store (λ q. q) w next old new → Calls v s (with_batch given batch) written next new
     no_batch : {given : List Batch} {written : List Row} {w next : QueueView} {old new : S} → Calls v s given written w old → HasSameNext w next

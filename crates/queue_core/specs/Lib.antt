@@ -1,4 +1,5 @@
 pub mod Bits
+pub mod Kept
 pub mod Views
 pub mod Calls
 pub mod Opens
@@ -10,6 +11,7 @@ pub mod NextBatch
 pub mod Opening
 pub mod QueueBatches
 pub mod Writing
+pub mod Keeping
 pub mod UnreadRows
 pub mod GivenOnce
 pub mod Recovery

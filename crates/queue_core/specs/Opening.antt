@@ -50,7 +50,7 @@ unread_in (o ∷ tails) = unread_of o + unread_in tails
 
 -- the next row is the first of the first page, whose rows stand behind its version; nothing was read of it yet
 abbrev pub cursor_at : OpenPageView → CursorView
-cursor_at o = record { page = o.number; number = o.page.state.least; place = 1; block = record { place = 0; bytes = [] } }
+cursor_at o = record { page = o.number; number = o.page.state.least; place = 1; block = record { place = 0; bytes = [] }; kept = [] }
 
 abbrev pub first_of : List OpenPageView → OpenPageView → OpenPageView
 first_of [] top = top

@@ -9,6 +9,7 @@ use Rattle.queue_files.specs.Folders.{head, page, checkpoint, names_in}
 use Rattle.queue_files.specs.Kept.{Page, Queue}
 use Rattle.queue_files.specs.Steps.{with_tails}
 use Rattle.queue_files.specs.Ready.{Ready, Keeps}
+use Rattle.queue_core.specs.Kept.{AreKept}
 use Rattle.queue_core.specs.Views.{OpenPageView, QueueView}
 
 -- ---- what is known of the store in any case
@@ -66,12 +67,13 @@ IsAmong n (o ∷ tails) = (n ≡ o.number) ⊎ IsAmong n tails
 abbrev pub HasPage : ℕ → QueueView → Type 0
 HasPage n v = (n ≡ v.top.number) ⊎ IsAmong n v.tails
 
--- The files of all pages have as many bytes as they say, those below the head maybe more, what was read last of the page of the next row stands there, and that page isn't above the head.
+-- The files of all pages have as many bytes as they say, those below the head maybe more, what was read last of the page of the next row stands there, and that page isn't above the head. The rows that are kept of the head page stand in its file.
 pub record IsOfFiles (v : QueueView) (content : Content) : Type 0 where
   pub tails : AreLong v.folder v.tails content
   pub top : file_length (content (names_in v.folder (page v.top.number))) ≡ v.top.page.state.length
   pub part : HasPage v.cursor.page v → IsPart (bytes_of (content (names_in v.folder (page v.cursor.page)))) v.cursor.block
   pub within : v.cursor.page ≤ v.top.number
+  pub kept : AreKept v.top.number v.top.page.version (bytes_of (content (names_in v.folder (page v.top.number)))) v.cursor.kept
 
 -- the first of these pages goes of which all rows are recorded as acknowledged, if there is one
 abbrev pub unspent : List Page → List Page

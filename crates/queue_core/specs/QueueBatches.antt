@@ -2,7 +2,6 @@
 use Rattle.std.specs.Prelude.{◌≡◌, ◌≤◌, ℕ, List, [], ◌∷◌, ◌++◌, length, map, None, Ok, ⊤}
 use Rattle.io_traits.specs.Folders.{Content}
 use Rattle.io_traits.specs.Reads.{bytes_of}
-use Rattle.queue_page.specs.Views.{PageBufferView}
 use Rattle.queue_page.specs.declared.row.PageRow.{PageRow}
 use Rattle.queue_files.specs.Folders.{page, names_in}
 use Rattle.queue_files.specs.Found.{Row}
@@ -51,5 +50,5 @@ abbrev pub FirstRowsAreTaken : Type 0
 FirstRowsAreTaken =
     (most : ℕ) (content : Content) (v : QueueView) (q : Queue) (rows : List Row) → IsRead content v q → AreUnread content v q rows
     → (s : Stand) × (rest : List Row) × (rows_taken most content v ≡ Ok s) × (map told s.reading.rows ≡ taken batch_bytes most None rows) × (map told s.reading.rows ++ rest ≡ rows)
-    × ((block : PageBufferView) → AreUnread content (behind_take block s v) q rest)
+    × ((held : CursorView) → AreUnread content (behind_take held s v) q rest)
     × (1 ≤ most → batch_of s.reading ≡ None → rows ≡ [])

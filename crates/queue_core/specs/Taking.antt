@@ -10,8 +10,10 @@ use Rattle.queue_page.specs.Elements.{and_then}
 use Rattle.queue_page.specs.Views.{PageBufferView}
 use Rattle.queue_core.specs.Batching.{is_over, rows_read, Finds}
 use Rattle.queue_core.specs.Calls.{end_of, is_spent}
+use Rattle.queue_core.specs.Kept.{AreKept}
 use Rattle.queue_core.specs.Views.{OpenPageView, CursorView, QueueView}
 use Rattle.queue_core.specs.declared.batch.Batch.{Batch}
+use Rattle.queue_core.specs.declared.kept.KeptRow.{KeptRow}
 use Rattle.queue_core.specs.declared.page_rows.QueueRow.{QueueRow}
 use Rattle.queue_core.specs.declared.page_rows.BatchReader.{BatchReader}
 use Rattle.queue_core.specs.declared.taking.RowsRead.{RowsRead}
@@ -104,29 +106,28 @@ abbrev pub rows_in : Option Batch → ℕ
 rows_in None = 0
 rows_in (Some batch) = length batch.rows
 
--- with this part of the page of the next row
-abbrev pub with_block : PageBufferView → QueueView → QueueView
-with_block block v = record v { cursor = record v.cursor { block = block } }
+-- with what another cursor holds of the files
+abbrev pub with_held : CursorView → QueueView → QueueView
+with_held held v = record v { cursor = record v.cursor { block = held.block; kept = held.kept } }
 
 -- the rows were given, and the next one stands behind them
-abbrev pub behind_take : PageBufferView → Stand → QueueView → QueueView
-behind_take block s v =
-    record v { unread = v.unread - length s.reading.rows; cursor = record { page = s.page; number = s.reading.number; place = s.reading.place; block = block } }
+abbrev pub behind_take : CursorView → Stand → QueueView → QueueView
+behind_take held s v = record v { unread = v.unread - length s.reading.rows; cursor = record held { page = s.page; number = s.reading.number; place = s.reading.place } }
 
-abbrev pub taken_of : PageBufferView → QueueView → Stand → Result (Option Batch × QueueView) Damage
-taken_of block v s = Ok (batch_of s.reading, behind_take block s v)
+abbrev pub taken_of : CursorView → QueueView → Stand → Result (Option Batch × QueueView) Damage
+taken_of held v s = Ok (batch_of s.reading, behind_take held s v)
 
 -- the next rows, as many as a batch may have, and the queue behind them; or the first damage of an element that is read for them
 abbrev pub GivesNextRows : ℕ → Content → QueueView → Result (Option Batch) QueueFault → QueueView → Type 0
-GivesNextRows most content v result next = Finds (λ batch. (batch, next)) result (and_then (rows_taken most content v) (taken_of next.cursor.block v))
+GivesNextRows most content v result next = Finds (λ batch. (batch, next)) result (and_then (rows_taken most content v) (taken_of next.cursor v))
 
 -- the same queue, but for what is given next
 abbrev pub IsSameButNext : QueueView → QueueView → Type 0
 IsSameButNext v next = next ≡ record v { unread = next.unread; cursor = next.cursor }
 
--- the same queue, which gives the same row next: another part of its page may be held
+-- the same queue, which gives the same row next: another part of its page may be held, and fewer rows be kept
 abbrev pub HasSameNext : QueueView → QueueView → Type 0
-HasSameNext v next = next ≡ with_block next.cursor.block v
+HasSameNext v next = next ≡ with_held next.cursor v
 
 -- ---- what is held of the files
 
@@ -139,6 +140,11 @@ pub record IsThere (names : ℕ → List ℕ) (content : Content) (page : ℕ) (
 abbrev pub AreThere : (ℕ → List ℕ) → Content → ℕ → PageBufferView → List OpenPageView → Type 0
 AreThere names content page block [] = ⊤
 AreThere names content page block (o ∷ pages) = IsThere names content page block o × AreThere names content page block pages
+
+-- the head page is as long as its file, in which the rows that are kept of it stand
+pub record KeptIn (o : OpenPageView) (file : List ℕ) (kept : List KeptRow) : Type 0 where
+  pub long : length file ≡ o.page.state.length
+  pub are : AreKept o.number o.page.version file kept
 
 -- what was read last is still this, of the page with this number, or stands in the file of the other
 pub record WasRead (names : ℕ → List ℕ) (content : Content) (page : ℕ) (block : PageBufferView) (now : ℕ) (held : PageBufferView) : Type 0 where

@@ -1,4 +1,7 @@
 // A batch of rows, and the cursor from which the next one is read.
+ghost use Rattle.std.specs.Prelude.{◌≡◌, ◌⊎◌, ◌++◌, ◌∷◌, []};
+
+use crate::kept::{KeptRow, KeptRows};
 use crate::limits::Numbers;
 use crate::page_rows::QueueRow;
 use event_tree::Event;
@@ -29,6 +32,8 @@ pub(crate) struct Cursor {
     pub(crate) place: u64,
     /// The part of that file that was read last.
     pub(crate) block: PageBuffer,
+    /// Rows that were written and weren't given yet, so that they needn't be read.
+    pub(crate) kept: KeptRows,
     /// Room for the rows of the next batch. It is taken while those of the last are still held: where it was
     /// asked for behind their release, the allocator would join all the memory that they gave back, and cut
     /// it up again for the next rows.
@@ -37,8 +42,22 @@ pub(crate) struct Cursor {
 
 impl Model for Cursor {
     ghost use Rattle.queue_core.specs.Views.{CursorView};
+    ghost use Rattle.std.specs.Coded.{codes};
+    ghost use Rattle.event_tree.specs.contracts.value.Value as tree;
 
     ghost Value = { CursorView };
 
-    ghost view = { λ c. record { page = c.page; number = c.number; place = c.place; block = c.block } };
+    ghost coded = { Prim.hlevel (codes, tree.the_row.coded) };
+
+    ghost view = { λ c. record { page = c.page; number = c.number; place = c.place; block = c.block; kept = c.kept } };
+}
+
+impl Cursor {
+    /// Keeps a row that was written, behind the others, if it may be kept.
+    pub(crate) fn hold(&mut self, kept: KeptRow)
+        ensures { (self.new ≡ record self.old { kept = self.old.kept ++ kept ∷ [] })
+            ⊎ (self.new ≡ self.old) }
+    {
+        self.kept.push(kept);
+    }
 }

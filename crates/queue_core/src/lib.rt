@@ -4,6 +4,8 @@
 
 mod acknowledged;
 mod batch;
+mod keeping;
+mod kept;
 pub mod laws;
 mod limits;
 mod marking;
@@ -19,6 +21,7 @@ mod writing;
 
 pub use acknowledged::Acknowledged;
 pub use batch::Batch;
+pub use keeping::Unwritten;
 pub use limits::{Limits, Numbers};
 pub use page_rows::{BatchReader, QueueRow};
 pub use queue::Queue;

@@ -17,6 +17,7 @@ ghost use Rattle.queue_core.specs.Views.{OpenPageView};
 
 use crate::acknowledged::Acknowledged;
 use crate::batch::Cursor;
+use crate::kept::KeptRows;
 use crate::limits::{Limits, Numbers};
 use crate::pages::OpenPage;
 use crate::queue::Queue;
@@ -235,6 +236,7 @@ fn row_of(alloc: Global, page: &OpenPage, block: PageBuffer) -> Cursor
         number: page.state().least,
         place: 1,
         block,
+        kept: KeptRows::new(alloc),
         room: Items::new(alloc),
     }
 }

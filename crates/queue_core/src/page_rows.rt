@@ -1,11 +1,14 @@
 // Rows of a page, read for a batch.
-ghost use Rattle.std.specs.Prelude.{◌≡◌, ◌≤◌, ◌<◌, ◌+◌, ◌-◌, ◌^◌, ◌⊎◌, [], length, IsTrue, IfOk, Err, None, false};
+ghost use Rattle.std.specs.Prelude.{◌≡◌, ◌≤◌, ◌<◌, ◌+◌, ◌-◌, ◌^◌, ◌⊎◌, [], ℕ, List, length, IsTrue, IfOk, Err, None, false};
 ghost use Rattle.io_traits.specs.Counts.{HasCause};
 ghost use Rattle.io_traits.specs.Calls.{ChangesNothing};
 ghost use Rattle.io_traits.specs.declared.queue_faults.QueueFault.TheVariants as f;
 ghost use Rattle.queue_page.specs.Blocks.{IsPart, OnFile};
 ghost use Rattle.queue_core.specs.Batching.{given, with_more, is_over, behind_row, end_of, place_in, rows_read, Finds};
+ghost use Rattle.queue_core.specs.Taking.{KeptIn};
 
+use crate::kept::KeptRows;
+use crate::pages::OpenPage;
 use element_code::Origin;
 use event_tree::Event;
 use io_traits::{QueueFault, Store};
@@ -154,6 +157,37 @@ impl BatchReader {
             let place = self.place_in(page);
             let row = page.read_next(alloc, store, name, block, place, self.number)?;
             if !self.add(alloc, row, place, from)? {
+                return Ok(());
+            }
+        }
+        Ok(())
+    }
+
+    /// Adds rows of the head page that are kept, as long as the next row is one of them.
+    pub(crate) fn add_kept(
+        &mut self,
+        alloc: Global,
+        held: &OpenPage,
+        kept: &mut KeptRows,
+    ) -> Result<(), AllocError>
+        ensures rows { IfOk result (λ _. (file : List ℕ) → KeptIn held.now file kept.old
+            → rows_read held.now.file held.now.page held.now.from file
+            (end_of held.now.page - self.old.number) self.old
+            ≡ rows_read held.now.file held.now.page held.now.from file
+            (end_of held.now.page - self.new.number) self.new) }
+        ensures kept { (file : List ℕ) → KeptIn held.now file kept.old
+            → KeptIn held.now file kept.new }
+    {
+        let end = held.end();
+        while self.number < end {
+            if self.is_over() {
+                return Ok(());
+            }
+            let place = self.place_in(&held.page);
+            let Some(row) = kept.take(held.number, self.number, place) else {
+                return Ok(());
+            };
+            if !self.add(alloc, row, place, held.from)? {
                 return Ok(());
             }
         }

@@ -65,6 +65,20 @@ impl OpenPage {
         }
     }
 
+    /// Its number.
+    pub(crate) fn number(&self) -> u32
+        ensures { result ≡ self.now.number }
+    {
+        self.number
+    }
+
+    /// How many bytes its file has.
+    pub(crate) fn length(&self) -> u64
+        ensures { result ≡ self.now.page.state.length }
+    {
+        self.page.state().length
+    }
+
     /// The number behind its last row.
     pub(crate) fn end(&self) -> u64
         ensures { result ≡ end_of self.now }

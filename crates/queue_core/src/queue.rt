@@ -41,8 +41,12 @@ pub struct Queue {
 impl Model for Queue {
     ghost use Rattle.queue_core.specs.Calls.{IsHeldQueue};
     ghost use Rattle.queue_core.specs.Views.{QueueView};
+    ghost use Rattle.std.specs.Coded.{codes};
+    ghost use Rattle.event_tree.specs.contracts.value.Value as tree;
 
     ghost Value = { QueueView };
+
+    ghost coded = { Prim.hlevel (codes, tree.the_row.coded) };
 
     ghost view = { λ q. record {
       folder = q.folder;

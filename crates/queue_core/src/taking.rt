@@ -9,9 +9,10 @@ ghost use Rattle.queue_page.specs.Blocks.{IsPart};
 ghost use Rattle.queue_files.specs.Folders.{IsOwn, names_in};
 ghost use Rattle.queue_core.specs.Batching.{Finds};
 ghost use Rattle.queue_core.specs.Opens.{Becomes, IsOfFiles, IsReady, KeepsQueue};
-ghost use Rattle.queue_core.specs.Taking.{stand, entered, is_passed, page_read, pages_read, begun, batch_of, event_of, number_of, rows_in, AreThere, GivesNextRows, HasRoom, HasSameNext, IsSameButNext, WasRead};
+ghost use Rattle.queue_core.specs.Taking.{stand, entered, is_passed, page_read, pages_read, begun, batch_of, event_of, number_of, rows_in, AreThere, GivesNextRows, HasRoom, HasSameNext, IsSameButNext, KeptIn, WasRead};
 
 use crate::batch::{Batch, Cursor};
+use crate::kept::KeptRows;
 use crate::limits::Numbers;
 use crate::page_rows::{BatchReader, QueueRow};
 use crate::pages::OpenPage;
@@ -101,6 +102,48 @@ fn read_one<S: Store>(
     )
 }
 
+/// Reads rows of the head page for a batch in the same way, but not those that are kept from the next row on.
+fn read_top<S: Store>(
+    alloc: Global,
+    store: &mut S,
+    held: &OpenPage,
+    page: &mut u32,
+    block: &mut PageBuffer,
+    kept: &mut KeptRows,
+    reading: &mut BatchReader,
+) -> Result<(), QueueFault>
+    ensures rows { IsTrue S.tells
+        → (page.old ≡ held.now.number
+        → IsPart (bytes_of (S.seen store.old held.now.file)) block.old)
+        → KeptIn held.now (bytes_of (S.seen store.old held.now.file)) kept.old
+        → Finds (λ _. stand page.new reading.new) result
+        (page_read (S.seen store.old) held.now (stand page.old reading.old)) }
+    ensures part { IfOk result (λ _. IsTrue S.tells
+        → (page.old ≡ held.now.number
+        → IsPart (bytes_of (S.seen store.old held.now.file)) block.old)
+        → ((page.new ≡ page.old) × (block.new ≡ block.old))
+        ⊎ ((page.new ≡ held.now.number)
+        × IsPart (bytes_of (S.seen store.old held.now.file)) block.new)) }
+    ensures kept { (file : List ℕ) → KeptIn held.now file kept.old
+        → KeptIn held.now file kept.new }
+    ensures same { ChangesNothing S.tells S.seen S.moment S.may_leave store.old store.new }
+    ensures cause { HasCause (S.faults store.old) (S.faults store.new) (result ≡ Err f.Fault) }
+{
+    if is_passed(held, *page, reading) {
+        return Ok(());
+    }
+    enter(alloc, held, page, block, reading)?;
+    reading.add_kept(alloc, held, kept)?;
+    reading.read_page(
+        alloc,
+        store,
+        held.file.as_str(),
+        &held.page,
+        held.from,
+        block,
+    )
+}
+
 /// Reads rows of pages for a batch, of those below the head and then of the head page, from the page on in
 /// which the next row stands. The block holds what was read last of that page.
 fn read_all<S: Store>(
@@ -110,22 +153,26 @@ fn read_all<S: Store>(
     top: &OpenPage,
     page: &mut u32,
     block: &mut PageBuffer,
+    kept: &mut KeptRows,
     reading: &mut BatchReader,
 ) -> Result<(), QueueFault>
     ensures rows { (names : ℕ → List ℕ) → IsTrue S.tells
         → AreThere names (S.seen store.old) page.old block.old (tails.now ++ top.now ∷ [])
+        → KeptIn top.now (bytes_of (S.seen store.old top.now.file)) kept.old
         → Finds (λ _. stand page.new reading.new) result
         (pages_read (S.seen store.old) (tails.now ++ top.now ∷ []) (stand page.old reading.old)) }
     ensures part { IfOk result (λ _. (names : ℕ → List ℕ) → IsTrue S.tells
         → AreThere names (S.seen store.old) page.old block.old (tails.now ++ top.now ∷ [])
         → WasRead names (S.seen store.old) page.old block.old page.new block.new) }
+    ensures kept { (file : List ℕ) → KeptIn top.now file kept.old
+        → KeptIn top.now file kept.new }
     ensures same { ChangesNothing S.tells S.seen S.moment S.may_leave store.old store.new }
     ensures cause { HasCause (S.faults store.old) (S.faults store.new) (result ≡ Err f.Fault) }
 {
     for place in 0..tails.len() {
         read_one(alloc, store, &tails[place], page, block, reading)?;
     }
-    read_one(alloc, store, top, page, block, reading)
+    read_top(alloc, store, top, page, block, kept, reading)
 }
 
 /// No rows yet for a batch of at most so many, where the next row stands where the cursor says. They come into
@@ -160,21 +207,25 @@ fn read_rows<S: Store>(
     top: &OpenPage,
     page: &mut u32,
     block: &mut PageBuffer,
+    kept: &mut KeptRows,
     reading: BatchReader,
 ) -> Result<RowsRead, QueueFault>
     ensures room { IfOk result HasRoom }
     ensures rows { (names : ℕ → List ℕ) → IsTrue S.tells
         → AreThere names (S.seen store.old) page.old block.old (tails.now ++ top.now ∷ [])
+        → KeptIn top.now (bytes_of (S.seen store.old top.now.file)) kept.old
         → Finds (λ read. stand page.new read.reading) result
         (pages_read (S.seen store.old) (tails.now ++ top.now ∷ []) (stand page.old reading)) }
     ensures part { IfOk result (λ _. (names : ℕ → List ℕ) → IsTrue S.tells
         → AreThere names (S.seen store.old) page.old block.old (tails.now ++ top.now ∷ [])
         → WasRead names (S.seen store.old) page.old block.old page.new block.new) }
+    ensures kept { (file : List ℕ) → KeptIn top.now file kept.old
+        → KeptIn top.now file kept.new }
     ensures same { ChangesNothing S.tells S.seen S.moment S.may_leave store.old store.new }
     ensures cause { HasCause (S.faults store.old) (S.faults store.new) (result ≡ Err f.Fault) }
 {
     let mut reading = reading;
-    read_all(alloc, store, tails, top, page, block, &mut reading)?;
+    read_all(alloc, store, tails, top, page, block, kept, &mut reading)?;
     let rows = reading.rows.len();
     Ok(RowsRead {
         numbers: Vec::with_capacity(alloc, rows)?,
@@ -212,6 +263,7 @@ fn read_from<S: Store>(
     ensures rows { (names : ℕ → List ℕ) → IsTrue S.tells
         → AreThere names (S.seen store.old) cursor.old.page cursor.old.block
         (tails.now ++ top.now ∷ [])
+        → KeptIn top.now (bytes_of (S.seen store.old top.now.file)) cursor.old.kept
         → Finds (λ read. stand cursor.new.page read.reading) result
         (pages_read (S.seen store.old) (tails.now ++ top.now ∷ []) (begun most cursor.old)) }
     ensures cursor { IfOk result (λ read. (cursor.new.number ≡ read.reading.number)
@@ -222,16 +274,27 @@ fn read_from<S: Store>(
         → WasRead names (S.seen store.old) cursor.old.page cursor.old.block
         cursor.new.page cursor.new.block) }
     ensures err { OnErr result
-        (cursor.new ≡ record cursor.old { block = cursor.new.block }) }
+        (cursor.new ≡ record cursor.old { block = cursor.new.block; kept = cursor.new.kept }) }
     ensures lost { OnErr result ((file : List ℕ) → IsPart file cursor.old.block
         → IsPart file cursor.new.block) }
+    ensures kept { (file : List ℕ) → KeptIn top.now file cursor.old.kept
+        → KeptIn top.now file cursor.new.kept }
     ensures same { ChangesNothing S.tells S.seen S.moment S.may_leave store.old store.new }
     ensures cause { HasCause (S.faults store.old) (S.faults store.new) (result ≡ Err f.Fault) }
 {
     let reading = begun(alloc, most, cursor);
     let mut page = cursor.page;
     let mut block = mem::replace(&mut cursor.block, PageBuffer::new(alloc, 0)?);
-    match read_rows(alloc, store, tails, top, &mut page, &mut block, reading) {
+    match read_rows(
+        alloc,
+        store,
+        tails,
+        top,
+        &mut page,
+        &mut block,
+        &mut cursor.kept,
+        reading,
+    ) {
         Ok(read) => {
             cursor.page = page;
             cursor.number = read.reading.number;

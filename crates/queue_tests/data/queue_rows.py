@@ -210,6 +210,7 @@ class Queue:
         else:
             self.read(tested(HEAD, head), pages, checkpoints)
         self.unread = [(n, p.rows[n - p.least]) for p in self.pages for n in range(max(p.open, p.least), p.end())]
+        self.left = len(self.unread)
 
     def begin(self):
         self.store.call("cut", "page.0", 0)
@@ -268,6 +269,7 @@ class Queue:
         top.rows.append(origin)
         top.length += len(frame)
         self.unread.append((number, origin))
+        self.left += 1
         return str(number)
 
     def mark(self):
@@ -293,11 +295,13 @@ class Queue:
         return "none"
 
     def take(self, most):
-        if not self.unread:
+        if self.left == 0:
             return "none"
         self.store.call("read")
-        taken, self.unread = self.unread[:most], self.unread[most:]
-        return " ".join(str(n) for n, _ in taken)
+        given = [n for n, _ in self.unread if any(max(p.recorded, p.least) <= n < p.end() for p in self.pages)][:most]
+        self.unread = [(n, origin) for n, origin in self.unread if given and n > given[-1]]
+        self.left -= len(given)
+        return " ".join(map(str, given)) or "none"
 
     def call(self, words):
         kind, _, what = words.partition(":")
@@ -306,8 +310,8 @@ class Queue:
             for p in self.pages:
                 p.gone |= set(range(max(first, p.least), min(behind, p.end())))
             return None
-        calls = {"w": lambda: self.write(what), "t": lambda: self.take(int(what)), "m": self.mark, "p": self.purge}
-        return calls[kind]() if kind in calls else str(len(self.unread))
+        calls = {"w": lambda: self.write(what), "k": lambda: self.write(what), "t": lambda: self.take(int(what)), "m": self.mark, "p": self.purge}
+        return calls[kind]() if kind in calls else str(self.left)
 
 
 # ---- the tables
@@ -421,6 +425,26 @@ run((30, AMPLE), {}, "w:i w:i w:i t:3 a:1-4 p m p p p", "u w:i", expected="open;
 run((59, AMPLE), {}, "w:i w:i w:i t:3 a:1-3 w:j w:k p p", "u", expected="open; 1; 2; 3; 1 2 3; 4; 5; 0; none; open; 3; ")
 run((59, AMPLE), {}, "w:i t:1 a:1-2 m w:i t:9 m", "t:9", expected="open; 1; 1; 1; 2; 2; 2; open; 2; ")
 run((59, AMPLE), {}, "t:1 w:i a:0-9 a:7-3 t:1 t:1 u m", "u", expected="open; none; 1; 1; none; 0; 1; open; 0; ")
+
+# rows that are kept for their batch are given as others are, in parts, and none twice, nor behind the next opening
+run((1000, AMPLE), {}, "k:i k:i k:j t:2 k:i t:9 t:9 u a:1-5 m", "u t:9 k:i t:9", expected="open; 1; 2; 3; 1 2; 4; 3 4; none; 0; 4; open; 0; none; 5; 5; ")
+
+# kept and read ones mixed: a kept row behind one that is read, and the other way round
+run((1000, AMPLE), {}, "w:i k:i w:i k:i t:1 t:2 t:1 t:1", expected="open; 1; 2; 3; 4; 1; 2 3; 4; none; ")
+run((1000, AMPLE), {}, "k:i w:i k:i t:9 w:i k:i t:9 u", expected="open; 1; 2; 3; 1 2 3; 4; 5; 4 5; 0; ")
+
+# a row that is kept of a page below the head is read: over three pages, of which the first has given its first row; and where each page has one row
+run((59, AMPLE), {}, "k:i k:i k:i t:1 k:i k:i t:3 k:i t:9 a:1-7 m p p p", "u", expected="open; 1; 2; 3; 1; 4; 5; 2 3 4; 6; 5 6; 6; 0; 1; none; open; 0; ")
+run((30, AMPLE), {}, "k:i k:i k:i t:2 k:i t:9", expected="open; 1; 2; 3; 1 2; 4; 3 4; ")
+
+# acknowledged before it is given, a kept row is given as long as no mark records that, and not behind a mark, which leaves it uncounted
+run((1000, AMPLE), {}, "k:i k:i a:1-2 t:9 u", expected="open; 1; 2; 1 2; 0; ")
+run((1000, AMPLE), {}, "k:i k:i k:i a:1-2 m t:9 u t:9 a:2-4 m", "u", expected="open; 1; 2; 3; 3; 2 3; 1; none; 3; open; 0; ")
+run((1000, AMPLE), {}, "w:i k:i k:i a:1-3 m t:9 k:i t:9", expected="open; 1; 2; 3; 3; 3; 4; 4; ")
+run((59, AMPLE), {}, "k:i k:i k:i a:1-3 m p t:9", "t:9", expected="open; 1; 2; 3; 3; 0; 3; open; 3; ")
+
+# a kept row that has no room in the queue isn't written
+run((1000, 59), {}, "k:i k:i k:i", expected="open; 1; 2; full; ")
 
 # numbers go on behind an opening, up to the last ones
 run((59, AMPLE), {}, "w:i w:i t:2 a:1-3 m", "t:1 w:i t:1", expected="open; 1; 2; 1 2; 2; open; none; 3; 3; ")

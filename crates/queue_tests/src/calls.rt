@@ -60,6 +60,7 @@ fn add_call<S: Store>(
     let (kind, what) = call.split_once(':').unwrap_or((call, ""));
     match kind {
         "w" => return add_written(to, store, queue, what),
+        "k" => return add_kept(to, store, queue, what),
         "t" => return add_batch(to, store, queue, what.parse().unwrap_or(1)),
         "m" => return add_marked(to, store, queue),
         "p" => return add_purged(to, store, queue),
@@ -90,6 +91,32 @@ fn add_written<S: Store>(
         }
         Err(fault) => {
             to.push_str(refusal(&fault)?)?;
+            Ok(false)
+        }
+    }
+}
+
+/// Writes an empty event in the same way, which is kept for its batch.
+fn add_kept<S: Store>(
+    to: &mut String,
+    store: &mut S,
+    queue: &mut Queue,
+    origin: &str,
+) -> Result<bool, AllocError>
+    requires { IsReady S.Store queue.old store.old }
+    ensures { IfOk result (λ more. IsTrue more → IsReady S.Store queue.new store.new) }
+{
+    if origin.is_empty() || origin.len() > MOST_ORIGIN_BYTES {
+        return Ok(false);
+    }
+    let alloc = *to.allocator();
+    match queue.write_and_keep(alloc, store, origin, Event::new(alloc)) {
+        Ok(number) => {
+            write!(to, "{number}; ")?;
+            Ok(true)
+        }
+        Err(unwritten) => {
+            to.push_str(refusal(&unwritten.cause)?)?;
             Ok(false)
         }
     }

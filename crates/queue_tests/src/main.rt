@@ -32,9 +32,10 @@
 //!   and a new link before each: `s` makes a step, `a` takes a parcel and answers `Assured`, `n` `NotListening`, and `t` takes one
 //!   without an answer. The answers of steps and the parcels are shown, and at the end what the file of the place says.
 //! - `runs`: how many bytes a page may have, and a queue, the files of a folder, and behind semicolons runs of calls of the
-//!   persistent queue in that folder, with an opening before each: `w:ORIGIN` writes an empty event, `t:COUNT` takes a batch,
-//!   `a:FIRST-BEHIND` acknowledges rows by their numbers, `m` marks, `p` purges, and `u` asks how many rows are unread. The
-//!   answer has that of each call, and the lengths and sums of the files. A call that doesn't go well ends its run.
+//!   persistent queue in that folder, with an opening before each: `w:ORIGIN` writes an empty event, `k:ORIGIN` does so and
+//!   keeps its row for the batch, `t:COUNT` takes a batch, `a:FIRST-BEHIND` acknowledges rows by their numbers, `m` marks,
+//!   `p` purges, and `u` asks how many rows are unread. The answer has that of each call, and the lengths and sums of the
+//!   files. A call that doesn't go well ends its run.
 //! - `halts`: such a row. The answers are those of its last run behind a stop, at each change of the store in the runs before,
 //!   with each choice of what it leaves; those that stand there already, or before, are left out.
 //! - `faults`: such a row. The answers are those of its last run behind such a stop, where a call of the store in the runs

@@ -7,7 +7,7 @@ use Rattle.io_traits.specs.declared.queue_faults.Damage.{Damage}
 use Rattle.io_traits.proofs.Looking.{nothing_then}
 use Rattle.queue_page.specs.Blocks.{IsPart}
 use Rattle.queue_core.specs.Batching.{Finds}
-use Rattle.queue_core.specs.Taking.{Stand, stand, page_read, pages_read}
+use Rattle.queue_core.specs.Taking.{Stand, stand, page_read, pages_read, KeptIn}
 use Rattle.queue_core.specs.Views.{OpenPageView}
 use Rattle.queue_core.proofs.PagesRead.{as_before, from_place, last_read, page_lost, page_then, part_now, there_at, top_there, was_read}
 use Rattle.queue_core.proofs.RowReads.{handed_on}
@@ -46,7 +46,7 @@ loop-place-preserved g c =
     }
 
 pub returns-in_err-read_one-clause-rows : goal.returns-in_err-read_one-clause-rows
-returns-in_err-read_one-clause-rows g c = λ names told there.
+returns-in_err-read_one-clause-rows g c = λ names told there kept.
     let old = g.S.Store.seen c.args.store.now in
     let now = g.S.Store.seen c.loop-place.store in
     let inv = c.loop-place.invariant in
@@ -67,7 +67,7 @@ returns-in_err-read_one-clause-rows g c = λ names told there.
     (λ whole. page_lost old view whole o rest s fault lost)
 
 pub returns-clause-rows : goal.returns-clause-rows
-returns-clause-rows g c = λ names told there.
+returns-clause-rows g c = λ names told there kept.
     let old = g.S.Store.seen c.args.store.now in
     let now = g.S.Store.seen c.loop-place.store in
     let inv = c.loop-place.invariant in
@@ -78,13 +78,13 @@ returns-clause-rows g c = λ names told there.
     let past : length c.args.tails.now ≤ c.loop-place.place = search rules in
     let it = top_there names old c.args.page.now c.args.block.now c.args.tails.now o there in
     let part = part_now names old c.args.page.now c.args.block.now o page block it (inv.part names told there) in
-    let view : Unit {0} → Stand = λ x. stand c.read_one-2.new.page c.read_one-2.new.reading in
-    let read = as_before now old o page block (λ (content : Content). o.page.state.length ≤ file_length (content o.file) → Finds view c.read_one-2.result (page_read content o s)) (inv.same.reads told) (c.read_one-2.ensures.rows told) part it.long in
+    let view : Unit {0} → Stand = λ x. stand c.read_top.new.page c.read_top.new.reading in
+    let read = as_before now old o page block (λ (content : Content). KeptIn o (bytes_of (content o.file)) c.args.kept.now → Finds view c.read_top.result (page_read content o s)) (inv.same.reads told) (c.read_top.ensures.rows told) part kept in
     let whole = inv.so_far names told there ∙ ap (λ (l : List OpenPageView). pages_read old (l ++ o ∷ []) s) (drop_all c.loop-place.place c.args.tails.now past) in
-    subst (λ (q : Result Stand Damage). Finds view c.read_one-2.result q) (sym whole) (last_read old view c.read_one-2.result o s read)
+    subst (λ (q : Result Stand Damage). Finds view c.read_top.result q) (sym whole) (last_read old view c.read_top.result o s read)
 
 pub returns-clause-part : goal.returns-clause-part
-returns-clause-part g c = IfOk-weaker c.read_one-2.result _ _
+returns-clause-part g c = IfOk-weaker c.read_top.result _ _
     (λ x told_part. λ names told there.
     let old = g.S.Store.seen c.args.store.now in
     let now = g.S.Store.seen c.loop-place.store in
@@ -95,7 +95,7 @@ returns-clause-part g c = IfOk-weaker c.read_one-2.result _ _
     let it = top_there names old c.args.page.now c.args.block.now c.args.tails.now o there in
     let was = inv.part names told there in
     let part = part_now names old c.args.page.now c.args.block.now o page block it was in
-    was_read names old c.args.page.now c.args.block.now o page c.read_one-2.new.page block c.read_one-2.new.block it was
-    (as_before now old o page block (λ (content : Content). ((c.read_one-2.new.page ≡ page) × (c.read_one-2.new.block ≡ block)) ⊎ ((c.read_one-2.new.page ≡ o.number) × IsPart (bytes_of (content o.file)) c.read_one-2.new.block))
+    was_read names old c.args.page.now c.args.block.now o page c.read_top.new.page block c.read_top.new.block it was
+    (as_before now old o page block (λ (content : Content). ((c.read_top.new.page ≡ page) × (c.read_top.new.block ≡ block)) ⊎ ((c.read_top.new.page ≡ o.number) × IsPart (bytes_of (content o.file)) c.read_top.new.block))
     (inv.same.reads told) (told_part told) part))
-    c.read_one-2.ensures.part
+    c.read_top.ensures.part
