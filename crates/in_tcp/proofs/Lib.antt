@@ -8,3 +8,5 @@ pub mod Taking
 pub mod Standing
 pub mod Polled
 pub mod Giving
+pub mod Placed
+mod Searching

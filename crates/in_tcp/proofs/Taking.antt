@@ -17,7 +17,7 @@ use Rattle.in_tcp.specs.declared.receive_buffer.NextLine.{NextLine}
 use Rattle.in_tcp.specs.declared.polling.Connected.{Connected}
 use Rattle.in_tcp.proofs.Holding.{first_in, held_piece, held_rest, whole_in}
 
-made_append : (lefts : ℕ → List ℕ) (xs ys : List Look) → made_from line_limit lefts (xs ++ ys) ≡ made_from line_limit lefts xs ++ made_from line_limit (lefts_after line_limit lefts xs) ys
+pub made_append : (lefts : ℕ → List ℕ) (xs ys : List Look) → made_from line_limit lefts (xs ++ ys) ≡ made_from line_limit lefts xs ++ made_from line_limit (lefts_after line_limit lefts xs) ys
 made_append lefts [] ys = refl
 made_append lefts (x ∷ xs) ys =
     let first = from_source x.0 (received_at x.1.moment (made_by line_limit (lefts x.0) x.1.piece)) in

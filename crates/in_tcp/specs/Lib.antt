@@ -7,3 +7,4 @@ pub mod Took
 pub mod Given
 pub mod Inputs
 pub mod Pieces
+pub mod Search

@@ -1,6 +1,6 @@
 // The TCP input: polls its connections and gives their lines as events.
-ghost use Rattle.std.specs.Prelude.{◌≡◌, ℕ, [], IfOk};
-ghost use Rattle.in_tcp.specs.Inputs.{GaveNext, Stands, WasPolled, poll_answer};
+ghost use Rattle.std.specs.Prelude.{◌≡◌, ◌↔◌, ℕ, false, [], IfOk};
+ghost use Rattle.in_tcp.specs.Inputs.{GaveNext, Stands, WasPolled, lines_of, poll_answer};
 ghost use Rattle.in_tcp.specs.Reads.{AllCame};
 
 use crate::polling::Connected;
@@ -108,6 +108,14 @@ impl TcpInput {
         ensures { GaveNext self.old self.new result }
     {
         self.connected.held.next(self.alloc, self.codec)
+    }
+
+    /// Whether [`TcpInput::next`] would give an event: whether a whole line is held of what was read. It looks at no connection, and
+    /// takes no memory.
+    pub fn holds(&self) -> bool
+        ensures { (result ≡ false) ↔ (lines_of self.now ≡ []) }
+    {
+        self.connected.held.holds()
     }
 }
 

@@ -1,7 +1,8 @@
 // Pieces that were read from connections, in one buffer.
-ghost use Rattle.std.specs.Prelude.{◌≡◌, ◌≤◌, ◌<◌, ◌+◌, ℕ, [], IfSome, IfNone, IfOk, OnOk, OnErr, length, take, drop, vec_len};
-ghost use Rattle.in_tcp.specs.Pieces.{IsFront, count_of, front_bytes, front_less, gave_in, gave_less, is_end};
+ghost use Rattle.std.specs.Prelude.{◌≡◌, ◌≤◌, ◌<◌, ◌+◌, ◌^◌, ℕ, [], IfSome, IfNone, IfOk, OnOk, OnErr, length, take, drop, vec_len};
+ghost use Rattle.in_tcp.specs.Pieces.{IsFront, count_of, front_bytes, front_less, gave_in, gave_less, is_end, total_of};
 ghost use Rattle.in_tcp.specs.Reads.{TookRead};
+ghost use Rattle.in_tcp.specs.Search.{count_from};
 
 use crate::reading::read_behind;
 use byte_lines::remove_front;
@@ -72,6 +73,19 @@ pub(crate) struct PieceRecord {
     pub gave: ReadEvent,
 }
 
+impl PieceRecord {
+    /// How many bytes it has of a connection.
+    pub(crate) fn count_from(self, conn: u32) -> usize
+        ensures { result ≡ count_from conn self }
+    {
+        if self.conn == conn {
+            self.gave.count()
+        } else {
+            0
+        }
+    }
+}
+
 /// The pieces that were read and are not cut into lines yet. Their bytes stand in one buffer, behind one another, into which all
 /// connections are read. A contract sees them as looks.
 #[derive(Drop)]
@@ -130,6 +144,30 @@ impl Pieces {
             },
             None => &[],
         }
+    }
+
+    /// How many pieces there are.
+    pub(crate) fn len(&self) -> usize
+        ensures { result ≡ length self.now }
+    {
+        self.marks.len()
+    }
+
+    /// The mark of the piece of a place.
+    pub(crate) fn mark(&self, place: usize) -> PieceRecord
+        requires { place < length self.now }
+        ensures { IsFront (drop place self.now) result }
+    {
+        self.marks[place]
+    }
+
+    /// The bytes of the piece of a place.
+    pub(crate) fn bytes(&self, place: usize) -> &[u8]
+        requires { place < length self.now }
+        ensures { result.now ≡ front_bytes (drop place self.now) }
+    {
+        let at = self.start + total_before(&self.marks, place);
+        &self.bytes[at..at + self.marks[place].gave.count()]
     }
 
     /// Gives up so many bytes in front of the first piece.
@@ -193,6 +231,19 @@ impl Pieces {
             self.start = 0;
         }
     }
+}
+
+// How many bytes the pieces in front of a place have.
+fn total_before(marks: &VecDeque<PieceRecord>, place: usize) -> usize
+    requires within { place ≤ length marks.now.items }
+    requires fits { total_of marks.now.items < 2 ^ 64 }
+    ensures { result ≡ total_of (take place marks.now.items) }
+{
+    let mut total = 0;
+    for at in 0..place {
+        total += marks[at].gave.count();
+    }
+    total
 }
 
 // Makes room for a read behind so many bytes.

@@ -1,12 +1,17 @@
 // The lines of all connections that are received and not given yet.
-ghost use Rattle.std.specs.Prelude.{◌≡◌, ◌≤◌, ◌<◌, ◌∷◌, ◌++◌, ℕ, [], IfOk, IfSome, IfNone, OnErr, OnOk, length, take};
+ghost use Rattle.std.specs.Prelude.{◌≡◌, ◌≤◌, ◌<◌, ◌+◌, ◌↔◌, ◌∷◌, ◌++◌, ℕ, min, not, false, [], IfOk, IfSome, IfNone, OnErr, OnOk, length, take};
+ghost use Rattle.byte_lines.specs.Split.{HasNoLineFeed};
 ghost use Rattle.in_lines.specs.Decoding.{event_by};
 ghost use Rattle.in_tcp.specs.Given.{GaveHeld};
-ghost use Rattle.in_tcp.specs.Held.{GivesLine, HasNoNext, IsNext, SameLines, next_bytes, next_text, size_of};
+ghost use Rattle.in_tcp.specs.Held.{GivesLine, HasNoNext, IsNext, SameLines, lines_in, next_bytes, next_text, size_of};
+ghost use Rattle.in_tcp.specs.Lines.{line_limit};
 ghost use Rattle.in_tcp.specs.Pieces.{IsFront};
+ghost use Rattle.in_tcp.specs.Rests.{bytes_of};
+ghost use Rattle.in_tcp.specs.Search.{completes, joined_of};
+ghost use Rattle.in_tcp.specs.Took.{is_none};
 
 use crate::partial_lines::PartialLines;
-use crate::pieces::{PieceRecord, Pieces};
+use crate::pieces::{PieceRecord, Pieces, ReadEvent};
 use byte_lines::find_line;
 use event_tree::Event;
 use in_lines::{Codec, LINE_LIMIT, event_of_bytes};
@@ -68,6 +73,54 @@ impl ReceiveBuffer {
         let event = self.event(alloc, codec, &next)?;
         self.pass(&next);
         Ok(Some(event))
+    }
+
+    /// Whether a line is held. Nothing is moved, and no memory taken.
+    pub(crate) fn holds(&self) -> bool
+        ensures { result ≡ not (is_none (lines_in self.now.rests self.now.pieces)) }
+    {
+        for place in 0..self.pieces.len() {
+            if self.completes_line(place) {
+                return true;
+            }
+        }
+        false
+    }
+
+    // Whether the piece of a place makes a line whole, where those before it make none.
+    fn completes_line(&self, place: usize) -> bool
+        requires within { place < length self.now.pieces }
+        requires none { lines_in self.now.rests (take place self.now.pieces) ≡ [] }
+        ensures { result ≡ completes self.now place }
+    {
+        let mark = self.pieces.mark(place);
+        match mark.gave {
+            ReadEvent::Bytes(count) => {
+                if has_line_feed(self.pieces.bytes(place)) {
+                    return true;
+                }
+                if has_line_feed(self.rests.bytes(mark.conn)) {
+                    return true;
+                }
+                self.left_len(place, mark.conn).saturating_add(count) >= LINE_LIMIT
+            }
+            ReadEvent::End => self.left_len(place, mark.conn) > 0,
+        }
+    }
+
+    // How many bytes are left of a connection before the piece of a place, where no piece before it makes a line whole; counted up to
+    // as many as a line may have.
+    fn left_len(&self, place: usize, conn: u32) -> usize
+        requires { place ≤ length self.now.pieces }
+        ensures { result ≡ min line_limit (length (bytes_of self.now.rests conn)
+            + length (joined_of conn (take place self.now.pieces))) }
+    {
+        let mut len = self.rests.bytes(conn).len().min(LINE_LIMIT);
+        for at in 0..place {
+            let count = self.pieces.mark(at).count_from(conn);
+            len = len.saturating_add(count).min(LINE_LIMIT);
+        }
+        len
     }
 
     // The event of the next line.
@@ -153,6 +206,13 @@ impl ReceiveBuffer {
             self.pieces.shorten(next.taken);
         }
     }
+}
+
+// Whether a line feed stands among some bytes.
+fn has_line_feed(bytes: &[u8]) -> bool
+    ensures { (result ≡ false) ↔ HasNoLineFeed bytes.now }
+{
+    memchr(b'\n', bytes).is_some()
 }
 
 // How many bytes stand up to the first line feed and with it, or in all.
