@@ -12,6 +12,7 @@ ghost use Rattle.batch_rows.specs.Running.{IsRunnerOf, RanUpTo, batch_limit, bat
 use crate::batch::run_batch;
 use crate::codecs::OutputCodec;
 use crate::fault::BatchFault;
+use built_plugins::Shared;
 use event_tree::{Event, Events};
 use foreign_parts::FilterCall;
 use io_traits::Sink;
@@ -26,7 +27,7 @@ pub const BATCH_LIMIT: usize = 125;
 #[derive(Drop)]
 pub struct Runner<X> {
     /// The steps of the configuration.
-    pub graph: Graph,
+    pub graph: Shared<Graph>,
     /// Its filters, with their boxes.
     pub kit: Kit<X>,
     /// The codecs of its outputs to stdout.
@@ -39,7 +40,7 @@ pub struct Runner<X> {
 
 impl<X: FilterCall> Runner<X> {
     /// No event is held.
-    pub fn new(graph: Graph, kit: Kit<X>, codecs: Items<OutputCodec>) -> Runner<X>
+    pub fn new(graph: Shared<Graph>, kit: Kit<X>, codecs: Items<OutputCodec>) -> Runner<X>
         ensures made { (config : Config) (draws : Draws) (boxes : List (Option X))
             → AreMadeOf config draws graph kit codecs
             → boxes ≡ boxes_in kit → IsRunnerOf X.may config draws boxes result }
@@ -128,7 +129,7 @@ impl<X: FilterCall> Runner<X> {
         let events = mem::replace(&mut self.held, Events::new(alloc));
         run_batch(
             alloc,
-            &self.graph,
+            self.graph.get(),
             &mut self.kit,
             self.codecs.as_slice(),
             events,

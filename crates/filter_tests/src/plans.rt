@@ -19,7 +19,7 @@ pub fn add_run<F: FilterCall, O: Drop>(
         ..
     } = plan;
     for kit in kits {
-        add_passage(to, &graph, kit)?;
+        add_passage(to, graph.get(), kit)?;
     }
     for (address, _taker) in links {
         write!(to, "; link {}", address.as_str())?;

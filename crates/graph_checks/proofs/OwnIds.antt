@@ -5,7 +5,6 @@ use Rattle.std.proofs.lemmas.Slice.Eq.{bytes_eq-Decides}
 use Rattle.config_tree.specs.declared.tree.Condition.{Condition}
 use Rattle.config_tree.specs.declared.tree.Config.{Config}
 use Rattle.config_tree.specs.declared.tree.Plugin.{Plugin}
-use Rattle.event_flow.specs.Parts.{parts_of}
 use Rattle.foreign_parts.specs.Stocks.{is_known}
 use Rattle.foreign_parts.specs.declared.boxes.BoxKind.TheVariants as kind
 use Rattle.slot_files.specs.declared.name.PositionOf.TheVariants as position
@@ -20,7 +19,7 @@ use Rattle.graph_checks.specs.declared.built_in.BuiltIn.{BuiltIn}
 use Rattle.graph_checks.specs.declared.fault.GraphFault.TheVariants as fault
 use Rattle.graph_checks.specs.declared.walk.Walk.{Walk}
 use Rattle.graph_checks.proofs.Flattened.{alike, plugins_in}
-use Rattle.graph_checks.proofs.Passing.{Went, went}
+use Rattle.graph_checks.proofs.Passing.{went}
 use Rattle.graph_checks.specs.OwnIds.{AreApart, HaveOwnIds, ids_from}
 
 -- the first of tests, and the others

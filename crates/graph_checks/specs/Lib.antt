@@ -12,6 +12,7 @@ pub mod Readings
 pub mod Drawings
 pub mod Drawns
 pub mod Numbering
+pub mod Planned
 pub mod Plans
 pub mod Filling
 pub mod Ready

@@ -13,6 +13,7 @@ use Rattle.built_plugins.specs.Makes.{makes}
 use Rattle.built_plugins.specs.declared.filter.Filter.{Filter}
 use Rattle.built_plugins.specs.declared.filter.Filter.TheVariants as f
 use Rattle.plugin_graph.specs.declared.kit.Kit.{Kit}
+use Rattle.graph_checks.specs.Planned.{inputs_from, planned_outputs}
 use Rattle.graph_checks.specs.Wants.{so_often, wants_of}
 use Rattle.graph_checks.specs.declared.plan.Plan.{Plan}
 
@@ -71,6 +72,8 @@ boxes_of_kits kits = columns (width (map contents_of kits)) (rows kits)
 pub record IsPlanOf {F O : Type 0} (number : O → ℕ) (config : Config) (workers : ℕ) (plan : Plan F O) : Type 0 where
   pub config_is : plan.config ≡ config
   pub graph : AreStepsOf config (steps_in plan.graph)
+  pub inputs : plan.inputs ≡ inputs_from 1 config.inputs
+  pub outgoing : plan.outgoing ≡ planned_outputs plan.draws config
   pub workers_are : length plan.kits.items ≡ workers
   pub kits : All (IsKitOf plan.draws config) plan.kits.items
   pub boxes : All HasItsBoxes plan.kits.items

@@ -20,7 +20,9 @@ use crate::fault::GraphFault;
 use crate::kit_boxes::hand_out;
 use crate::kits::make_kits;
 use crate::plan::Plan;
+use crate::planned::{PlannedInput, PlannedOutputs, plan_inputs, plan_outputs};
 use crate::want::Wants;
+use built_plugins::Shared;
 use config_tree::Config;
 use foreign_parts::BoxPool;
 use plain_data::{Items, Text};
@@ -60,6 +62,8 @@ pub fn compile<B: BoxPool>(
     let ready = prepare(alloc, &config, rack, wants, workers)?;
     let Ready {
         graph,
+        inputs,
+        outgoing,
         mut kits,
         draws,
         room,
@@ -73,6 +77,8 @@ pub fn compile<B: BoxPool>(
     Ok(Plan {
         config,
         graph,
+        inputs,
+        outgoing,
         kits,
         outputs,
         draws,
@@ -83,7 +89,9 @@ pub fn compile<B: BoxPool>(
 /// All of a plan but for its boxes and links, and room for these.
 #[derive(Drop)]
 pub(crate) struct Ready<F, O> {
-    pub graph: Graph,
+    pub graph: Shared<Graph>,
+    pub inputs: Items<PlannedInput>,
+    pub outgoing: Shared<PlannedOutputs>,
     pub kits: Vec<Kit<Drawn<F>>>,
     pub draws: Items<(Text, u64)>,
     pub room: BoxRoom<F, O>,
@@ -103,11 +111,15 @@ fn prepare<B: BoxPool>(
         (B.stand rack.now kind.Output).stocks wants) }
 {
     let draws = find_draws(alloc, rack, wants.outputs.as_slice())?;
-    let graph = Graph::new(alloc, config)?;
+    let graph = Shared::new(alloc, Graph::new(alloc, config)?)?;
+    let inputs = plan_inputs(alloc, config.inputs.as_slice())?;
+    let outgoing = Shared::new(alloc, plan_outputs(alloc, config, draws.as_slice())?)?;
     let kits = make_kits(alloc, config, draws.as_slice(), workers)?;
     let room = reserve_boxes(alloc, wants, workers)?;
     Ok(Ready {
         graph,
+        inputs,
+        outgoing,
         kits,
         draws,
         room,

@@ -1,5 +1,7 @@
 // A plan: a configuration that is ready to be run.
 use crate::drawn::Drawn;
+use crate::planned::{PlannedInput, PlannedOutputs};
+use built_plugins::Shared;
 use config_tree::Config;
 use foreign_parts::LinkTaker;
 use plain_data::{Items, Text};
@@ -9,7 +11,12 @@ use plugin_graph::{Graph, Kit};
 #[derive(Drop)]
 pub struct Plan<F, O> {
     pub config: Config,
-    pub graph: Graph,
+    /// Its steps, which the jobs of all workers share.
+    pub graph: Shared<Graph>,
+    /// Its inputs, in the order of the text.
+    pub inputs: Items<PlannedInput>,
+    /// Its outputs with their places and codecs, which the jobs share, too.
+    pub outgoing: Shared<PlannedOutputs>,
     /// For each worker one, with its boxes.
     pub kits: Vec<Kit<Drawn<F>>>,
     /// The boxes of the outputs, in the order of the text.

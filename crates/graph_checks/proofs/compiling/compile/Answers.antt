@@ -55,6 +55,8 @@ returns-clause-plan g c =
     record {
       config_is = refl;
       graph = r.graph;
+      inputs = r.inputs;
+      outgoing = r.outgoing;
       workers_are = sym (length-map news contents_of) ∙ ap length h.contents ∙ length-map kits contents_of ∙ r.workers_are;
       kits = still_kits c.in_ok-ready.ready.draws c.args.config kits news h.contents h.built r.kits;
       boxes = h.filled;
