@@ -1,7 +1,7 @@
 -- Where nothing is chosen and nothing was refused, a line has nothing to do.
 use Rattle.std.proofs.Common.{◌≡◌, ◌⊎◌, inl, inr, ⊎_elim, ℕ, ◌+◌, ◌≤◌, ◌<◌, ◌==◌, ◌&&◌, ◌||◌, not, Bool, true, false, List, [], ◌∷◌, ◌++◌, length, Option, Some, None, if◌then◌else◌, refl, sym, ap, ap₂, ◌∙◌, subst, arith}
 use Rattle.std.specs.Prelude.{nat_lt}
-use Rattle.std.specs.List.{list_any, list_all}
+use Rattle.std.specs.List.{list_any}
 use Rattle.std.proofs.lemmas.Bool.{cases_Bool, eq-eqb, lt-ltb, ltb-true, ltb-false, le-leb}
 use Rattle.std.proofs.lemmas.List.{length-map}
 use Rattle.event_tree.specs.Events.{Ev}
@@ -18,7 +18,7 @@ use Rattle.history_book.specs.Sound.{Places}
 use Rattle.history_book.specs.States.{Written, start, after, is_among}
 use Rattle.history_book.proofs.Opening.{among_in}
 use Rattle.line_machine.specs.Answering.{rows_at}
-use Rattle.line_machine.specs.Ends.{Waiting, TakerView, taker_at, IsServed, AreUpTo, MayAssure, MayRefuse}
+use Rattle.line_machine.specs.Ends.{Waiting, TakerView, taker_at, IsServed}
 use Rattle.line_machine.specs.Finds.{IsAway, IsHome, IsAtEnd, HasEnded, ends_served}
 use Rattle.line_machine.specs.Lines.{LineStands}
 use Rattle.line_machine.specs.Unchanged.{HasNoneSpent}
@@ -37,11 +37,6 @@ use Rattle.line_machine.proofs.Resting.{shows_nothing, false_with, false_behind,
 pub served_is : (only : Option (List ℕ)) (place : ℕ) → IsServed only place → is_served only place ≡ true
 served_is None place served = refl
 served_is (Some served) place has = among_in place served has
-
-up_to : (front : ℕ) (ns : List ℕ) → AreUpTo front ns → (n : ℕ) → IsIn n ns → n ≤ front
-up_to front [] are n has = absurd has
-up_to front (m ∷ ns) are n (inl e) = subst (λ k. k ≤ front) (sym e) are.0
-up_to front (m ∷ ns) are n (inr i) = up_to front ns are.1 n i
 
 made_short : (listening : Listening) (address : List ℕ) (ws : List Written) (es : List Ev) → AreMadeOf listening address ws es → length ws ≤ length es
 made_short listening address [] es made = omega (arith)
@@ -194,18 +189,6 @@ module _ (makes : Makes) (listening : Listening) (bytes : Bytes) (places : Place
         by_listens true e = (line.ends t has).none_lost e
         by_listens false e = by_lost e t.lost refl
 
-    may_not : (place : ℕ) (t : TakerView) → taker_at place i.takers ≡ Some t → IsServed (ends_served i) place → (MayAssure i.mark t ⊎ MayRefuse t) → ⊥
-    may_not place t found served (inl may) =
-        not_both (oldest_settled i.mark t.waits) (ap (oldest_settled i.mark) may.waits ∙ both_are (has_some i.mark) (is_settled i.mark may.oldest) (ap has_some may.marked)
-        (both_are (length may.oldest.rows == length may.oldest.events) _ (eq-eqb (length may.oldest.rows) (length may.oldest.events) may.whole)
-        (ap (λ (m : Option ℕ). list_all (is_up_to m) may.oldest.rows) may.marked
-        ∙ all_are (is_up_to (Some may.front)) may.oldest.rows (λ n row. le-leb n may.front (up_to may.front may.oldest.rows may.settled n row)))))
-        (false_both (oldest_settled i.mark t.waits) _ (none_answered place t found served)).0
-    may_not place t found served (inr may) =
-        not_both (not t.listens && (is_empty t.waits && not (is_empty t.lost)))
-        (both_are (not t.listens) _ (not_is t.listens may.closed) (both_are (is_empty t.waits) _ (ap is_empty may.none) (ap (λ (l : List Parcel). not (is_empty l)) may.lost)))
-        (false_both (oldest_settled i.mark t.waits) _ (none_answered place t found served)).1
-
     -- ---- what is left
 
     at_end : (v : InputView) → IsIn v i.inputs → v.is_open ≡ true → IsAtEnd listening i v
@@ -277,7 +260,7 @@ module _ (makes : Makes) (listening : Listening) (bytes : Bytes) (places : Place
           none_finished = none_finished;
           covered = covered;
           assured = no_rows;
-          answered = may_not;
+          answered = answered;
           none_spent = none_spent;
           drained = λ drains. ends (or_second_is (not i.stopped) i.drains drains);
         })

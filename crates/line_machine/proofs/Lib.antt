@@ -3,6 +3,7 @@ pub mod Inputs
 pub mod Covering
 pub mod Coming
 pub mod Serving
+pub mod Accepting
 pub mod Boxes
 pub mod Outputs
 pub mod Batches
@@ -34,3 +35,4 @@ pub mod Finding
 pub mod Ending
 pub mod Staying
 pub mod Closing
+pub mod Joining

@@ -10,6 +10,7 @@ use Rattle.history_book.specs.Sound.{Places}
 use Rattle.history_book.specs.States.{start, after}
 use Rattle.history_book.proofs.Mailing.{told_both, told_all}
 use Rattle.line_machine.specs.declared.calls.Call.{Call}
+use Rattle.line_machine.specs.Accepting.{WaysStand}
 use Rattle.line_machine.specs.Answering.{LinksStand}
 use Rattle.line_machine.specs.Answers.{IsPart, Parts, None_before, First}
 use Rattle.line_machine.specs.Coming.{came_in, and_came, InputsStand}
@@ -23,6 +24,7 @@ use Rattle.line_machine.specs.Stands.{Stands}
 use Rattle.line_machine.specs.Steps as m
 use Rattle.line_machine.specs.Steps.{Step, effect, GoesOn}
 use Rattle.line_machine.specs.Views.{Incoming, LineView}
+use Rattle.line_machine.proofs.Accepting.{ways_stand_still, opened_ways_stand}
 use Rattle.line_machine.proofs.Answering.{answers_all_stand, opened_links}
 use Rattle.line_machine.proofs.Boxes.{boxes_stand_still, opened_boxes_stand}
 use Rattle.line_machine.proofs.Coming.{inputs_stand_still, opened_inputs_stand}
@@ -36,7 +38,7 @@ use Rattle.line_machine.proofs.Steps.{steps_follow}
 
 module _ (makes : Makes) (listening : Listening) (bytes : Bytes) (places : Places) where
   -- the entries of what a step does
-  step_told : (i : LineView places) (x : Step makes listening bytes i) → told_of (deeds_of makes listening bytes places i x) ≡ (effect makes listening bytes i x).told
+  pub step_told : (i : LineView places) (x : Step makes listening bytes i) → told_of (deeds_of makes listening bytes places i x) ≡ (effect makes listening bytes i x).told
   step_told i (m.Sends n id address events rest h none p same some may) = refl
   step_told i (m.Hears address a s has turn waits) = refl
   step_told i (m.Sends_last address p last may ends) = refl
@@ -54,6 +56,7 @@ module _ (makes : Makes) (listening : Listening) (bytes : Bytes) (places : Place
         links = subst (λ l. LinksStand makes listening l e.line.takers e.line.next_place) now (answers_all_stand makes listening bytes places told i x is.stands is.links on);
         ends = ends_stand_still makes listening bytes places told i x is.stands is.ends;
         inputs = subst (λ l. InputsStand listening l (and_came came e.came) e.line) now (inputs_stand_still makes listening bytes places told came i x is.stands is.inputs on);
+        ways = subst (λ l. WaysStand listening l e.line.inputs e.line.takers) now (ways_stand_still makes listening bytes places told i x is.stands is.ends is.ways on);
         senders = does_legally_still makes listening bytes places earlier deeds i x is.stands is.senders on;
         rows = subst (λ l. RowsAreCovered l e.line) now (rows_are_covered_still makes listening bytes places told i x is.rows on);
         marks = marks_cover_still makes listening bytes places i x is.marks on;
@@ -72,6 +75,7 @@ module _ (makes : Makes) (listening : Listening) (bytes : Bytes) (places : Place
         links = subst (λ l. LinksStand makes listening l i.takers i.next_place) now (opened_links makes listening bytes places told image sound i is);
         ends = opened_ends_stand makes listening bytes places told image sound i is;
         inputs = subst (λ l. InputsStand listening l (λ n. []) i) now (opened_inputs_stand makes listening bytes places told image sound i is);
+        ways = subst (λ l. WaysStand listening l i.inputs i.takers) now (opened_ways_stand makes listening bytes places told image sound i is);
         senders = opened_does_legally makes listening bytes places told image sound i is;
         rows = subst (λ l. RowsAreCovered l i) now (opened_rows_are_covered makes listening bytes places told image sound i is);
         marks = opened_marks_cover makes listening bytes places told image sound i is;
@@ -96,7 +100,7 @@ module _ (makes : Makes) (listening : Listening) (bytes : Bytes) (places : Place
   part_came x i (m.Sends_last address p last may ends) part = refl
   part_came x i s part = absurd part
 
-  parts_stand_whole : (x : Call) (i j : LineView places) (parts : Parts makes listening bytes x i j) (earlier : List Entry) (deeds : List Deed) (came : ℕ → List Incoming) → LineStands makes listening bytes places earlier deeds came i
+  pub parts_stand_whole : (x : Call) (i j : LineView places) (parts : Parts makes listening bytes x i j) (earlier : List Entry) (deeds : List Deed) (came : ℕ → List Incoming) → LineStands makes listening bytes places earlier deeds came i
       → LineStands makes listening bytes places earlier (deeds ++ deeds_of_parts makes listening bytes places x i j parts) came j
   parts_stand_whole x i j (None_before _) earlier deeds came is = subst (λ l. LineStands makes listening bytes places earlier l came i) (sym (append-nil deeds)) is
   parts_stand_whole x i j (First _ _ s part parts) earlier deeds came is =

@@ -35,12 +35,12 @@ use Rattle.line_machine.specs.Answering.{LinksStand}
 use Rattle.line_machine.specs.Effects.{shed_told, letters_told}
 use Rattle.line_machine.specs.Doing.{IsSent, DoesLegally}
 use Rattle.line_machine.specs.Coming.{WasAssured, InputsStand}
-use Rattle.line_machine.specs.Finds.{IsRowFor, HasEnded}
+use Rattle.line_machine.specs.Finds.{IsRowFor, ends_served}
 use Rattle.line_machine.specs.Openings.{opening}
 use Rattle.line_machine.specs.Recorded.{AreRecorded, IsRecorded}
 use Rattle.line_machine.specs.Resting.{RowsAreAssured, TakenAreAnswered, SentAreAnswered, RestIsDone, StopIsStopped}
 use Rattle.line_machine.specs.Settling.{Settles, StepsSettle, OpenedLineSettles}
-use Rattle.line_machine.specs.Ends.{Waiting, TakerView}
+use Rattle.line_machine.specs.Ends.{Waiting, TakerView, IsServed}
 use Rattle.line_machine.specs.Stands.{AreBatchesOf, Stands}
 use Rattle.line_machine.specs.Steps as m
 use Rattle.line_machine.specs.Steps.{Step, effect, GoesOn}
@@ -258,7 +258,7 @@ both_not true b e f = absurd (true_false e)
 both_not false true e f = absurd (true_false f)
 both_not false false e f = refl
 
-by_account : (t : TakerView) → t.waits ≡ [] → (p : Parcel) → ((w : Waiting) × IsIn w t.waits × (w.number ≡ p.number)) ⊎ ((a : Answer) × IsIn a t.given × (a.number ≡ p.number))
+pub by_account : (t : TakerView) → t.waits ≡ [] → (p : Parcel) → ((w : Waiting) × IsIn w t.waits × (w.number ≡ p.number)) ⊎ ((a : Answer) × IsIn a t.given × (a.number ≡ p.number))
     → (a : Answer) × IsIn a t.given × (a.number ≡ p.number)
 by_account t none p (inl w) = absurd (nowhere w.0 t.waits none w.1)
 by_account t none p (inr a) = a
@@ -305,8 +305,8 @@ module _ (makes : Makes) (listening : Listening) (bytes : Bytes) (places : Place
       ⊎_elim (λ (a : (a : Answer) × IsIn a s.sends.heard × (a.number ≡ p.number)). a)
       (λ (b : (b : Batch) × IsIn b i.batches × IsSent b address p.number). absurd (nowhere b.0 i.batches none b.1)) (are.heard address s at p sent some)
 
-  taken_answered : LinksStand makes listening told i.takers i.next_place → HasEnded listening i → TakenAreAnswered i
-  taken_answered links ended t has served p taken some = by_account t (ended.answered t has served).0 p ((links.each t has).accounted p taken some)
+  taken_answered : LinksStand makes listening told i.takers i.next_place → ((t : TakerView) → IsIn t i.takers → IsServed (ends_served i) t.place → (t.waits ≡ []) × (t.lost ≡ [])) → TakenAreAnswered i
+  taken_answered links answered t has served p taken some = by_account t (answered t has served).0 p ((links.each t has).accounted p taken some)
 
 pub rest_is_done : (makes : Makes) (listening : Listening) (bytes : Bytes) (places : Places) → RestIsDone makes listening bytes places
 rest_is_done makes listening bytes places earlier deeds came i line rest = record {
@@ -315,7 +315,7 @@ rest_is_done makes listening bytes places earlier deeds came i line rest = recor
   found = none_found makes listening bytes places (told_of deeds) i line.stands line.settles rest.covered rest.ended.batches rest.ended.unread;
   inputs = rest.ended.inputs;
   assured = all_assured makes listening bytes places (told_of deeds) i line.stands came line.inputs rest.assured;
-  taken = taken_answered makes listening bytes places (told_of deeds) i line.stands line.links rest.ended;
+  taken = taken_answered makes listening bytes places (told_of deeds) i line.stands line.links rest.ended.answered;
   sent = sent_answered makes listening bytes places (told_of deeds) i line.stands earlier deeds line.senders rest.ended.batches;
 }
 
@@ -325,6 +325,6 @@ stop_is_stopped makes listening bytes places earlier deeds came i line stop = re
   assured = all_assured makes listening bytes places (told_of deeds) i line.stands came line.inputs stop.assured;
   rows = λ drains. let ended = stop.drained drains in all_acked makes listening bytes places (told_of deeds) i line.stands ended.batches ended.unread;
   recorded = λ drains. let ended = stop.drained drains in none_found makes listening bytes places (told_of deeds) i line.stands line.settles stop.covered ended.batches ended.unread;
-  taken = λ drains. taken_answered makes listening bytes places (told_of deeds) i line.stands line.links (stop.drained drains);
+  taken = taken_answered makes listening bytes places (told_of deeds) i line.stands line.links stop.answered;
   sent = λ drains. sent_answered makes listening bytes places (told_of deeds) i line.stands earlier deeds line.senders (stop.drained drains).batches;
 }

@@ -40,6 +40,11 @@ none_unread true true n none = none refl
 none_unread true false n none = refl
 none_unread false again n none = refl
 
+-- an end where no parcel waits, and none is lost, is due no answer
+none_due : (mark : Option ℕ) (t : TakerView) → (t.waits ≡ []) × (t.lost ≡ []) → (MayAssure mark t ⊎ MayRefuse t) → ⊥
+none_due mark t none (inl may) = in_none may.oldest t.waits none.0 (subst (IsIn may.oldest) (sym may.waits) (inl refl))
+none_due mark t none (inr may) = in_none may.parcel t.lost none.1 (subst (IsIn may.parcel) (sym may.lost) (inl refl))
+
 -- ---- what such a line lacks
 
 module _ (listening : Listening) {places : Places} where
@@ -61,7 +66,7 @@ module _ (listening : Listening) {places : Places} where
     finished = λ n h. none_some h.batch (subst (λ bs. batch_of n bs ≡ Some h.batch) rest.ended.batches h.has);
     batches = λ on. rest.ended.batches;
     unread = λ on. rest.ended.unread;
-    answers = λ place t found served may. none_due t (rest.ended.answered t (taker_in place t i.takers found).0 (all_served t.place)) may;
+    answers = λ place t found served may. none_due i.mark t (rest.ended.answered t (taker_in place t i.takers found).0 (all_served t.place)) may;
     uncovered = rest.covered;
     rows = rest.assured;
     spent = rest.none_spent;
@@ -72,17 +77,14 @@ module _ (listening : Listening) {places : Places} where
       all_served : (place : ℕ) → IsServed (ends_served i) place
       all_served place = subst (λ (b : Bool). IsServed (if b then Some i.going else None) place) (sym rest.running) tt
 
-      none_due : (t : TakerView) → (t.waits ≡ []) × (t.lost ≡ []) → (MayAssure i.mark t ⊎ MayRefuse t) → ⊥
-      none_due t none (inl may) = in_none may.oldest t.waits none.0 (subst (IsIn may.oldest) (sym may.waits) (inl refl))
-      none_due t none (inr may) = in_none may.parcel t.lost none.1 (subst (IsIn may.parcel) (sym may.lost) (inl refl))
-
   at_stop : (i : LineView places) → GoesOnDraining i → IsAtStop listening i → HasNone i
   at_stop i goes stop = record {
     jobs = stop.no_jobs;
     finished = stop.none_finished;
     batches = λ on. (stop.drained (drains_of on)).batches;
     unread = λ on. (stop.drained (drains_of on)).unread;
-    answers = stop.answered;
+    answers = λ place t found served may.
+        let there = taker_in place t i.takers found in none_due i.mark t (stop.answered t there.0 (subst (λ (x : ℕ). IsServed (ends_served i) x) (sym there.1) served)) may;
     uncovered = stop.covered;
     rows = stop.assured;
     spent = stop.none_spent;

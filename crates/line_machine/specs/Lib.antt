@@ -16,6 +16,7 @@ pub mod Kits
 pub mod Boxes
 pub mod Answering
 pub mod Serving
+pub mod Accepting
 pub mod Sending
 pub mod Doing
 pub mod Coming
@@ -28,3 +29,4 @@ pub mod Turns
 pub mod Summaries
 pub mod Choices
 pub mod Closing
+pub mod Joining

@@ -9,6 +9,7 @@ use Rattle.history_book.specs.Links.{Listening}
 use Rattle.history_book.specs.Sound.{Places, LineSound}
 use Rattle.history_book.specs.States.{start, after}
 use Rattle.line_machine.specs.declared.calls.Call.{Call}
+use Rattle.line_machine.specs.Accepting.{WaysStand}
 use Rattle.line_machine.specs.Answering.{LinksStand}
 use Rattle.line_machine.specs.Answers.{Parts, None_before, First, Did}
 use Rattle.line_machine.specs.Boxes.{BoxesStand}
@@ -32,6 +33,7 @@ module _ (makes : Makes) (listening : Listening) (bytes : Bytes) (places : Place
     pub links : LinksStand makes listening (told_of deeds) i.takers i.next_place
     pub ends : EndsStand listening i.inputs i.takers
     pub inputs : InputsStand listening (told_of deeds) came i
+    pub ways : WaysStand listening (told_of deeds) i.inputs i.takers
     pub senders : DoesLegally makes earlier deeds i.batches i.senders
     pub rows : RowsAreCovered (told_of deeds) i
     pub marks : MarksCover i

@@ -1,5 +1,5 @@
 -- When a line has nothing left to do, and what stands then.
-use Rattle.std.specs.Prelude.{◌≡◌, ◌⊎◌, ◌≤◌, ℕ, true, false, List, [], Some, None}
+use Rattle.std.specs.Prelude.{◌≡◌, ◌≤◌, ℕ, true, false, List, [], Some, None}
 use Rattle.pipeline_bus.specs.Parcels.{is_last}
 use Rattle.pipeline_bus.specs.declared.parcel.Answer.{Answer}
 use Rattle.pipeline_bus.specs.declared.parcel.Parcel.{Parcel}
@@ -15,7 +15,7 @@ use Rattle.history_book.specs.Sound.{Places}
 use Rattle.history_book.specs.States.{Written, start, after}
 use Rattle.line_machine.specs.Covering.{number_accepted}
 use Rattle.line_machine.specs.Coming.{RowIn, rows_by, WasAssured}
-use Rattle.line_machine.specs.Ends.{TakerView, SenderView, taker_at, sender_at, IsServed, MayAssure, MayRefuse}
+use Rattle.line_machine.specs.Ends.{TakerView, SenderView, sender_at, IsServed}
 use Rattle.line_machine.specs.Finds.{ends_served, IsAway, IsHome, IsAtEnd, HasEnded}
 use Rattle.line_machine.specs.Lines.{LineStands}
 use Rattle.line_machine.specs.Since.{since, of_each}
@@ -51,26 +51,27 @@ module _ (listening : Listening) {places : Places} where
     pub none_spent : HasNoneSpent i
 
   -- A line that was told to stop has come to an end: no job is out, no batch is delivered and not acknowledged, nothing came since the last mark, each input was told
-  -- of all its rows, no parcel that is due an answer waits at an end with which it goes on, and no page is spent; and where it drains, nothing comes from it to others any more.
+  -- of all its rows, no parcel waits at an end with which it goes on, and no page is spent; and where it drains, nothing comes from it to others any more.
   pub record IsAtStop (i : LineView places) : Type 0 where
     pub told_to : i.stopped ≡ true
     pub no_jobs : (n : ℕ) → IsAway i n → ⊥
     pub none_finished : (n : ℕ) → IsHome i n [] → ⊥
     pub covered : i.uncovered ≡ false
     pub assured : (v : InputView) → IsIn v i.inputs → v.rows ≡ []
-    pub answered : (place : ℕ) (t : TakerView) → taker_at place i.takers ≡ Some t → IsServed (ends_served i) place → (MayAssure i.mark t ⊎ MayRefuse t) → ⊥
+    pub answered : (t : TakerView) → IsIn t i.takers → IsServed (ends_served i) t.place → (t.waits ≡ []) × (t.lost ≡ [])
     pub none_spent : HasNoneSpent i
     pub drained : i.drains ≡ true → HasEnded listening i
 
 module _ (makes : Makes) (listening : Listening) (bytes : Bytes) (places : Places) where
-  -- Each row that was accepted since the line was opened is settled; each that an open input accepted, which listens on no address, was acknowledged to it; and of a line that
-  -- drains every row is acknowledged, which is recorded, and each parcel with events has its answer.
+  -- Each row that was accepted since the line was opened is settled; each that an open input accepted, which listens on no address, was acknowledged to it; each parcel with
+  -- events that was taken at an end with which the line goes on has its answer; and of a line that drains every row is acknowledged, which is recorded, and each parcel with
+  -- events that it sent has its answer.
   pub record IsStopped (told : List Entry) (i : LineView places) : Type 0 where
     pub marked : (n : ℕ) → IsIn n (of_each number_accepted (since told)) → n ≤ (after makes start told).front
     pub assured : RowsAreAssured listening told i
     pub rows : i.drains ≡ true → (w : Written) → IsIn w (after makes start told).rows → IsIn w.number (after makes start told).acknowledged
     pub recorded : i.drains ≡ true → (image : Image) → (left : StopLeaves makes bytes places told i.holds image) → left.queue.held.rows ≡ []
-    pub taken : i.drains ≡ true → TakenAreAnswered i
+    pub taken : TakenAreAnswered i
     pub sent : i.drains ≡ true → SentAreAnswered i
 
   -- A line that was told to stop and has come to an end is stopped.

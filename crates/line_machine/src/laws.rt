@@ -3,6 +3,7 @@ ghost use Rattle.event_flow.specs.Meaning.{Makes};
 ghost use Rattle.history_book.specs.Contents.{Bytes};
 ghost use Rattle.history_book.specs.Links.{Listening};
 ghost use Rattle.history_book.specs.Sound.{Places};
+ghost use Rattle.line_machine.specs.Accepting.{OpenedWaysStand, WaysStandStill};
 ghost use Rattle.line_machine.specs.Answering.{AnswersStand, OpenedLinksStand};
 ghost use Rattle.line_machine.specs.Boxes.{BoxesStandStill, BoxesStay, ClosedAreUnwanted, OpenedBoxesStand};
 ghost use Rattle.line_machine.specs.Closing.{EndsCloseOnce, EndsFollow, FaultsCloseNone, NoneIsOut};
@@ -10,6 +11,7 @@ ghost use Rattle.line_machine.specs.Coming.{InputsStandStill, OpenedInputsStand,
 ghost use Rattle.line_machine.specs.Covering.{MarksCoverStill, OpenedMarksCover, OpenedRowsAreCovered, RowsAreCoveredStill};
 ghost use Rattle.line_machine.specs.Doing.{DoesLegallyStill, OpenedDoesLegally};
 ghost use Rattle.line_machine.specs.EndsLine.{AnswersTellEnds};
+ghost use Rattle.line_machine.specs.Joining.{InputsAreSound, ReleasedAreAnswered, RestIsDoneThere, StopIsStoppedThere, TakersAreSound};
 ghost use Rattle.line_machine.specs.Kits.{KitsStay, KitsAreTheirs, OpenedKitsAreTheirs};
 ghost use Rattle.line_machine.specs.Laws.{CallsFollow, StepsFollow, WaysLeaveNoMore};
 ghost use Rattle.line_machine.specs.Openings.{OpenedLineStands, RunsStand};
@@ -177,4 +179,34 @@ pub fn lines_stand_whole()
         → StandsWholeStill makes listening bytes places }
     ensures calls { (makes : Makes) (listening : Listening) (bytes : Bytes) (places : Places)
         → CallsStandWhole makes listening bytes places }
+{}
+
+/// Each event that a line accepted since it was opened came by an input that it has; while that is open, in no parcel
+/// where the input listens on no address, and else through an end that the line has for it.
+pub fn events_came_by_inputs()
+    ensures opened { (makes : Makes) (listening : Listening) (bytes : Bytes) (places : Places)
+        → OpenedWaysStand makes listening bytes places }
+    ensures kept { (makes : Makes) (listening : Listening) (bytes : Bytes) (places : Places)
+        → WaysStandStill makes listening bytes places }
+{}
+
+/// A line among the pipelines of a run, by all that was done there and the links that stand behind it: its inputs, by
+/// the looks that they made, and the ends at which it listens agree with what it told; and where it gives an end back,
+/// each parcel with events that was taken there has its answer.
+pub fn lines_stand_in_runs()
+    ensures inputs { (makes : Makes) (listening : Listening) (bytes : Bytes) (places : Places)
+        → InputsAreSound makes listening bytes places }
+    ensures takers { (makes : Makes) (listening : Listening) (bytes : Bytes) (places : Places)
+        → TakersAreSound makes listening bytes places }
+    ensures released { (makes : Makes) (listening : Listening) (bytes : Bytes) (places : Places)
+        → ReleasedAreAnswered makes listening bytes places }
+{}
+
+/// There a line that is at rest is done, by the same words as the run; and one that was told to stop and has come to an
+/// end is stopped, where no result of a batch was lost, and it goes on with each link whose sender drains.
+pub fn rest_is_done_in_runs()
+    ensures done { (makes : Makes) (listening : Listening) (bytes : Bytes) (places : Places)
+        → RestIsDoneThere makes listening bytes places }
+    ensures stopped { (makes : Makes) (listening : Listening) (bytes : Bytes) (places : Places)
+        → StopIsStoppedThere makes listening bytes places }
 {}
