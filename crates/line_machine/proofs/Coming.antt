@@ -543,7 +543,7 @@ rise_before from (y ∷ before) x behind rise =
 
 module _ (makes : Makes) (listening : Listening) (bytes : Bytes) (places : Places) (told : List Entry) (came : ℕ → List Incoming) (i : LineView places) (stands : Stands makes bytes places told i)
     (is : InputsStand listening told came i) where
-  settled_place : (n front : ℕ) (h : HasInput i n) → i.mark ≡ Some front → (f : FileAt) → IsIn f (last_places (rows_up_to front h.input.rows)) → (k : ℕ) × IsSettledUpTo makes told k (came k) f
+  settled_place : (n front : ℕ) (h : HasInput i n) → i.mark ≡ Some front → (f : FileAt) → IsIn f (last_places (rows_up_to front h.input.rows)) → (v : InputView) × IsIn v i.inputs × (v.is_open ≡ true) × (listening.address v.statement ≡ None) × IsSettledUpTo makes told v.number (came v.number) f
   settled_place n front h marks f has = by_read h.input.is_open refl (listening.address h.input.statement) refl
     where
       its : (r : RowAt) × IsIn r (rows_up_to front h.input.rows) × (r.at ≡ Some f)
@@ -587,12 +587,12 @@ module _ (makes : Makes) (listening : Listening) (bytes : Bytes) (places : Place
                 (in_either r at.rows_before (at.row ∷ []) j);
           }
 
-      by_read : (b : Bool) → h.input.is_open ≡ b → (address : Option (List ℕ)) → listening.address h.input.statement ≡ address → (k : ℕ) × IsSettledUpTo makes told k (came k) f
-      by_read true opens None lines = (h.input.number, settled opens lines)
+      by_read : (b : Bool) → h.input.is_open ≡ b → (address : Option (List ℕ)) → listening.address h.input.statement ≡ address → (v : InputView) × IsIn v i.inputs × (v.is_open ≡ true) × (listening.address v.statement ≡ None) × IsSettledUpTo makes told v.number (came v.number) f
+      by_read true opens None lines = (h.input, there, opens, lines, settled opens lines)
       by_read true opens (Some address) listens = absurd (unread (λ read. none_some address (sym read.1 ∙ listens)))
       by_read false closed address listens = absurd (unread (λ read. differs (sym closed ∙ read.0)))
 
-  recorded_settled : (x : Step makes listening bytes i) (f : FileAt) → IsIn f (effect makes listening bytes i x).recorded → (n : ℕ) × IsSettledUpTo makes told n (came n) f
+  recorded_settled : (x : Step makes listening bytes i) (f : FileAt) → IsIn f (effect makes listening bytes i x).recorded → (v : InputView) × IsIn v i.inputs × (v.is_open ≡ true) × (listening.address v.statement ≡ None) × IsSettledUpTo makes told v.number (came v.number) f
   recorded_settled (m.Assures n front h marks) f has = settled_place n front h marks f has
   recorded_settled (m.Fails_to_assure n front h marks) f has = settled_place n front h marks f has
   recorded_settled x f has = absurd has

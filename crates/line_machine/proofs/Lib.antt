@@ -36,3 +36,5 @@ pub mod Ending
 pub mod Staying
 pub mod Closing
 pub mod Joining
+pub mod Inside
+pub mod Positions

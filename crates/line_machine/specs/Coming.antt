@@ -108,8 +108,9 @@ module _ (makes : Makes) (listening : Listening) (bytes : Bytes) (places : Place
       → GoesOn makes listening bytes i x
       → InputsStand listening (told ++ (effect makes listening bytes i x).told) (and_came came (effect makes listening bytes i x).came) (effect makes listening bytes i x).line
 
-  -- each place that a step records, or may have recorded, is such
+  -- each place that a step records, or may have recorded, is such, of an open input that listens on no address
   abbrev pub RecordedAreSettled : Type 0
   RecordedAreSettled =
       (told : List Entry) (came : ℕ → List Incoming) (i : LineView places) (x : Step makes listening bytes i) → Stands makes bytes places told i → InputsStand listening told came i
-      → (f : FileAt) → IsIn f (effect makes listening bytes i x).recorded → (n : ℕ) × IsSettledUpTo makes told n (came n) f
+      → (f : FileAt) → IsIn f (effect makes listening bytes i x).recorded
+      → (v : InputView) × IsIn v i.inputs × (v.is_open ≡ true) × (listening.address v.statement ≡ None) × IsSettledUpTo makes told v.number (came v.number) f

@@ -30,3 +30,5 @@ pub mod Summaries
 pub mod Choices
 pub mod Closing
 pub mod Joining
+pub mod Inside
+pub mod Positions

@@ -11,12 +11,14 @@ ghost use Rattle.line_machine.specs.Coming.{InputsStandStill, OpenedInputsStand,
 ghost use Rattle.line_machine.specs.Covering.{MarksCoverStill, OpenedMarksCover, OpenedRowsAreCovered, RowsAreCoveredStill};
 ghost use Rattle.line_machine.specs.Doing.{DoesLegallyStill, OpenedDoesLegally};
 ghost use Rattle.line_machine.specs.EndsLine.{AnswersTellEnds};
+ghost use Rattle.line_machine.specs.Inside.{CallsStandInside, InsideStays, StepsStandInside};
 ghost use Rattle.line_machine.specs.Joining.{InputsAreSound, ReleasedAreAnswered, RestIsDoneThere, StopIsStoppedThere, TakersAreSound};
 ghost use Rattle.line_machine.specs.Kits.{KitsStay, KitsAreTheirs, OpenedKitsAreTheirs};
 ghost use Rattle.line_machine.specs.Laws.{CallsFollow, StepsFollow, WaysLeaveNoMore};
 ghost use Rattle.line_machine.specs.Openings.{OpenedLineStands, RunsStand};
 ghost use Rattle.line_machine.specs.Outputs.{OutputsTookWhatWasTold};
 ghost use Rattle.line_machine.specs.Lines.{CallsStandWhole, OpenedStandsWhole, StandsWholeStill};
+ghost use Rattle.line_machine.specs.Positions.{RecordedPositionsStand};
 ghost use Rattle.line_machine.specs.Resting.{RestIsDone, StopIsStopped};
 ghost use Rattle.line_machine.specs.Settling.{OpenedLineSettles, StepsSettle};
 ghost use Rattle.line_machine.specs.Sending.{OpenedParcelsWereDue, ParcelsWereDue};
@@ -209,4 +211,21 @@ pub fn rest_is_done_in_runs()
         → RestIsDoneThere makes listening bytes places }
     ensures stopped { (makes : Makes) (listening : Listening) (bytes : Bytes) (places : Places)
         → StopIsStoppedThere makes listening bytes places }
+{}
+
+/// Where recorded positions agree with what was told before a step or a call, whatever a stop within it leaves stands
+/// inside a run: it agrees with what was told up to some moment, recorded positions among it, and a delivery to an
+/// address counts among that only where its answer was taken before. It stands so whatever is done behind it, and
+/// however watched files grow.
+pub fn stops_stand_inside()
+    ensures steps { StepsStandInside }
+    ensures calls { CallsStandInside }
+    ensures later { InsideStays }
+{}
+
+/// Each position of a watched file that a step records, or may have recorded, agrees with what was told before the step:
+/// the bytes up to it, behind where the input began to read, are paid for by settled rows of lines of that file alone.
+pub fn recorded_positions_stand()
+    ensures { (makes : Makes) (listening : Listening) (bytes : Bytes) (places : Places)
+        → RecordedPositionsStand makes listening bytes places }
 {}
