@@ -64,24 +64,26 @@ def synced(trace):
 
 
 def killed(top):
-    """A process appends and is killed; the next one syncs what it relies on, and opens nothing for writing."""
+    """A process appends and is killed; the next one syncs what it relies on, and opens nothing but the lock for writing."""
     data, trace = f"{top}/data", f"{top}/second"
     first = Process(data)
     expect("an append", first.ask("a append ~/main/page.0 abc"), "done")
     other = Process(data)
     expect("a read beside it", other.ask("a read ~/main/page.0 0 8"), "abc")
     expect("a change beside it", other.ask("a append ~/main/page.0 d"), "failed")
+    expect("an opening beside it", other.ask("a list ~/main"), "failed")
     other.kill()
     first.kill()
     second = Process(data, trace)
     expect("a first sync", second.ask("a sync"), "done")
-    expect("the names", second.ask("a list ~/main"), "page.0 in all")
+    expect("the names, under the lock", second.ask("a list ~/main"), "page.0 in all")
     expect("what was appended", second.ask("a read ~/main/page.0 0 8"), "abc")
     expect("a later sync", second.ask("a sync"), "done")
     second.kill()
     if STRACE:
         expect("what is synced before it is relied on", synced(trace), [f"{data}/main", f"{data}/main/page.0"])
-        for_writing = [call for call in calls(trace, "openat") if data in call and re.search("O_WRONLY|O_RDWR|O_CREAT", call)]
+        opened = [call for call in calls(trace, "openat") if data in call and re.search("O_WRONLY|O_RDWR|O_CREAT", call)]
+        for_writing = [call for call in opened if f'"{data}/main.lock"' not in call]
         expect("what is opened for writing", for_writing, [])
     third = Process(data)
     expect("an append once the lock is free", third.ask("a append ~/main/page.0 d"), "done")

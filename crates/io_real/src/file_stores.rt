@@ -27,10 +27,12 @@ use std::rt::Files;
 /// syncs the files that changed since the last one, and then the folders in which names changed, one
 /// by one.
 ///
-/// Before the first change in a folder of its own, `data/main`, the store takes a lock on the file
-/// `data/main.lock` beside it, and holds it for as long as it lives. Where another store holds it, the
-/// call failed. A folder is its own where the store listed it, or changes a file in it that has the
-/// name of a queue's file (`page.N`, `checkpoint.N`, `checkpoint.head`). What only reads takes no lock.
+/// On a folder of its own, `data/main`, the store takes a lock, on the file `data/main.lock` beside it,
+/// and holds it for as long as it lives. Where another store holds it, the call failed. A folder is its
+/// own where the store lists it, as each opening of a queue does first: then the lock is taken before
+/// anything is read of it, or, where the folder is missing, once it is made; or where the store changes a
+/// file in it that has the name of a queue's file (`page.N`, `checkpoint.N`, `checkpoint.head`). Reads of
+/// files in other folders take none.
 ///
 /// Once a sync failed, each later one fails too: the machine may have dropped what it could not
 /// write, and a sync that came after would not say so.

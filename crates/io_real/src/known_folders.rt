@@ -59,9 +59,17 @@ impl KnownFolders {
         Ok(true)
     }
 
-    /// Takes the files of a folder for the store's own.
-    pub fn claim_folder(&mut self, folder: &str) -> io::Result<()> {
-        self.known(folder)?.is_own = true;
+    /// Takes the files of a folder for the store's own, and, where the folder is there, the lock on it.
+    pub fn claim_folder(
+        &mut self,
+        rt: &(impl Files<File = File> + AllocGlobal),
+        folder: &str,
+    ) -> io::Result<()> {
+        let known = self.known(folder)?;
+        known.is_own = true;
+        if known.lock.is_none() && fs::exists(rt, folder)? {
+            known.lock = take_lock(rt, folder)?;
+        }
         Ok(())
     }
 

@@ -46,6 +46,11 @@ impl OpenedFile {
         Ok(())
     }
 
+    fn append(&mut self, bytes: &[u8]) -> io::Result<()> {
+        let end = self.end()?;
+        self.write(end, bytes)
+    }
+
     fn cut(&mut self, length: u64) -> io::Result<()> {
         let end = self.end()?;
         self.length = None;
@@ -99,7 +104,7 @@ impl OpenedFiles {
         folder: &str,
     ) -> io::Result<Names> {
         let folder = listed_folder(folder);
-        self.folders.claim_folder(folder)?;
+        self.folders.claim_folder(rt, folder)?;
         if self.folders.settle(rt, folder)? {
             names_in(rt, alloc, folder)
         } else {
@@ -147,12 +152,15 @@ impl OpenedFiles {
         name: &str,
         bytes: &[u8],
     ) -> io::Result<()> {
+        // A file that is open for writing is looked up once.
+        if let Some(opened) = self.files.get_mut(name) {
+            if opened.is_writable {
+                return opened.append(bytes);
+            }
+        }
         self.open_or_make(rt, name)?;
         match self.files.get_mut(name) {
-            Some(opened) => {
-                let end = opened.end()?;
-                opened.write(end, bytes)
-            }
+            Some(opened) => opened.append(bytes),
             None => Err(ErrorKind::NotFound.into()),
         }
     }
