@@ -11,6 +11,8 @@ use Rattle.history_book.specs.Entries.{Entry, ParcelAt, Accept}
 use Rattle.history_book.specs.Legal.{Legal}
 use Rattle.history_book.specs.Links.{Listening}
 use Rattle.history_book.specs.Lists.{IsIn}
+use Rattle.slot_files.specs.Positions.{recorded_in}
+use Rattle.slot_files.specs.declared.recorded.Recorded.{Recorded}
 use Rattle.history_book.specs.Contents.{Bytes}
 use Rattle.history_book.specs.Holdings.{Holdings, StopLeaves}
 use Rattle.history_book.specs.Premises.{OnlyGrows, StandsInside}
@@ -18,20 +20,22 @@ use Rattle.history_book.specs.Runs.{Meanings, Bases}
 use Rattle.history_book.specs.Sound.{Places, LineSound}
 use Rattle.history_book.specs.Sources.{Sources}
 use Rattle.history_book.specs.States.{start, after}
-use Rattle.history_book.specs.Watched.{WatchedFile, PositionSound}
+use Rattle.history_book.specs.Watched.{WatchedFile, IsPosition, PositionSound}
 use Rattle.history_book.proofs.Histories.{legal_rest, settled_stays}
 use Rattle.history_book.proofs.Mailing.{told_both, told_all, did_more}
 use Rattle.line_machine.specs.declared.calls.Call.{Call}
 use Rattle.line_machine.specs.Answers.{IsPart, Parts, None_before, First}
 use Rattle.line_machine.specs.Doing.{deeds_of}
 use Rattle.line_machine.specs.Effects.{Effect, MayLeave, Before, Behind}
-use Rattle.line_machine.specs.Inside.{StepsStandInside, CallsStandInside, InsideStays}
+use Rattle.line_machine.specs.Inside.{StepsStandInside, CallsStandInside, InsideStays, LeavesPosition, StopsStandInside}
 use Rattle.line_machine.specs.Lines.{LineStands, deeds_of_parts}
 use Rattle.line_machine.specs.Steps as s
 use Rattle.line_machine.specs.Steps.{Step, effect}
-use Rattle.line_machine.specs.Views.{Incoming, LineView}
+use Rattle.line_machine.specs.Positions.{BeganAt}
+use Rattle.line_machine.specs.Views.{FileAt, Incoming, InputView, LineView}
 use Rattle.line_machine.proofs.Doing.{does_legally_still}
 use Rattle.line_machine.proofs.Lines.{step_told, parts_stand_whole}
+use Rattle.line_machine.proofs.Positions.{recorded_positions_stand}
 use Rattle.line_machine.proofs.Steps.{steps_follow}
 
 same_rest : (d : Deed) (xs ys : List Deed) → d ∷ xs ≡ d ∷ ys → xs ≡ ys
@@ -138,20 +142,22 @@ steps_stand_inside m bases k earlier since came i x files image line leaves posi
 
 module _ (makes : Makes) (listening : Listening) (bytes : Bytes) (places : Places) (x : Call) where
   part_quiet : (i : LineView places) (y : Step makes listening bytes i) → IsPart makes listening bytes i y x
-      → ((effect makes listening bytes i y).line.holds ≡ i.holds) × (told_of (deeds_of makes listening bytes places i y) ≡ [])
-  part_quiet i (s.Sends n id address events rest h none p same some may) part = (refl, refl)
-  part_quiet i (s.Hears address a sender has turn waits) part = (refl, refl)
-  part_quiet i (s.Sends_last address p last may ends) part = (refl, refl)
+      → ((effect makes listening bytes i y).line.holds ≡ i.holds) × (told_of (deeds_of makes listening bytes places i y) ≡ []) × ((effect makes listening bytes i y).line.inputs ≡ i.inputs)
+  part_quiet i (s.Sends n id address events rest h none p same some may) part = (refl, refl, refl)
+  part_quiet i (s.Hears address a sender has turn waits) part = (refl, refl, refl)
+  part_quiet i (s.Sends_last address p last may ends) part = (refl, refl, refl)
   part_quiet i y part = absurd part
 
-  parts_quiet : (i j : LineView places) (parts : Parts makes listening bytes x i j) → (j.holds ≡ i.holds) × (told_of (deeds_of_parts makes listening bytes places x i j parts) ≡ [])
-  parts_quiet i j (None_before _) = (refl, refl)
+  parts_quiet : (i j : LineView places) (parts : Parts makes listening bytes x i j)
+      → (j.holds ≡ i.holds) × (told_of (deeds_of_parts makes listening bytes places x i j parts) ≡ []) × (j.inputs ≡ i.inputs)
+  parts_quiet i j (None_before _) = (refl, refl, refl)
   parts_quiet i j (First _ _ y part parts) =
       let now = (effect makes listening bytes i y).line in
       let first = part_quiet i y part in
       let rest = parts_quiet now j parts in (
         rest.0 ∙ first.0,
         told_both (deeds_of makes listening bytes places i y) (deeds_of_parts makes listening bytes places x now j parts) ∙ ap₂ (λ (l r : List Entry). l ++ r) first.1 rest.1,
+        rest.2 ∙ first.2,
       )
 
 pub calls_stand_inside : CallsStandInside
@@ -165,7 +171,7 @@ calls_stand_inside m bases k earlier since came i x e files image line did leave
     parts : List Deed
     parts = deeds_of_parts m.makes m.listening m.bytes (bases.places k) x i did.line did.before
 
-    quiet : (did.line.holds ≡ i.holds) × (told_of parts ≡ [])
+    quiet : (did.line.holds ≡ i.holds) × (told_of parts ≡ []) × (did.line.inputs ≡ i.inputs)
     quiet = parts_quiet m.makes m.listening m.bytes (bases.places k) x i did.line did.before
 
     since_same : told_of (since ++ parts) ≡ told_of since
@@ -214,3 +220,58 @@ inside_stays m bases k earlier deeds later old new image grows is = record {
     positions = λ file has. position_grown m.listening m.sources m.makes (earlier ++ told_of is.front) old new image file grows (is.sound.positions file has);
   };
 }
+
+-- ---- positions
+
+-- a position that was recorded before, and is still
+recorded_still : (listening : Listening) (sources : Sources) (makes : Makes) (told : List Entry) (files : Content) (image old : Image) (file : WatchedFile)
+    → recorded_in (bytes_of (image file.slot).file) ≡ recorded_in (bytes_of (old file.slot).file) → PositionSound listening sources makes told files old file → PositionSound listening sources makes told files image file
+recorded_still listening sources makes told files image old file same is = record {
+  position = is.position;
+  recorded = subst (λ (r : Recorded). IsPosition file.base r is.position) (sym same) is.recorded;
+  behind = is.behind;
+  within = is.within;
+  readings = is.readings;
+  cut = is.cut;
+  read = is.read;
+  settled = is.settled;
+  differ = is.differ;
+}
+
+pub stops_stand_inside : StopsStandInside
+stops_stand_inside m bases k earlier since came i x e files image line files_read did leaves left =
+    calls_stand_inside m bases k earlier since came i x e files image line did leaves (λ file has. by_position file has (left file has))
+  where
+    parts : List Deed
+    parts = deeds_of_parts m.makes m.listening m.bytes (bases.places k) x i did.line did.before
+
+    quiet : (did.line.holds ≡ i.holds) × (told_of parts ≡ []) × (did.line.inputs ≡ i.inputs)
+    quiet = parts_quiet m.makes m.listening m.bytes (bases.places k) x i did.line did.before
+
+    done : List Deed
+    done = (tell_all earlier ++ since) ++ parts
+
+    told_is : told_of done ≡ earlier ++ told_of since
+    told_is =
+        told_both (tell_all earlier ++ since) parts ∙ ap (λ (l : List Entry). told_of (tell_all earlier ++ since) ++ l) quiet.1 ∙ append-nil (told_of (tell_all earlier ++ since))
+        ∙ told_both (tell_all earlier) since ∙ ap (λ (l : List Entry). l ++ told_of since) (told_all earlier)
+
+    there : (v : InputView) → IsIn v did.line.inputs → IsIn v i.inputs
+    there v has = subst (IsIn v) quiet.2 has
+
+    at_place : (file : WatchedFile) → IsIn file (bases.watched k) → (f : FileAt) → IsIn f e.recorded → file.path ≡ f.path → IsPosition file.base (recorded_in (bytes_of (image file.slot).file)) f.behind
+        → PositionSound m.listening m.sources m.makes (told_of done) files image file
+    at_place file has f was same recorded =
+        recorded_positions_stand m.makes m.listening m.bytes (bases.places k) m.sources earlier done came did.line did.step f files files_read.begins file image
+        (parts_stand_whole m.makes m.listening m.bytes (bases.places k) x i did.line did.before earlier (tell_all earlier ++ since) came line)
+        (subst (λ (y : Effect (bases.places k)). IsIn f y.recorded) did.effect_is was) (λ v is opens lines. files_read.lines v (there v is) opens lines)
+        (λ v is opens lines watches.
+        subst (λ (path : List ℕ). BeganAt m.listening m.sources m.makes (told_of done) v.number files file (files_read.begins v.number path)) same
+        (subst (λ (l : List Entry). BeganAt m.listening m.sources m.makes l v.number files file (files_read.begins v.number file.path)) (sym told_is)
+        (files_read.began file has v (there v is) opens lines (subst (λ (path : List ℕ). m.sources.watches v.statement path ≡ true) (sym same) watches)))) same recorded
+
+    by_position : (file : WatchedFile) → IsIn file (bases.watched k) → LeavesPosition m bases k files (earlier ++ told_of since) e.recorded image file
+        → PositionSound m.listening m.sources m.makes (earlier ++ told_of since) files image file
+    by_position file has (inl old) = recorded_still m.listening m.sources m.makes (earlier ++ told_of since) files image old.0 file old.2 old.1
+    by_position file has (inr new) =
+        subst (λ (l : List Entry). PositionSound m.listening m.sources m.makes l files image file) told_is (at_place file has new.0 new.1 new.2 new.3)

@@ -449,13 +449,13 @@ stop_is_stopped_there makes listening bytes places sources earlier came i done l
       no_jobs = no_job makes listening bytes places earlier came i done k line none stop;
       settled = λ a has. is.marked a.row.number (number_so makes (told_by k done) a (accepted_at makes (told_by k done) a has));
       known = λ a has parcel. lines_known makes listening bytes places earlier came i done k line is.assured a has parcel;
-      taken = λ l has to served. answered l (goes l has to served) (are.each l has to);
+      taken = λ l has to served. answered l has served (are.each l has to);
       empty = λ on. empty_so makes listening bytes places earlier came i done k line sources image (is.rows (drained on)) left (is.recorded (drained on) image left);
       sent = λ on. sent_so makes listening bytes places earlier came i done k line (is.sent (drained on));
     }
   where
-    answered : (l : Link) → IsIn l.place i.going → ((t : TakerView) × IsIn t i.takers × IsLinkOf k t l) ⊎ AreAnswered l.taken l.given → AreAnswered l.taken l.given
-    answered l on (inl end) =
-        let served = subst (λ (b : Bool). IsServed (if b then Some i.going else None) end.0.place) (sym stop.told_to) (subst (λ (x : ℕ). IsIn x i.going) end.2.place_is on) in
+    answered : (l : Link) → IsIn l links → run.IsServed drains l → ((t : TakerView) × IsIn t i.takers × IsLinkOf k t l) ⊎ AreAnswered l.taken l.given → AreAnswered l.taken l.given
+    answered l has drained_by (inl end) =
+        let served = subst (λ (b : Bool). IsServed (if b then Some i.going else None) end.0.place) (sym stop.told_to) (goes end.0 l end.1 has end.2 drained_by) in
         taken_so makes listening bytes places earlier came i done k line end.0 l end.1 end.2 (stop.answered end.0 end.1 served).0
-    answered l on (inr all) = all
+    answered l has drained_by (inr all) = all

@@ -1,5 +1,5 @@
 -- Positions that a line records are paid for by rows of their own files.
-use Rattle.std.proofs.Common.{◌≡◌, ◌≢◌, ◌⊎◌, inl, inr, ⊎_elim, ℕ, zero, suc, ◌≤◌, ◌<◌, ◌==◌, Bool, true, false, List, [], ◌∷◌, ◌++◌, length, map, take, drop, Option, Some, None, if◌then◌else◌, refl, sym, ap, ap₂, ◌∙◌, subst, arith, append-nil, append_assoc}
+use Rattle.std.proofs.Common.{◌≡◌, ◌⊎◌, inl, inr, ⊎_elim, ℕ, zero, suc, ◌≤◌, ◌<◌, ◌==◌, Bool, true, false, List, [], ◌∷◌, ◌++◌, length, map, take, drop, Option, Some, None, if◌then◌else◌, refl, sym, ap, ap₂, ◌∙◌, subst, arith, append-nil, append_assoc}
 use Rattle.std.specs.Prelude.{flat_map}
 use Rattle.std.proofs.lemmas.Bool.{eqb-true}
 use Rattle.std.proofs.lemmas.Grind.{flat_map-append}
@@ -16,8 +16,8 @@ use Rattle.in_lines.specs.Polls.{Poll}
 use Rattle.slot_files.specs.Positions.{recorded_in}
 use Rattle.history_book.specs.Contents.{Bytes}
 use Rattle.history_book.specs.Deeds.{Deed, told_of}
-use Rattle.history_book.specs.Entries.{Entry, ParcelAt, Accept, Mark, Assure, Read, Back, Shed, Deliver, Letters, Ack, Purge, Adopt, Opened}
-use Rattle.history_book.specs.Inputs.{Input, AreInputs, IsInput, named_from}
+use Rattle.history_book.specs.Entries.{Entry, Accept, Mark, Assure, Read, Back, Shed, Deliver, Letters, Ack, Purge, Adopt, Opened}
+use Rattle.history_book.specs.Inputs.{Input, AreInputs, named_from}
 use Rattle.history_book.specs.Legal.{MayCome, Legal_at, Legal}
 use Rattle.history_book.specs.Links.{Listening, IsSettledRow}
 use Rattle.history_book.specs.Lists.{IsIn, Rise, IsNone, Differ}
@@ -34,9 +34,8 @@ use Rattle.history_book.proofs.Steps.{rest_unopened}
 use Rattle.line_machine.specs.Coming.{RowIn, row_accepted, rows_by, AreRowsFor, IsSettledUpTo}
 use Rattle.line_machine.specs.Effects.{is_of_file}
 use Rattle.line_machine.specs.Lines.{LineStands}
-use Rattle.line_machine.specs.Positions.{lines_of, IsReadUpTo, LinesAreRead, BeganAt, RecordedPositionsStand}
+use Rattle.line_machine.specs.Positions.{lines_of, IsReadUpTo, BeganAt, RecordedPositionsStand}
 use Rattle.line_machine.specs.Since.{since, of_each}
-use Rattle.line_machine.specs.Steps.{Step, effect}
 use Rattle.line_machine.specs.Views as views
 use Rattle.line_machine.specs.Views.{FileAt, Incoming, InputView, LineView, input_of}
 use Rattle.line_machine.proofs.Coming.{recorded_are_settled}

@@ -37,9 +37,9 @@ pub record AreLinksOf (k : ℕ) (links : List Link) (ts : List TakerView) : Type
   pub there : (t : TakerView) → IsIn t ts → (l : Link) × IsIn l links × IsLinkOf k t l
   pub each : (l : Link) → IsIn l links → l.to ≡ k → ((t : TakerView) × IsIn t ts × IsLinkOf k t l) ⊎ AreAnswered l.taken l.given
 
--- A line that was told to stop goes on with each link whose sender drains.
+-- A line that was told to stop goes on with each end that it has of a link whose sender drains.
 abbrev pub GoesOnWith : (ℕ → Bool) → ℕ → List Link → {places : Places} → LineView places → Type 0
-GoesOnWith drains k links i = (l : Link) → IsIn l links → l.to ≡ k → run.IsServed drains l → IsIn l.place i.going
+GoesOnWith drains k links i = (t : TakerView) (l : Link) → IsIn t i.takers → IsIn l links → IsLinkOf k t l → run.IsServed drains l → IsIn t.place i.going
 
 -- ---- looks
 
@@ -82,7 +82,7 @@ module _ (makes : Makes) (listening : Listening) (bytes : Bytes) (places : Place
       → LineStands makes listening bytes places earlier (deeds_by k done) came i → LooksStand listening sources i came looks → AreLinksOf k links i.takers → IsAtRest listening i
       → StopLeaves makes bytes places (told_by k done) i.holds image → run.IsDone makes listening sources places done links k looks image
 
-  -- One whose line was told to stop and has come to an end is stopped, where no result of a batch was lost, and it goes on with each link whose sender drains.
+  -- One whose line was told to stop and has come to an end is stopped, where no result of a batch was lost, and it goes on with each end of a link whose sender drains.
   abbrev pub StopIsStoppedThere : Type 0
   StopIsStoppedThere =
       (sources : Sources) (earlier : List Entry) (came : ℕ → List Incoming) (i : LineView places) (done : List DeedOf) (links : List Link) (k : ℕ) (drains : ℕ → Bool) (image : Image)

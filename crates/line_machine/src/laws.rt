@@ -11,7 +11,7 @@ ghost use Rattle.line_machine.specs.Coming.{InputsStandStill, OpenedInputsStand,
 ghost use Rattle.line_machine.specs.Covering.{MarksCoverStill, OpenedMarksCover, OpenedRowsAreCovered, RowsAreCoveredStill};
 ghost use Rattle.line_machine.specs.Doing.{DoesLegallyStill, OpenedDoesLegally};
 ghost use Rattle.line_machine.specs.EndsLine.{AnswersTellEnds};
-ghost use Rattle.line_machine.specs.Inside.{CallsStandInside, InsideStays, StepsStandInside};
+ghost use Rattle.line_machine.specs.Inside.{CallsStandInside, InsideStays, StepsStandInside, StopsStandInside};
 ghost use Rattle.line_machine.specs.Joining.{InputsAreSound, ReleasedAreAnswered, RestIsDoneThere, StopIsStoppedThere, TakersAreSound};
 ghost use Rattle.line_machine.specs.Kits.{KitsStay, KitsAreTheirs, OpenedKitsAreTheirs};
 ghost use Rattle.line_machine.specs.Laws.{CallsFollow, StepsFollow, WaysLeaveNoMore};
@@ -205,7 +205,7 @@ pub fn lines_stand_in_runs()
 {}
 
 /// There a line that is at rest is done, by the same words as the run; and one that was told to stop and has come to an
-/// end is stopped, where no result of a batch was lost, and it goes on with each link whose sender drains.
+/// end is stopped, where no result of a batch was lost, and it goes on with each end of a link whose sender drains.
 pub fn rest_is_done_in_runs()
     ensures done { (makes : Makes) (listening : Listening) (bytes : Bytes) (places : Places)
         → RestIsDoneThere makes listening bytes places }
@@ -215,11 +215,12 @@ pub fn rest_is_done_in_runs()
 
 /// Where recorded positions agree with what was told before a step or a call, whatever a stop within it leaves stands
 /// inside a run: it agrees with what was told up to some moment, recorded positions among it, and a delivery to an
-/// address counts among that only where its answer was taken before. It stands so whatever is done behind it, and
-/// however watched files grow.
+/// address counts among that only where its answer was taken before. So does whatever it leaves whose positions are
+/// recorded in the call, or were before. It stands so whatever is done behind it, and however watched files grow.
 pub fn stops_stand_inside()
     ensures steps { StepsStandInside }
     ensures calls { CallsStandInside }
+    ensures positions { StopsStandInside }
     ensures later { InsideStays }
 {}
 
