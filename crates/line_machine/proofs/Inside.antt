@@ -46,7 +46,7 @@ same_behind [] xs ys same = same
 same_behind (e ∷ told) xs ys same = same_behind told xs ys (same_rest (Tell e) (tell_all told ++ xs) (tell_all told ++ ys) same)
 
 -- what was done behind earlier runs was legal there
-did_behind : (makes : Makes) (earlier : List Entry) (deeds since : List Deed) (left : List Assurance) → deeds ≡ tell_all earlier ++ since → DidLegally makes earlier deeds left → LegalBehind makes earlier since
+pub did_behind : (makes : Makes) (earlier : List Entry) (deeds since : List Deed) (left : List Assurance) → deeds ≡ tell_all earlier ++ since → DidLegally makes earlier deeds left → LegalBehind makes earlier since
 did_behind makes earlier deeds since left parts did = (left, subst (λ (d : List Deed). Leaves makes (after makes start earlier) no_mail [] d left) (same_behind earlier did.since since (sym did.parts ∙ parts)) did.legal)
 
 -- a recorded position that agrees with what was told does so behind more

@@ -13,7 +13,7 @@ use Rattle.io_traits.specs.Images.{Image}
 use Rattle.event_flow.specs.Meaning.{Makes}
 use Rattle.queue_files.specs.Found.{Found}
 use Rattle.history_book.specs.Contents.{Bytes}
-use Rattle.history_book.specs.Deeds.{DeedOf, deeds_by, told_by, mail_of, heard_on}
+use Rattle.history_book.specs.Deeds.{Deed, Tell, DeedOf, deeds_by, told_of, told_by, tell_all, mail_of, heard_on, AreTold}
 use Rattle.history_book.specs.Ends as run
 use Rattle.history_book.specs.Ends.{WasAssuredOf, IsClosed, IsAcknowledged, AreAnswered, IsEmpty}
 use Rattle.history_book.specs.Entries.{Entry, ParcelAt, Accept, Mark, Assure, Read, Back, Shed, Deliver, Letters, Ack, Purge, Adopt, Opened}
@@ -28,6 +28,8 @@ use Rattle.history_book.specs.Steps.{Step, steps, steps_of}
 use Rattle.history_book.specs.Yards.{Accepted, accepted_in, accepted}
 use Rattle.history_book.proofs.InputLists.{inputs_one}
 use Rattle.history_book.proofs.Lists.{in_front, in_behind, in_either}
+use Rattle.history_book.proofs.Mailing.{deeds_both}
+use Rattle.history_book.proofs.Moments.{left_is_sound}
 use Rattle.line_machine.specs.Accepting.{way_in, MayGive, IsWayIn}
 use Rattle.line_machine.specs.Answering.{own_link, rows_at}
 use Rattle.line_machine.specs.Choices.{NoneLost}
@@ -35,7 +37,7 @@ use Rattle.line_machine.specs.Coming.{RowIn, row_accepted, rows_by, WasAssured, 
 use Rattle.line_machine.specs.Covering.{number_accepted}
 use Rattle.line_machine.specs.Ends.{TakerView, IsServed, SenderView, sender_at}
 use Rattle.line_machine.specs.Finds.{IsAtEnd, ends_served}
-use Rattle.line_machine.specs.Joining.{IsLinkOf, AreLinksOf, LooksStand, InputsAreSound, TakersAreSound, ReleasedAreAnswered, RestIsDoneThere, StopIsStoppedThere}
+use Rattle.line_machine.specs.Joining.{IsLinkOf, AreLinksOf, LooksStand, InputsAreSound, TakersAreSound, LinesDoLegally, ReleasedAreAnswered, RestIsDoneThere, StopIsStoppedThere, PipelinesAreSound}
 use Rattle.line_machine.specs.Lines.{LineStands}
 use Rattle.line_machine.specs.Resting.{RowsAreAssured, SentAreAnswered, IsAtStop}
 use Rattle.line_machine.specs.Since.{since_behind, since, of_each}
@@ -45,6 +47,7 @@ use Rattle.line_machine.specs.Views as views
 use Rattle.line_machine.specs.Views.{Kit, Batch, Incoming, InputView, LineView, input_of}
 use Rattle.line_machine.proofs.BatchLists.{batch_found}
 use Rattle.line_machine.proofs.Inputs.{view_in, in_view}
+use Rattle.line_machine.proofs.Inside.{did_behind}
 use Rattle.line_machine.proofs.Settling.{by_account, rest_is_done, stop_is_stopped}
 use Rattle.line_machine.proofs.Takers.{taker_in}
 
@@ -411,6 +414,28 @@ takers_are_sound makes listening bytes places earlier came i done k t l line has
       settled = subst (λ (x : ℕ). AreSettled (after makes start told).front (rows_of makes (record { place = x; number = n }) told)) (sym is.place_is) s.settled;
     }
     moved n NotListening s = (λ p taken. s.0 p (subst (IsIn p) is.taken_is taken), ap (λ (x : ℕ). rows_of makes (record { place = x; number = n }) told) is.place_is ∙ s.1)
+
+-- what a pipeline did in earlier runs are entries alone
+told_deeds : (k : ℕ) (first : List DeedOf) → AreTold first → deeds_by k first ≡ tell_all (told_by k first)
+told_deeds k [] are = refl
+told_deeds k (d ∷ first) are = by_test (told_deeds k first are.1) (k == d.line)
+  where
+    by_test : deeds_by k first ≡ tell_all (told_by k first) → (b : Bool)
+        → (if b then d.deed ∷ deeds_by k first else deeds_by k first) ≡ tell_all (told_of (if b then d.deed ∷ deeds_by k first else deeds_by k first))
+    by_test rest true =
+        subst (λ (x : Deed). x ∷ deeds_by k first ≡ tell_all (told_of (x ∷ deeds_by k first))) (sym are.0.1) (ap (λ (l : List Deed). Tell are.0.0 ∷ l) rest)
+    by_test rest false = rest
+
+pub lines_do_legally : (makes : Makes) (listening : Listening) (bytes : Bytes) (places : Places) → LinesDoLegally makes listening bytes places
+lines_do_legally makes listening bytes places came i first since k entries line =
+    did_behind makes (told_by k first) (deeds_by k (first ++ since)) (deeds_by k since) line.senders.left
+    (deeds_both k first since ∙ ap (λ (l : List Deed). l ++ deeds_by k since) (told_deeds k first entries)) line.senders.legal
+
+pub pipelines_are_sound : PipelinesAreSound
+pipelines_are_sound m bases earlier came done k i files image line left positions = record {
+  line = left_is_sound m.makes m.bytes (bases.places k) (told_by k done) i.holds image line.stands.holds left;
+  positions = positions;
+}
 
 pub released_are_answered : (makes : Makes) (listening : Listening) (bytes : Bytes) (places : Places) → ReleasedAreAnswered makes listening bytes places
 released_are_answered makes listening bytes places entries i (m.Releases place t at free) links u (inl same) p taken some =

@@ -35,7 +35,7 @@ use Rattle.line_machine.specs.Coming.{RowIn, row_accepted, rows_by, AreRowsFor, 
 use Rattle.line_machine.specs.Effects.{is_of_file}
 use Rattle.line_machine.specs.Lines.{LineStands}
 use Rattle.line_machine.specs.Positions.{lines_of, IsReadUpTo, BeganAt, RecordedPositionsStand}
-use Rattle.line_machine.specs.Since.{since, of_each}
+use Rattle.line_machine.specs.Since.{of_each}
 use Rattle.line_machine.specs.Views as views
 use Rattle.line_machine.specs.Views.{FileAt, Incoming, InputView, LineView, input_of}
 use Rattle.line_machine.proofs.Coming.{recorded_are_settled}

@@ -1,18 +1,21 @@
 -- A line as one of the pipelines of a run: its inputs by the looks that they made, the ends at which it listens as links, and what stands there once it is at rest, or was
 -- told to stop and has come to an end.
-use Rattle.std.specs.Prelude.{◌≡◌, ◌⊎◌, ℕ, Bool, true, false, List, [], ◌∷◌, map, None}
+use Rattle.std.specs.Prelude.{◌≡◌, ◌⊎◌, ℕ, Bool, true, false, List, [], ◌∷◌, ◌++◌, map, None}
+use Rattle.io_traits.specs.Folders.{Content}
 use Rattle.io_traits.specs.Images.{Image}
 use Rattle.event_flow.specs.Meaning.{Makes}
 use Rattle.history_book.specs.Contents.{Bytes}
-use Rattle.history_book.specs.Deeds.{DeedOf, deeds_by, told_by}
+use Rattle.history_book.specs.Deeds.{DeedOf, deeds_by, told_by, AreTold, LegalBehind}
 use Rattle.history_book.specs.Ends as run
 use Rattle.history_book.specs.Ends.{AreAnswered}
 use Rattle.history_book.specs.Entries.{Entry}
 use Rattle.history_book.specs.Holdings.{StopLeaves}
 use Rattle.history_book.specs.Links.{Listening, Link, TakerSound}
 use Rattle.history_book.specs.Lists.{IsIn}
+use Rattle.history_book.specs.Runs.{Meanings, Bases, PipelineSound}
 use Rattle.history_book.specs.Sound.{Places}
 use Rattle.history_book.specs.Sources.{SourceLook, Sources, InputsSound}
+use Rattle.history_book.specs.Watched.{WatchedFile, PositionSound}
 use Rattle.line_machine.specs.Answering.{LinksStand}
 use Rattle.line_machine.specs.Choices.{NoneLost}
 use Rattle.line_machine.specs.Ends.{TakerView}
@@ -65,6 +68,12 @@ module _ (makes : Makes) (listening : Listening) (bytes : Bytes) (places : Place
       (earlier : List Entry) (came : ℕ → List Incoming) (i : LineView places) (done : List DeedOf) (k : ℕ) (t : TakerView) (l : Link)
       → LineStands makes listening bytes places earlier (deeds_by k done) came i → IsIn t i.takers → IsLinkOf k t l → TakerSound makes listening (told_by k done) l
 
+  -- What it did in a run is legal behind what it had told in earlier ones.
+  abbrev pub LinesDoLegally : Type 0
+  LinesDoLegally =
+      (came : ℕ → List Incoming) (i : LineView places) (first since : List DeedOf) (k : ℕ) → AreTold first
+      → LineStands makes listening bytes places (told_by k first) (deeds_by k (first ++ since)) came i → LegalBehind makes (told_by k first) (deeds_by k since)
+
   -- the end that a step gives back
   abbrev pub released : (i : LineView places) → Step makes listening bytes i → List TakerView
   released i (m.Releases place t has free) = t ∷ []
@@ -88,3 +97,11 @@ module _ (makes : Makes) (listening : Listening) (bytes : Bytes) (places : Place
       (sources : Sources) (earlier : List Entry) (came : ℕ → List Incoming) (i : LineView places) (done : List DeedOf) (links : List Link) (k : ℕ) (drains : ℕ → Bool) (image : Image)
       → LineStands makes listening bytes places earlier (deeds_by k done) came i → NoneLost i → AreLinksOf k links i.takers → GoesOnWith drains k links i → (drains k ≡ true → i.drains ≡ true)
       → IsAtStop listening i → StopLeaves makes bytes places (told_by k done) i.holds image → run.IsStopped makes listening sources places done links k drains image
+
+-- A pipeline agrees with whatever a stop leaves of its store, where the recorded positions do.
+abbrev pub PipelinesAreSound : Type 0
+PipelinesAreSound =
+    (m : Meanings) (bases : Bases) (earlier : List Entry) (came : ℕ → List Incoming) (done : List DeedOf) (k : ℕ) (i : LineView (bases.places k)) (files : Content) (image : Image)
+    → LineStands m.makes m.listening m.bytes (bases.places k) earlier (deeds_by k done) came i → StopLeaves m.makes m.bytes (bases.places k) (told_by k done) i.holds image
+    → ((file : WatchedFile) → IsIn file (bases.watched k) → PositionSound m.listening m.sources m.makes (told_by k done) files image file)
+    → PipelineSound m bases k (told_by k done) files image

@@ -12,7 +12,7 @@ ghost use Rattle.line_machine.specs.Covering.{MarksCoverStill, OpenedMarksCover,
 ghost use Rattle.line_machine.specs.Doing.{DoesLegallyStill, OpenedDoesLegally};
 ghost use Rattle.line_machine.specs.EndsLine.{AnswersTellEnds};
 ghost use Rattle.line_machine.specs.Inside.{CallsStandInside, InsideStays, StepsStandInside, StopsStandInside};
-ghost use Rattle.line_machine.specs.Joining.{InputsAreSound, ReleasedAreAnswered, RestIsDoneThere, StopIsStoppedThere, TakersAreSound};
+ghost use Rattle.line_machine.specs.Joining.{InputsAreSound, LinesDoLegally, PipelinesAreSound, ReleasedAreAnswered, RestIsDoneThere, StopIsStoppedThere, TakersAreSound};
 ghost use Rattle.line_machine.specs.Kits.{KitsStay, KitsAreTheirs, OpenedKitsAreTheirs};
 ghost use Rattle.line_machine.specs.Laws.{CallsFollow, StepsFollow, WaysLeaveNoMore};
 ghost use Rattle.line_machine.specs.Openings.{OpenedLineStands, RunsStand};
@@ -192,10 +192,14 @@ pub fn events_came_by_inputs()
         → WaysStandStill makes listening bytes places }
 {}
 
-/// A line among the pipelines of a run, by all that was done there and the links that stand behind it: its inputs, by
-/// the looks that they made, and the ends at which it listens agree with what it told; and where it gives an end back,
-/// each parcel with events that was taken there has its answer.
+/// A line among the pipelines of a run, by all that was done there and the links that stand behind it: what it did is
+/// legal behind what it had told in earlier runs; whatever a stop leaves of its store, its inputs, by the looks that they
+/// made, and the ends at which it listens agree with what it told; and where it gives an end back, each parcel with
+/// events that was taken there has its answer.
 pub fn lines_stand_in_runs()
+    ensures legal { (makes : Makes) (listening : Listening) (bytes : Bytes) (places : Places)
+        → LinesDoLegally makes listening bytes places }
+    ensures pipelines { PipelinesAreSound }
     ensures inputs { (makes : Makes) (listening : Listening) (bytes : Bytes) (places : Places)
         → InputsAreSound makes listening bytes places }
     ensures takers { (makes : Makes) (listening : Listening) (bytes : Bytes) (places : Places)
