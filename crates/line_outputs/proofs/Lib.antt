@@ -1,0 +1,5 @@
+mod Results
+mod Finding
+mod Keeping
+mod Opening
+mod Delivering
