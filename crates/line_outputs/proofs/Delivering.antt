@@ -38,7 +38,7 @@ module _ {S : Type 0} (store : StoreWords S) (folder path batch : List ℕ) (old
   pub held_leaves : (i : Image) → LeavesHeld store path slot old i → Leaves i
   held_leaves i h = record { from = h.from; was = h.was; own = λ content holds chance. inl (h.own content holds chance); beside = h.beside }
 
-  leaves_beside : (i : Image) → Leaves i → LeavesBeside store (IsFileOf folder path) old i
+  pub leaves_beside : (i : Image) → Leaves i → LeavesBeside store (IsFileOf folder path) old i
   leaves_beside i l = (l.from, l.was, λ name other. l.beside name (λ is. other (inl is)) (λ is. other (inr is)))
 
   pub opening_leaves : ImagesTell store → (new : S) → EachMoment store old new (LeavesHeld store path slot old) → EachMoment store old new Leaves

@@ -3,3 +3,6 @@ mod Finding
 mod Keeping
 mod Opening
 mod Delivering
+mod Apart
+mod Unwritten
+mod Rejecting

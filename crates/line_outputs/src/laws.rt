@@ -1,0 +1,20 @@
+//! What holds of output files and dead letters beside each other. Each function here does nothing: its
+//! clauses are theorems.
+ghost use Rattle.line_outputs.specs.OpenFiles.{FilesStayReady};
+ghost use Rattle.line_outputs.specs.Readiness.{FilesKeepLetters, LettersKeepFiles, OutputsStayReady};
+
+use io_traits::Store;
+
+/// While others change files of their own on the store, the output files that are open and the dead letters
+/// stay ready.
+pub fn others_change_nothing<S: Store>()
+    ensures files { FilesStayReady S.Store }
+    ensures outputs { OutputsStayReady S.Store }
+{}
+
+/// A delivery to an output file leaves the dead letters of the folder ready, and an append of letters the
+/// output files that are open: their names differ.
+pub fn files_and_letters_stay_ready<S: Store>()
+    ensures letters { FilesKeepLetters S.Store }
+    ensures files { LettersKeepFiles S.Store }
+{}
