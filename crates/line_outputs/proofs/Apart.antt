@@ -1,25 +1,23 @@
 -- The names of the output files of a pipeline and those of its dead letters.
 use Rattle.std.specs.Prelude.{codes}
-use Rattle.std.specs.Fmt.{decimal}
-use Rattle.std.proofs.Common.{◌≡◌, ◌⊎◌, inl, inr, ℕ, zero, suc, IsTrue, List, [], ◌∷◌, ◌++◌, Bool, get_or, refl, sym, ap, ◌∙◌, subst, arith, Some}
+use Rattle.std.proofs.Common.{◌≡◌, inl, inr, ℕ, zero, suc, IsTrue, List, ◌++◌, get_or, refl, sym, ap, ◌∙◌, subst, arith}
 use Rattle.std.proofs.lemmas.List.{append_cancel_left}
-use Rattle.io_traits.specs.Images.{Image}
-use Rattle.io_traits.specs.Moments.{MayLeaveNow, EachMoment, LeavesBeside, ReadsBeside, ImagesTell}
+use Rattle.io_traits.specs.Moments.{EachMoment, LeavesBeside, ReadsBeside, ImagesTell}
 use Rattle.io_traits.specs.declared.stores.Store.{Ghosts as StoreWords}
 use Rattle.io_traits.proofs.Moments.{holds_now}
-use Rattle.slot_files.specs.Names.{position_name, path_named}
+use Rattle.slot_files.specs.Names.{position_name}
 use Rattle.slot_files.specs.declared.name.PositionOf.TheVariants.{Output as OfOutput}
-use Rattle.slot_files.specs.Views.{Output}
 use Rattle.dead_letters.specs.Queues.{Role, segment, names, position, segment_name, name_in}
 use Rattle.dead_letters.specs.Views.{DeadQueue, IsOwn, sheds}
-use Rattle.dead_letters.specs.Ready.{AppendLeaves, IsAppended, IsReady, LeavesOldOrNew, held_now}
+use Rattle.dead_letters.specs.Ready.{AppendLeaves, IsAppended, LeavesOldOrNew, held_now}
 use Rattle.dead_letters.specs.Appends.{append_to}
 use Rattle.dead_letters.specs.declared.letter.DeadLetter.{DeadLetter}
 use Rattle.dead_letters.proofs.Staying.{ready_beside as letters_beside}
-use Rattle.line_outputs.specs.OpenFiles.{EachReady, LeavesDelivered, FilesReady, FilesStayReady, IsFileOf, IsOutside, OpenFiles, file_of, slot_in}
-use Rattle.line_outputs.specs.Readiness.{FilesKeepLetters, LettersKeepFiles, OutputsReady, OutputsStayReady}
+use Rattle.line_outputs.specs.OpenFiles.{LeavesDelivered, FilesReady, FilesStayReady, IsFileOf, IsOutside, OpenFiles}
+use Rattle.line_outputs.specs.Readiness.{FilesKeepLetters, LettersKeepFiles, OpenCountsWhole, OutputsReady, OutputsStayReady}
 use Rattle.line_outputs.proofs.Delivering.{leaves_beside}
 use Rattle.line_outputs.proofs.Keeping.{all_stay, its_ready}
+use Rattle.line_outputs.proofs.Opening.{counts_whole}
 
 -- the last part of the name of a file of letters
 abbrev last_of : Role → List ℕ
@@ -98,3 +96,7 @@ module _ {S : Type 0} (store : StoreWords S) (tell : ImagesTell store) where
 
     pub appended_ready : (grown : DeadQueue) → grown.folder ≡ q.folder → IsAppended store q letters old grown new → OutputsReady store o grown new
     appended_ready grown same appended = record { folder = same ∙ ready.folder; files = files_behind; letters = appended.ready }
+
+  -- of a file that is open all counts
+  pub open_counts_whole : OpenCountsWhole store
+  open_counts_whole o path f s ready at told = let its = its_ready store o.folder s path o.files f ready at in counts_whole store tell o.folder path s f its.0 its.1 told

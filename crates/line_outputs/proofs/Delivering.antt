@@ -4,16 +4,16 @@ use Rattle.std.proofs.lemmas.List.{take_all}
 use Rattle.crc_frame.specs.Bytes.{IsBytes}
 use Rattle.crc_frame.specs.Slots.{is_slot}
 use Rattle.io_traits.specs.Reads.{bytes_of}
-use Rattle.io_traits.specs.Images.{Image, FileImage, IsAtRest, at_rest}
+use Rattle.io_traits.specs.Images.{Image, IsAtRest, at_rest}
 use Rattle.io_traits.specs.Chance.{NoChance}
 use Rattle.io_traits.specs.Tails.{passes}
-use Rattle.io_traits.specs.Moments.{MayLeaveNow, NowOrSynced, EachMoment, LeavesBeside, ReadsBeside, ImagesTell}
+use Rattle.io_traits.specs.Moments.{MayLeaveNow, EachMoment, LeavesBeside, ReadsBeside, ImagesTell}
 use Rattle.io_traits.specs.declared.stores.Store.{Ghosts as StoreWords}
-use Rattle.io_traits.proofs.Beside.{beside_none, resting, both_read}
+use Rattle.io_traits.proofs.Beside.{beside_none, resting}
 use Rattle.io_traits.proofs.Moments.{holds_now, one_then_other, weaker}
 use Rattle.slot_files.specs.Views.{Output, IsOwn}
 use Rattle.slot_files.specs.Contents.{Holds, Stands, counted_in}
-use Rattle.slot_files.specs.Outputs.{IsAppended, IsReady, LeavesHeld, LeavesOldOrNew, content_of}
+use Rattle.slot_files.specs.Outputs.{IsAppended, LeavesHeld, LeavesOldOrNew, content_of}
 use Rattle.slot_files.proofs.Holding.{held_is_counted, holds_one}
 use Rattle.slot_files.proofs.Staying.{stands_beside}
 use Rattle.line_outputs.specs.OpenFiles.{EachReady, IsDelivered, IsFileOf, IsFileReady, IsOutside, LeavesDelivered, file_of, slot_in, without}

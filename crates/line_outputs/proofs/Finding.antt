@@ -1,7 +1,7 @@
 -- The file of a path among those that are open, by its place.
 use Rattle.std.specs.Prelude.{nat_lt, if◌then◌else◌, bytes_eq, remove, is_some}
 use Rattle.std.proofs.lemmas.Bool.{ltb-true, ltb-false}
-use Rattle.std.proofs.Common.{◌≡◌, ℕ, suc, ◌<◌, ◌≤◌, List, [], ◌∷◌, ◌++◌, length, get_or, take, drop, refl, sym, ap, subst, ◌∙◌, arith, Bool, true, false, Option, Some, None}
+use Rattle.std.proofs.Common.{◌≡◌, ℕ, suc, ◌<◌, ◌≤◌, List, [], ◌∷◌, length, get_or, refl, ap, subst, ◌∙◌, arith, Bool, true, false, Option, Some, None}
 use Rattle.slot_files.specs.Views.{Output}
 use Rattle.line_outputs.specs.OpenFiles.{file_place, file_of, without}
 

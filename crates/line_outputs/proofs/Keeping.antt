@@ -1,6 +1,6 @@
 -- The output files that are open, while one of them is appended to, or others change files of their own.
-use Rattle.std.specs.Prelude.{if◌then◌else◌, bytes_eq}
-use Rattle.std.proofs.Common.{◌≡◌, ◌≢◌, ◌⊎◌, inl, inr, ℕ, List, [], ◌∷◌, ◌++◌, IsTrue, refl, sym, ap, subst, ◌∙◌, Bool, true, false, Option, Some, None}
+use Rattle.std.specs.Prelude.{bytes_eq}
+use Rattle.std.proofs.Common.{◌≡◌, ◌⊎◌, inl, inr, ℕ, List, [], ◌∷◌, ◌++◌, refl, sym, ap, subst, ◌∙◌, true, false, Some, None}
 use Rattle.std.proofs.lemmas.Bool.{cond-true, cond-false, cases_Bool, false≢true}
 use Rattle.std.proofs.lemmas.Slice.Eq.{bytes_eq-Decides}
 use Rattle.std.proofs.lemmas.List.{append_cancel_left}
@@ -10,7 +10,7 @@ use Rattle.io_traits.specs.Moments.{MayLeaveNow, LeavesBeside, ReadsBeside, Imag
 use Rattle.io_traits.specs.declared.stores.Store.{Ghosts as StoreWords}
 use Rattle.slot_files.specs.Names.{position_name}
 use Rattle.slot_files.specs.declared.name.PositionOf.TheVariants.{Output as OfOutput}
-use Rattle.slot_files.specs.Views.{Output, IsOwn}
+use Rattle.slot_files.specs.Views.{Output}
 use Rattle.slot_files.proofs.PathNames.{names_differ}
 use Rattle.slot_files.proofs.Staying.{ready_beside}
 use Rattle.line_outputs.specs.OpenFiles.{EachReady, IsFileReady, IsFileOf, IsOutside, file_of, slot_in, without}

@@ -1,5 +1,5 @@
 -- The file of a path that is found among those that are open, or opened.
-use Rattle.std.proofs.Common.{◌≡◌, ◌≢◌, ◌≤◌, ℕ, IsTrue, List, length, take, Ok, refl, sym, ap, ◌∙◌, subst, arith}
+use Rattle.std.proofs.Common.{◌≡◌, ◌≢◌, ℕ, IsTrue, List, take, Ok, sym, ap, ◌∙◌, subst, arith}
 use Rattle.std.proofs.lemmas.List.{take_all}
 use Rattle.io_traits.specs.Reads.{bytes_of, file_length}
 use Rattle.io_traits.specs.Moments.{ImagesTell, EachMoment}
@@ -36,3 +36,6 @@ module _ {S : Type 0} (store : StoreWords S) (tell : ImagesTell store) (folder p
     whole =
         subst (λ p. bytes_of (store.seen s p) ≡ take f.position (bytes_of (store.seen s p))) at
         (sym (take_all f.position (bytes_of (store.seen s f.path)) (let e = is.ready.ends told in omega (arith, e))))
+
+    pub counts_whole : counted_in path (slot_in folder path) (store.seen s) ≡ Ok (file_length (store.seen s path))
+    counts_whole = counts ∙ ap Ok (sym (is.ready.ends told) ∙ ap (λ p. file_length (store.seen s p)) at)

@@ -1,6 +1,5 @@
 -- Letters that are not appended, and a folder that isn't opened.
-use Rattle.std.proofs.Common.{inl, ℕ, List, IsTrue}
-use Rattle.io_traits.specs.Images.{Image}
+use Rattle.std.proofs.Common.{inl, ℕ, List}
 use Rattle.io_traits.specs.Moments.{EachMoment, ImagesTell}
 use Rattle.io_traits.specs.declared.stores.Store.{Ghosts as StoreWords}
 use Rattle.io_traits.proofs.Beside.{beside_none}

@@ -1,3 +1,4 @@
 pub mod OpenFiles
 pub mod NewLetters
 pub mod Readiness
+pub mod BoxTables

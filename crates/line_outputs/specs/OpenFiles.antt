@@ -12,7 +12,7 @@ use Rattle.slot_files.specs.Names.{position_name}
 use Rattle.slot_files.specs.declared.name.PositionOf.TheVariants.{Output as OfOutput}
 use Rattle.slot_files.specs.Views.{Output}
 use Rattle.slot_files.specs.Contents.{Holds, counted_in}
-use Rattle.slot_files.specs.Outputs.{IsReady, content_of}
+use Rattle.slot_files.specs.Outputs.{IsReady}
 
 -- the folder of a pipeline, whose path ends with a slash, and its output files that are open
 pub record OpenFiles : Type 0 where

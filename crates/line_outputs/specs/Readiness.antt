@@ -1,11 +1,14 @@
 -- The output files and the dead letters of a pipeline beside each other, and beside others on their store.
-use Rattle.std.specs.Prelude.{◌≡◌, ◌≢◌, Bool, IsTrue, List, ℕ}
+use Rattle.std.specs.Prelude.{◌≡◌, Bool, IsTrue, List, ℕ, Some, Ok}
+use Rattle.io_traits.specs.Reads.{file_length}
 use Rattle.io_traits.specs.Images.{Image}
 use Rattle.io_traits.specs.Moments.{MayLeaveNow, LeavesBeside, ReadsBeside}
 use Rattle.io_traits.specs.declared.stores.Store.{Ghosts as StoreWords}
+use Rattle.slot_files.specs.Views.{Output}
+use Rattle.slot_files.specs.Contents.{counted_in}
 use Rattle.dead_letters.specs.Views.{DeadQueue, IsOwn}
 use Rattle.dead_letters.specs.Ready.{IsReady, IsApart}
-use Rattle.line_outputs.specs.OpenFiles.{AreApart, FilesReady, IsFileOf, IsOutside, OpenFiles}
+use Rattle.line_outputs.specs.OpenFiles.{AreApart, FilesReady, IsFileOf, IsOutside, OpenFiles, file_of, slot_in}
 
 module _ {S : Type 0} (store : StoreWords S) where
   -- all that stand in one folder: each file that is open is ready for a batch, and the letters for an append
@@ -35,3 +38,9 @@ module _ {S : Type 0} (store : StoreWords S) where
   -- an append of letters, or their opening, leaves the open files ready
   abbrev pub LettersKeepFiles : Type 0
   LettersKeepFiles = (o : OpenFiles) (old new : S) → FilesReady store o old → LeavesOthers (IsOwn o.folder) old new → FilesReady store o new
+
+  -- of a file that is open all counts
+  abbrev pub OpenCountsWhole : Type 0
+  OpenCountsWhole =
+      (o : OpenFiles) (path : List ℕ) (f : Output) (s : S) → FilesReady store o s → file_of path o.files ≡ Some f → IsTrue store.tells
+      → counted_in path (slot_in o.folder path) (store.seen s) ≡ Ok (file_length (store.seen s path))

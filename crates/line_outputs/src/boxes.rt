@@ -1,5 +1,5 @@
 // The boxed outputs of a pipeline.
-ghost use Rattle.std.specs.Prelude.{◌≡◌, ◌<◌, ◌++◌, [], length, IfOk, OnOk};
+ghost use Rattle.std.specs.Prelude.{◌≡◌, ◌<◌, ◌==◌, ◌++◌, [], length, IfOk, OnOk};
 ghost use Rattle.io_traits.specs.Counts.{HasCause, one_more};
 ghost use Rattle.io_traits.specs.Telling.{Grows};
 ghost use Rattle.foreign_parts.specs.Delivering.{Delivers, HadFault, WasLater};
@@ -36,6 +36,10 @@ pub trait OutputCall: Drop {
     /// How often it was closed, as far as a number of 64 bits counts.
     ghost closes: { Self → ℕ };
 
+    /// Tells its number.
+    fn own_number(&self) -> u64
+        ensures { result ≡ number self.now };
+
     /// Delivers events, of which there is one at least, as [`ForeignOutput::deliver`].
     fn deliver(&mut self, events: &[Event]) -> Result<Delivery, DeliverFault>
         requires { 0 < length events.now }
@@ -68,6 +72,10 @@ impl OutputCall for PluggedOutput {
 
     ghost closes = { λ p. (ForeignOutput-box p.output).closes p.output.value };
 
+    fn own_number(&self) -> u64 {
+        self.number
+    }
+
     fn deliver(&mut self, events: &[Event]) -> Result<Delivery, DeliverFault> {
         self.output.deliver(events)
     }
@@ -88,6 +96,13 @@ pub struct BoxedOutput<X> {
 }
 
 impl<X: OutputCall> BoxedOutput<X> {
+    /// Whether its box has this number.
+    pub(crate) fn has_number(&self, number: u64) -> bool
+        ensures { result ≡ (X.number self.now.output == number) }
+    {
+        self.output.own_number() == number
+    }
+
     /// Delivers events, of which there is one at least, and hands on what the output answers; it takes no
     /// memory of its own, so that nothing is lost of what the output took.
     ///

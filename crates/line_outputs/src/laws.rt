@@ -1,7 +1,7 @@
 //! What holds of output files and dead letters beside each other. Each function here does nothing: its
 //! clauses are theorems.
 ghost use Rattle.line_outputs.specs.OpenFiles.{FilesStayReady};
-ghost use Rattle.line_outputs.specs.Readiness.{FilesKeepLetters, LettersKeepFiles, OutputsStayReady};
+ghost use Rattle.line_outputs.specs.Readiness.{FilesKeepLetters, LettersKeepFiles, OpenCountsWhole, OutputsStayReady};
 
 use io_traits::Store;
 
@@ -17,4 +17,9 @@ pub fn others_change_nothing<S: Store>()
 pub fn files_and_letters_stay_ready<S: Store>()
     ensures letters { FilesKeepLetters S.Store }
     ensures files { LettersKeepFiles S.Store }
+{}
+
+/// Of an output file that is open all counts: a delivery leaves all its bytes, and then the batch.
+pub fn all_of_an_open_file_counts<S: Store>()
+    ensures { OpenCountsWhole S.Store }
 {}

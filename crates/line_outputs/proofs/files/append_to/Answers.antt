@@ -1,4 +1,4 @@
-use Rattle.std.proofs.Common.{◌≤◌, IsTrue, [], ◌∷◌, ◌++◌, List, sym, ap, subst, ◌∙◌, arith}
+use Rattle.std.proofs.Common.{[], ◌∷◌, ◌++◌, List, sym, ap, subst, ◌∙◌, arith}
 use Rattle.slot_files.proofs.Staying.{has_room}
 use Rattle.slot_files.specs.Views.{Output}
 use Rattle.line_outputs.specs.OpenFiles.{EachReady}

@@ -1,5 +1,4 @@
-use Rattle.std.proofs.Common.{sym, ap, subst, ◌∙◌, OnErr, IsTrue, IfOk}
-use Rattle.line_outputs.specs.OpenFiles.{IsFileReady}
+use Rattle.std.proofs.Common.{sym, ◌∙◌}
 use Rattle.line_outputs.proofs.Finding.{none_without}
 use Rattle.line_outputs.proofs.Keeping.{its_ready}
 use Rattle.line_outputs.proofs.Opening.{counts, not_begun, whole}

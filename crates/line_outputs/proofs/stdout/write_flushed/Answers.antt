@@ -1,5 +1,4 @@
-use Rattle.std.proofs.Common.{OnOk, subst}
-use Rattle.io_traits.proofs.Growth.{grows_still, in_part_still}
+use Rattle.io_traits.proofs.Growth.{in_part_still}
 use Rattle.line_outputs.proofs.stdout.write_flushed.Goals as goal
 
 pub returns-clause-part : goal.returns-clause-part

@@ -1,8 +1,7 @@
-use Rattle.std.proofs.Common.{◌≡◌, IsTrue, Err, None, OnOk, OnErr, sym, ap, subst, ◌∙◌}
+use Rattle.std.proofs.Common.{◌≡◌, IsTrue, Err, None, OnOk, sym, ap, subst, ◌∙◌}
 use Rattle.io_traits.specs.Moments.{EachMoment, ReadsBeside}
-use Rattle.io_traits.specs.declared.queue_faults.QueueFault.TheVariants as f
 use Rattle.slot_files.specs.Contents.{counted_in}
-use Rattle.line_outputs.specs.OpenFiles.{EachReady, IsDelivered, IsFileOf, IsOutside, LeavesDelivered, OpenFiles, file_of, slot_in, without}
+use Rattle.line_outputs.specs.OpenFiles.{EachReady, IsDelivered, IsFileOf, IsOutside, LeavesDelivered, OpenFiles, file_of, slot_in}
 use Rattle.line_outputs.proofs.files.OutputFiles.append.Goals as goal
 
 pub append_to-requires-clause-ready : goal.append_to-requires-clause-ready

@@ -1,4 +1,4 @@
-use Rattle.std.proofs.Common.{◌≡◌, Result, Ok, Err, OnOk, ap}
+use Rattle.std.proofs.Common.{Result, Ok, Err, OnOk, ap}
 use Rattle.dead_letters.specs.Views.{DeadQueue}
 use Rattle.line_outputs.proofs.Apart.{appended_ready, files_behind}
 use Rattle.line_outputs.proofs.stored.StoredOutputs.append_letters.Goals as goal
