@@ -2,7 +2,7 @@
 ghost use Rattle.std.specs.Prelude.{◌≡◌, ◌≤◌, ◌<◌, ◌+◌, ◌↔◌, ◌++◌, ◌∷◌, [], length, IfOk, OnOk, IsTrue, vec_len, vec_capacity};
 ghost use Rattle.line_outputs.specs.BoxTables.{DeliversTo, IsBoxOf, IsClosed, IsKnown, box_place};
 ghost use Rattle.line_outputs.specs.NewLetters.{rejections};
-ghost use Rattle.line_outputs.specs.declared.boxes.BoxedOutput.{BoxedOutput as Box_};
+ghost use Rattle.line_outputs.specs.declared.boxes.BoxedOutput.{BoxedOutput as BoxedOutputValue};
 
 use crate::boxes::{BoxedOutput, OutputCall};
 use event_tree::{DeadList, Event};
@@ -73,7 +73,7 @@ impl<X: OutputCall> BoxedOutputs<X> {
     ) -> Result<DeadList, AllocError>
         requires known { IsKnown X.number number self.now.outputs.items }
         requires each { length fates.now ≡ length events.now }
-        ensures { IfOk result (λ parts. (b : Box_ X)
+        ensures { IfOk result (λ parts. (b : BoxedOutputValue X)
             → IsBoxOf X.number number self.now.outputs.items b
             → parts ≡ rejections b.kind b.id fates.now events.now) }
     {
