@@ -1,0 +1,14 @@
+//! The ends of links that a pipeline has: parcels that it sends to addresses, and those that its inputs take.
+//!
+//! - [`AddressSender`] sends events to one address, keeps what was answered to each parcel until it is asked, and sends a
+//!   last parcel where nothing follows.
+//! - [`AddressTaker`] takes parcels for an input that listens, gives their events one by one, and answers a parcel once
+//!   the rows of all its events are marked; or, where the input was closed, those that lay in the ring then.
+//!
+//! In contracts each is its address and what went through its end (`specs/Senders`, `specs/Takers`): answers are given and
+//! heard in the order of the parcels, and no parcel is answered before it was taken, or twice.
+#![tactic(auto)]
+
+mod sender;
+
+pub use sender::AddressSender;
