@@ -1,1 +1,2 @@
 mod Sending
+mod Taking

@@ -97,12 +97,15 @@ answer_from n from (x ∷ xs) h after within = by (n == x.number) refl (λ first
   where
     f : (x.number ≡ from + 1) × (are_in_turn (from + 1) xs ≡ true)
     f = first_in_turn from x xs h
+
     this : n ≡ x.number → (a : Heard) → Some a ≡ by_refused (list_any (λ y. nat_eq y n) (if_refused a x.number ++ refused_of xs))
     this is Assured = sym (ap by_refused (not_refused n (from + 1) xs f.1 (omega (arith, is, f.0))))
     this is NotListening = sym (ap (λ b. by_refused (b || is_refused n xs)) (eq-eqb x.number n (sym is)))
+
     later : (n == x.number) ≡ false → (a : Heard) → by_refused (is_refused n xs) ≡ by_refused (list_any (λ y. nat_eq y n) (if_refused a x.number ++ refused_of xs))
     later differs Assured = refl
     later differs NotListening = sym (ap (λ b. by_refused (b || is_refused n xs)) (differ_by x.number n (λ is. absurd (search (differs, eq-eqb n x.number (sym is), rules)))))
+
     by : (b : Bool) → (n == x.number) ≡ b → (from + 1 < n → n ≤ from + 1 + length xs → answer_to n xs ≡ by_refused (is_refused n xs)) → (if n == x.number then Some x.answer else answer_to n xs) ≡ by_refused (is_refused n (x ∷ xs))
     by true is rest = ap (λ b. if b then Some x.answer else answer_to n xs) is ∙ this (eqb-true n x.number is) x.answer
     by false differs rest =

@@ -10,5 +10,7 @@
 #![tactic(auto)]
 
 mod sender;
+mod taker;
 
 pub use sender::AddressSender;
+pub use taker::{AddressTaker, Polled};

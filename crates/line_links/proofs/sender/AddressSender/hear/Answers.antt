@@ -1,4 +1,4 @@
-use Rattle.std.proofs.Common.{◌≡◌, ◌==◌, refl, sym, ap, arith, ◌∙◌}
+use Rattle.std.proofs.Common.{◌==◌, sym, ap, arith, ◌∙◌}
 use Rattle.std.specs.List.{list_any}
 use Rattle.pipeline_bus.specs.Ends.{sending}
 use Rattle.line_links.proofs.Sending.{answer_heard, by_refused, no_answer_yet}
