@@ -1,5 +1,5 @@
 -- Parcels that are taken, whole or in part, and their numbers.
-use Rattle.std.specs.Prelude.{◌≡◌, ◌≤◌, ◌+◌, ℕ, zero, suc, true, false, if◌then◌else◌, List, [], ◌∷◌, ◌++◌, length, map, Option, Some, None}
+use Rattle.std.specs.Prelude.{Bool, ◌≡◌, ◌≤◌, ◌&&◌, ◌+◌, is_none, ℕ, zero, suc, true, false, if◌then◌else◌, List, [], ◌∷◌, ◌++◌, length, map, Option, Some, None}
 use Rattle.std.proofs.Common.{refl, sym, ◌∙◌, ap, ap₂, arith, rules, length-append}
 use Rattle.pipeline_bus.specs.Ends.{Taking, taken_as}
 use Rattle.pipeline_bus.specs.Parcels.{HasNextNumber, ends_with_last, is_last, with_events}
@@ -56,7 +56,8 @@ pub numbers_stay : (n m : ℕ) (xs ys : List WholeParcel) → ys ≡ xs → m �
     → map (λ w. w.number) ys ≡ numbers_from m (length ys)
 numbers_stay n m xs ys e f h = ap (map (λ w. w.number)) e ∙ h ∙ ap₂ (λ k zs. numbers_from k (length zs)) (sym f) (sym e)
 
--- nothing of a parcel is to be given
-pub none_of : (part : Option PartParcel) → part_state part ≡ None → one_if_some part ≡ 0
-none_of None e = refl
-none_of (Some p) e = absurd (search (e, rules))
+-- where a poll may be made, nothing of a parcel is to be given
+pub none_of : (listens : Bool) (part : Option PartParcel) → (listens && is_none (part_state part)) ≡ true → one_if_some part ≡ 0
+none_of listens None e = refl
+none_of true (Some p) e = absurd (search (e, rules))
+none_of false (Some p) e = absurd (search (e, rules))

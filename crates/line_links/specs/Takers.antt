@@ -53,6 +53,10 @@ taker_end t = t.end
 
 -- ---- polls
 
+-- the input listens, and each event of the parcels that it took stands in a row
+abbrev pub may_poll : TakeState → Bool
+may_poll s = s.listens && is_none s.part
+
 -- a parcel with events was taken, and is held
 abbrev pub with_parcel : Parcel → TakeState → TakeState
 with_parcel p s = record s {
@@ -88,10 +92,12 @@ Gives None old new = (holds old ≡ false) × (new ≡ old)
 Gives (Some event) old new = GivesOne event old new
 
 -- an event was given that doesn't stand in a row yet
-pub record HasGiven (s : TakeState) : Type 0 where
-  pub part : PartState
-  pub has : s.part ≡ Some part
-  pub given : part.rows + length part.left < part.total
+abbrev given_of : Option PartState → Bool
+given_of None = false
+given_of (Some p) = nat_lt (length p.left) (p.total - p.rows)
+
+abbrev pub has_given : TakeState → Bool
+has_given s = given_of s.part
 
 -- a row was made of one event more: of all, or of a part
 abbrev noted_in : ℕ → Bool → PartState → TakeState → TakeState

@@ -81,6 +81,13 @@ impl AddressSender {
         &self.address
     }
 
+    /// How many parcels with events were sent.
+    pub fn sent(&self) -> u64
+        ensures { result ≡ with_events (send_state self.now).sends.sent }
+    {
+        self.sent
+    }
+
     /// Sends copies of events, of which there is one at least, in the next parcel, and gives its number; none where the
     /// ring showed no free slot. The only error is want of memory, or of a number: there are 2^64 - 1 for one link. Then
     /// nothing was sent.

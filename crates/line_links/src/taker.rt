@@ -74,7 +74,7 @@ pub struct AddressTaker {
 
 impl AddressTaker {
     ghost use Rattle.pipeline_bus.specs.Ends.{IsSameTaker};
-    ghost use Rattle.line_links.specs.Takers.{take_state, taker_end, holds, is_free, Closes, DropsNone, EndsBy, Gives, HasGiven, IsRefusing, Notes, Polls, Refuses, Settles};
+    ghost use Rattle.line_links.specs.Takers.{take_state, taker_end, has_given, holds, is_free, may_poll, Closes, DropsNone, EndsBy, Gives, IsRefusing, Notes, Polls, Refuses, Settles};
 
     /// The end of a link as the taker of an address. Each parcel that was taken on it is answered.
     pub fn new(alloc: Global, address: Text, end: LinkTaker) -> AddressTaker
@@ -107,12 +107,19 @@ impl AddressTaker {
         &self.address
     }
 
+    /// Whether the input listens, and each event of the parcels that it took stands in a row: so whether
+    /// [`AddressTaker::poll`] may be called.
+    pub fn may_poll(&self) -> bool
+        ensures { result ≡ may_poll (take_state self.now) }
+    {
+        self.listens && self.part.is_none()
+    }
+
     /// Looks for the next parcel, where the input listens and holds none. Its events are held then, to be given by
     /// [`AddressTaker::next`]. The only error is want of memory; then nothing was taken.
     #[tactic(auto, using(crate::proofs::Taking::taken_one, crate::proofs::Taking::taken_last, crate::proofs::Taking::ends_behind, crate::proofs::Taking::number_of_one))]
     pub fn poll(&mut self) -> Result<Polled, AllocError>
-        requires listens { (take_state self.old).listens ≡ true }
-        requires none { (take_state self.old).part ≡ None }
+        requires { may_poll (take_state self.old) ≡ true }
         ensures polls { IfOk result (λ found. Polls found (take_state self.old) (take_state self.new)) }
         ensures err { OnErr result (take_state self.new ≡ take_state self.old) }
         ensures same { IsSameTaker (taker_end self.old) (taker_end self.new) }
@@ -161,11 +168,21 @@ impl AddressTaker {
         event
     }
 
+    /// Whether an event was given that isn't noted in a row: so whether [`AddressTaker::note_row`] may be called.
+    pub fn has_given(&self) -> bool
+        ensures { result ≡ has_given (take_state self.now) }
+    {
+        match &self.part {
+            Some(part) => part.left.len() < part.total - part.rows,
+            None => false,
+        }
+    }
+
     /// Notes that the oldest event that was given, and for which this wasn't called, stands in the row of this number. It
     /// takes no memory. Numbers rise from row to row.
     #[tactic(auto, using(crate::proofs::Taking::whole_more))]
     pub fn note_row(&mut self, number: u64)
-        requires { HasGiven (take_state self.old) }
+        requires { has_given (take_state self.old) ≡ true }
         ensures notes { Notes number (take_state self.old) (take_state self.new) }
         ensures same { taker_end self.new ≡ taker_end self.old }
     {
@@ -202,6 +219,13 @@ impl AddressTaker {
         }
         self.whole.remove(0);
         Some(answer)
+    }
+
+    /// Whether the input listens.
+    pub fn listens(&self) -> bool
+        ensures { result ≡ (take_state self.now).listens }
+    {
+        self.listens
     }
 
     /// Says that the input listens no longer: what of a parcel isn't given yet is given as before, and the parcels with

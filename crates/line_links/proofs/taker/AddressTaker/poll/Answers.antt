@@ -38,7 +38,7 @@ invariant_of-self-2-clause-counted c =
     let taken : with_events (taking c.take.new.self).taken ≡ with_events (taking s.end).taken + 1 = taken_one (taking s.end) (taking c.take.new.self) c.in-Some.parcel c.in-Some.ensures.taken some in
     let given : length (taking c.take.new.self).given ≡ length (taking s.end).given = ap (λ t. length t.given) c.in-Some.ensures.taken in
     let waits : length c.reserve.new.self.items ≡ length s.whole.items = ap length c.reserve.ensures.items in
-    let none : one_if_some s.part ≡ 0 = none_of s.part c.requires.none in
+    let none : one_if_some s.part ≡ 0 = none_of s.listens s.part c.requires in
     let e : with_events (taking c.take.new.self).taken ≡ length (taking c.take.new.self).given + length c.reserve.new.self.items + (1 + one_if_some s.refusing)
     = omega (arith, s.counted, taken, given, waits, none) in
     e
