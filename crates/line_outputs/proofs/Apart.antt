@@ -3,17 +3,21 @@ use Rattle.std.specs.Prelude.{codes}
 use Rattle.std.proofs.Common.{◌≡◌, inl, inr, ℕ, zero, suc, IsTrue, List, ◌++◌, get_or, refl, sym, ap, ◌∙◌, subst, arith}
 use Rattle.std.proofs.lemmas.List.{append_cancel_left}
 use Rattle.io_traits.specs.Moments.{EachMoment, LeavesBeside, ReadsBeside, ImagesTell}
+use Rattle.io_traits.specs.Reads.{bytes_of}
 use Rattle.io_traits.specs.declared.stores.Store.{Ghosts as StoreWords}
 use Rattle.io_traits.proofs.Moments.{holds_now}
 use Rattle.slot_files.specs.Names.{position_name}
 use Rattle.slot_files.specs.declared.name.PositionOf.TheVariants.{Output as OfOutput}
+use Rattle.slot_files.specs.Views.{Output, IsOwn as IsFileOwn}
+use Rattle.slot_files.specs.Contents.{Stands}
+use Rattle.slot_files.proofs.Staying.{stands_beside}
 use Rattle.dead_letters.specs.Queues.{Role, segment, names, position, segment_name, name_in}
 use Rattle.dead_letters.specs.Views.{DeadQueue, IsOwn, sheds}
 use Rattle.dead_letters.specs.Ready.{AppendLeaves, IsAppended, LeavesOldOrNew, held_now}
 use Rattle.dead_letters.specs.Appends.{append_to}
 use Rattle.dead_letters.specs.declared.letter.DeadLetter.{DeadLetter}
 use Rattle.dead_letters.proofs.Staying.{ready_beside as letters_beside}
-use Rattle.line_outputs.specs.OpenFiles.{LeavesDelivered, FilesReady, FilesStayReady, IsFileOf, IsOutside, OpenFiles}
+use Rattle.line_outputs.specs.OpenFiles.{LeavesDelivered, FilesReady, FilesStand, FilesStayReady, IsFileOf, IsFileReady, IsOutside, OpenFiles, slot_in}
 use Rattle.line_outputs.specs.Readiness.{FilesKeepLetters, LettersKeepFiles, OpenCountsWhole, OutputsReady, OutputsStayReady}
 use Rattle.line_outputs.proofs.Delivering.{leaves_beside}
 use Rattle.line_outputs.proofs.Keeping.{all_stay, its_ready}
@@ -55,6 +59,11 @@ names_apart folder path outside name (role, is, named) (inr at) =
     let e : first (last_of role) ≡ first (position_name OfOutput path) = ap first same in
     absurd (omega (arith, d, o, e))
 
+-- its names are those of its path
+its_own : {S : Type 0} (store : StoreWords S) (folder : List ℕ) (s : S) (path : List ℕ) (f : Output) → IsFileReady store folder f s → f.path ≡ path → (name : List ℕ) → IsFileOwn f name → IsFileOf folder path name
+its_own store folder s path f is at name (inl p) = inl (p ∙ at)
+its_own store folder s path f is at name (inr n) = inr (n ∙ is.slot ∙ ap (slot_in folder) at)
+
 module _ {S : Type 0} (store : StoreWords S) (tell : ImagesTell store) where
   pub files_keep_letters : FilesKeepLetters store
   files_keep_letters folder path q old new is outside ready leaves =
@@ -67,6 +76,14 @@ module _ {S : Type 0} (store : StoreWords S) (tell : ImagesTell store) where
 
   pub files_stay_ready : FilesStayReady store
   files_stay_ready others o old new ready apart leaves reads = all_stay store o.folder tell (λ name. IsTrue (others name)) old new leaves reads o.files ready apart
+
+  pub files_stand : FilesStand store
+  files_stand others o s i ready apart told beside path f at =
+      let its = its_ready store o.folder s path o.files f ready at in
+      subst (λ p. Stands p (slot_in o.folder p) (bytes_of (store.seen s p)) i) its.1
+      (subst (λ n. Stands f.path n (bytes_of (store.seen s f.path)) i) its.0.slot
+      (stands_beside store f s its.0.ready (λ name. IsTrue (others name))
+      (λ name own other. apart path f at name (its_own store o.folder s path f its.0 its.1 name own) other) i told beside))
 
   pub outputs_stay_ready : OutputsStayReady store
   outputs_stay_ready others o q old new ready apart letters_apart leaves = record {

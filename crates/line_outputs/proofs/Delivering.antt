@@ -17,7 +17,7 @@ use Rattle.slot_files.specs.Outputs.{IsAppended, LeavesHeld, LeavesOldOrNew, con
 use Rattle.slot_files.proofs.Holding.{held_is_counted, holds_one}
 use Rattle.slot_files.proofs.Staying.{stands_beside}
 use Rattle.line_outputs.specs.OpenFiles.{EachReady, IsDelivered, IsFileOf, IsFileReady, IsOutside, LeavesDelivered, file_of, slot_in, without}
-use Rattle.line_outputs.proofs.Keeping.{all_stay, its_ready, others_ready, paths_apart, with_ready}
+use Rattle.line_outputs.proofs.Keeping.{all_stay, found_with, its_ready, others_ready, paths_apart, with_ready}
 
 -- no frame stands by chance in a file of which nothing is unsettled
 rests_well : (IsFrame : ℕ → List ℕ → Type 0) (file : Option (List ℕ)) → NoChance IsFrame (at_rest file)
@@ -143,11 +143,12 @@ module _ {S : Type 0} (store : StoreWords S) (folder path batch : List ℕ) (old
           bytes = subst IsBytes (sym path_is) is.bytes;
         }
 
-        pub is_delivered : (before after : List Output) → after ≡ without path before ++ out' ∷ [] → IsDelivered store folder path batch before old after new
-        is_delivered before after files = record {
+        pub is_delivered : (before after : List Output) → file_of path (without path before) ≡ None → after ≡ without path before ++ out' ∷ [] → IsDelivered store folder path batch before old after new
+        is_delivered before after gone files = record {
           file = out';
           path_is = path_is ∙ at;
           files = files;
+          is_open = ap (file_of path) files ∙ found_with path out' (without path before) (path_is ∙ at) gone;
           counted = out.position;
           counts = counted;
           content = λ told.

@@ -1,5 +1,5 @@
 -- The output files that are open, while one of them is appended to, or others change files of their own.
-use Rattle.std.specs.Prelude.{bytes_eq}
+use Rattle.std.specs.Prelude.{bytes_eq, if◌then◌else◌}
 use Rattle.std.proofs.Common.{◌≡◌, ◌⊎◌, inl, inr, ℕ, List, [], ◌∷◌, ◌++◌, refl, sym, ap, subst, ◌∙◌, true, false, Some, None}
 use Rattle.std.proofs.lemmas.Bool.{cond-true, cond-false, cases_Bool, false≢true}
 use Rattle.std.proofs.lemmas.Slice.Eq.{bytes_eq-Decides}
@@ -13,7 +13,7 @@ use Rattle.slot_files.specs.declared.name.PositionOf.TheVariants.{Output as OfOu
 use Rattle.slot_files.specs.Views.{Output}
 use Rattle.slot_files.proofs.PathNames.{names_differ}
 use Rattle.slot_files.proofs.Staying.{ready_beside}
-use Rattle.line_outputs.specs.OpenFiles.{EachReady, IsFileReady, IsFileOf, IsOutside, file_of, slot_in, without}
+use Rattle.line_outputs.specs.OpenFiles.{EachReady, SameOthers, IsFileReady, IsFileOf, IsOutside, file_of, slot_in, without}
 
 some_none : (x : Output) → Some x ≡ None → ⊥
 some_none x same = cc
@@ -60,6 +60,26 @@ none_still other path (f ∷ fs) none =
 none_with : (other : List ℕ) (f : Output) (fs : List Output) → file_of other fs ≡ None → bytes_eq other f.path ≡ false → file_of other (fs ++ f ∷ []) ≡ None
 none_with other f [] none differs = none_of other f [] differs refl
 none_with other f (g ∷ fs) none differs = let here = none_here other g fs none in none_of other g (fs ++ f ∷ []) here.0 (none_with other f fs here.1 differs)
+
+-- and then it is found
+pub found_with : (path : List ℕ) (f : Output) (fs : List Output) → f.path ≡ path → file_of path fs ≡ None → file_of path (fs ++ f ∷ []) ≡ Some f
+found_with path f [] at none = cond-true _ _ _ ((bytes_eq-Decides path f.path).1 (sym at))
+found_with path f (g ∷ fs) at none = let here = none_here path g fs none in cond-false _ _ _ here.0 ∙ found_with path f fs at here.1
+
+-- of the other paths the same files are open
+pub same_without : (path : List ℕ) (fs : List Output) → SameOthers path fs (without path fs)
+same_without path [] other differs = refl
+same_without path (f ∷ fs) other differs = elim (cases_Bool (bytes_eq path f.path)) [
+  | inl same ↦
+      ap (file_of other) (cond-true (bytes_eq path f.path) fs (f ∷ without path fs) same)
+      ∙ sym (cond-false (bytes_eq other f.path) (Some f) (file_of other fs) (others_differ other f.path (λ is. differs (is ∙ sym (test_same path f.path same)))))
+  | inr not_same ↦
+      ap (file_of other) (cond-false (bytes_eq path f.path) fs (f ∷ without path fs) not_same) ∙ ap (λ r. if bytes_eq other f.path then Some f else r) (same_without path fs other differs)
+]
+
+pub same_with : (path : List ℕ) (f : Output) (fs : List Output) → f.path ≡ path → SameOthers path fs (fs ++ f ∷ [])
+same_with path f [] at other differs = cond-false (bytes_eq other f.path) (Some f) None (others_differ other f.path (λ is. differs (is ∙ at)))
+same_with path f (g ∷ fs) at other differs = ap (λ r. if bytes_eq other g.path then Some g else r) (same_with path f fs at other differs)
 
 module _ {S : Type 0} (store : StoreWords S) (folder : List ℕ) where
   -- the file of a path is ready

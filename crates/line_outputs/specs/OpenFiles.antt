@@ -11,7 +11,7 @@ use Rattle.io_traits.specs.declared.stores.Store.{Ghosts as StoreWords}
 use Rattle.slot_files.specs.Names.{position_name}
 use Rattle.slot_files.specs.declared.name.PositionOf.TheVariants.{Output as OfOutput}
 use Rattle.slot_files.specs.Views.{Output}
-use Rattle.slot_files.specs.Contents.{Holds, counted_in}
+use Rattle.slot_files.specs.Contents.{Holds, Stands, counted_in}
 use Rattle.slot_files.specs.Outputs.{IsReady}
 
 -- the folder of a pipeline, whose path ends with a slash, and its output files that are open
@@ -33,6 +33,10 @@ file_of path (f ∷ fs) = if bytes_eq path f.path then Some f else file_of path 
 abbrev pub without : List ℕ → List Output → List Output
 without path [] = []
 without path (f ∷ fs) = if bytes_eq path f.path then fs else f ∷ without path fs
+
+-- of each path but one the same file is open, or none
+abbrev pub SameOthers : List ℕ → List Output → List Output → Type 0
+SameOthers path before after = (other : List ℕ) → other ≢ path → file_of other after ≡ file_of other before
 
 -- the position file of a path
 abbrev pub slot_in : List ℕ → List ℕ → List ℕ
@@ -67,6 +71,7 @@ module _ {S : Type 0} (store : StoreWords S) where
     pub file : Output
     pub path_is : file.path ≡ path
     pub files : after ≡ without path before ++ file ∷ []
+    pub is_open : file_of path after ≡ Some file
     pub counted : ℕ
     pub counts : IsTrue store.tells → counted_in path (slot_in folder path) (store.seen old) ≡ Ok counted
     pub content : IsTrue store.tells → bytes_of (store.seen new path) ≡ take counted (bytes_of (store.seen old path)) ++ batch
@@ -85,6 +90,12 @@ module _ {S : Type 0} (store : StoreWords S) where
   -- files of others, by a test: none of them is that of an open output
   abbrev pub AreApart : (List ℕ → Bool) → OpenFiles → Type 0
   AreApart others o = (path : List ℕ) (f : Output) → file_of path o.files ≡ Some f → (name : List ℕ) → IsFileOf o.folder path name → IsTrue (others name) → ⊥
+
+  -- whatever a stop leaves while others change their files, an open file has its content
+  abbrev pub FilesStand : Type 0
+  FilesStand =
+      (others : List ℕ → Bool) (o : OpenFiles) (s : S) (i : Image) → FilesReady o s → AreApart others o → IsTrue store.tells → LeavesBeside store (λ name. IsTrue (others name)) s i
+      → (path : List ℕ) (f : Output) → file_of path o.files ≡ Some f → Stands path (slot_in o.folder path) (bytes_of (store.seen s path)) i
 
   -- while others change their files, the open ones stay ready
   abbrev pub FilesStayReady : Type 0

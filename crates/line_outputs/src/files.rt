@@ -7,7 +7,7 @@ ghost use Rattle.io_traits.specs.declared.queue_faults.Damage.{Damage as DamageV
 ghost use Rattle.io_traits.specs.declared.queue_faults.QueueFault.TheVariants as f;
 ghost use Rattle.slot_files.specs.Contents.{counted_in};
 ghost use Rattle.slot_files.specs.Outputs.{LeavesHeld};
-ghost use Rattle.line_outputs.specs.OpenFiles.{FilesReady, EachReady, IsFileReady, IsDelivered, IsFileOf, IsOutside, LeavesDelivered, file_of, slot_in, without};
+ghost use Rattle.line_outputs.specs.OpenFiles.{FilesReady, EachReady, IsFileReady, IsDelivered, IsFileOf, IsOutside, LeavesDelivered, SameOthers, file_of, slot_in, without};
 
 use crate::open_file::{OpenFile, is_open, taken};
 use io_traits::{QueueFault, Store};
@@ -75,6 +75,8 @@ impl OutputFiles {
         ensures delivered { OnOk result (IsDelivered S.Store self.old.folder path.now bytes.now
             self.old.files store.old self.new.files store.new) }
         ensures err { OnErr result (self.new.files ≡ without path.now self.old.files) }
+        ensures closed { OnErr result (file_of path.now self.new.files ≡ None) }
+        ensures others { SameOthers path.now self.old.files self.new.files }
 
         // Only an opening finds a damage, or no memory.
         ensures damaged { (damage : DamageValue) → result ≡ Err (f.Damaged damage)
@@ -108,6 +110,8 @@ fn append_to<S: Store>(
     ensures delivered { OnOk result (IsDelivered S.Store folder.now path.now bytes.now
         files.old.items store.old files.new.items store.new) }
     ensures err { OnErr result (files.new.items ≡ without path.now files.old.items) }
+    ensures closed { OnErr result (file_of path.now files.new.items ≡ None) }
+    ensures others { SameOthers path.now files.old.items files.new.items }
     ensures damaged { (damage : DamageValue) → result ≡ Err (f.Damaged damage)
         → (file_of path.now files.old.items ≡ None) × (IsTrue S.tells
         → counted_in path.now (slot_in folder.now path.now) (S.seen store.old) ≡ Err damage) }
@@ -141,6 +145,7 @@ fn found<S: Store>(
     ensures content { IfOk result (λ file. IsTrue S.tells → bytes_of (S.seen store.new path.now)
         ≡ take file.position (bytes_of (S.seen store.old path.now))) }
     ensures files { files.new.items ≡ without path.now files.old.items }
+    ensures gone { file_of path.now files.new.items ≡ None }
     ensures room { OnOk result (vec_len files.new < vec_capacity files.new) }
     ensures none { OnErr result (file_of path.now files.old.items ≡ None) }
     ensures damaged { (damage : DamageValue) → result ≡ Err (f.Damaged damage) → IsTrue S.tells

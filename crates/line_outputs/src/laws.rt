@@ -1,13 +1,14 @@
 //! What holds of output files and dead letters beside each other. Each function here does nothing: its
 //! clauses are theorems.
-ghost use Rattle.line_outputs.specs.OpenFiles.{FilesStayReady};
+ghost use Rattle.line_outputs.specs.OpenFiles.{FilesStand, FilesStayReady};
 ghost use Rattle.line_outputs.specs.Readiness.{FilesKeepLetters, LettersKeepFiles, OpenCountsWhole, OutputsStayReady};
 
 use io_traits::Store;
 
-/// While others change files of their own on the store, the output files that are open and the dead letters
-/// stay ready.
+/// Whatever a stop leaves while others change files of their own on the store, an output file that is open has
+/// its content; and when they are done, the output files and the dead letters are ready.
 pub fn others_change_nothing<S: Store>()
+    ensures stands { FilesStand S.Store }
     ensures files { FilesStayReady S.Store }
     ensures outputs { OutputsStayReady S.Store }
 {}

@@ -13,7 +13,7 @@ ghost use Rattle.dead_letters.specs.Letters.{size_of};
 ghost use Rattle.dead_letters.specs.Opening.{IsCleared, LeavesHeld};
 ghost use Rattle.dead_letters.specs.Views.{IsOwn, behind_append, is_full, sheds};
 ghost use Rattle.dead_letters.specs.Ready.{AppendLeaves, IsAppended, held_now};
-ghost use Rattle.line_outputs.specs.OpenFiles.{FilesReady, IsDelivered, IsFileOf, IsOutside, LeavesDelivered, file_of, slot_in, without};
+ghost use Rattle.line_outputs.specs.OpenFiles.{FilesReady, IsDelivered, IsFileOf, IsOutside, LeavesDelivered, SameOthers, file_of, slot_in, without};
 ghost use Rattle.line_outputs.specs.Readiness.{OutputsReady};
 ghost use Rattle.line_outputs.specs.declared.letters.LetterFault.TheVariants as l;
 
@@ -85,6 +85,8 @@ impl StoredOutputs {
             bytes.now self.old.files.files store.old self.new.files.files store.new) }
         ensures err { OnErr result (self.new.files.files
             ≡ without path.now self.old.files.files) }
+        ensures closed { OnErr result (file_of path.now self.new.files.files ≡ None) }
+        ensures others { SameOthers path.now self.old.files.files self.new.files.files }
 
         // Only an opening finds a damage, or no memory.
         ensures damaged { (damage : DamageValue) → result ≡ Err (f.Damaged damage)

@@ -1,6 +1,7 @@
-use Rattle.std.proofs.Common.{sym, ◌∙◌}
+use Rattle.std.proofs.Common.{sym, ap, ◌∙◌}
 use Rattle.line_outputs.proofs.Finding.{none_without}
-use Rattle.line_outputs.proofs.Keeping.{its_ready}
+use Rattle.line_outputs.specs.OpenFiles.{file_of}
+use Rattle.line_outputs.proofs.Keeping.{its_ready, others_ready}
 use Rattle.line_outputs.proofs.Opening.{counts, not_begun, whole}
 use Rattle.line_outputs.proofs.files.found.Goals as goal
 
@@ -28,3 +29,14 @@ returns-in-Some-clause-content g c = λ told.
 
 pub returns-in-Some-clause-any_moment : goal.returns-in-Some-clause-any_moment
 returns-in-Some-clause-any_moment g c = not_begun g.S.Store g.met.S.Store.images_tell c.args.folder.now c.args.path.now c.args.store.now
+
+pub returns-in_err-file-clause-gone : goal.returns-in_err-file-clause-gone
+returns-in_err-file-clause-gone g c = ap (file_of c.args.path.now) c.in_err-file.ensures.same ∙ c.in_err-file.ensures.none
+
+pub returns-in-Some-clause-gone : goal.returns-in-Some-clause-gone
+returns-in-Some-clause-gone g c =
+    ap (file_of c.args.path.now) c.in_ok-file.ensures.rest ∙ (others_ready g.S.Store c.args.folder.now c.args.store.now c.args.path.now c.args.files.now.items c.requires.ready).1
+
+pub returns-in-None-clause-gone : goal.returns-in-None-clause-gone
+returns-in-None-clause-gone g c =
+    ap (file_of c.args.path.now) c.in_ok-file.ensures.rest ∙ (others_ready g.S.Store c.args.folder.now c.args.store.now c.args.path.now c.args.files.now.items c.requires.ready).1
