@@ -1,0 +1,7 @@
+mod Recording
+pub mod Together
+mod Holding
+mod Giving
+mod Plain
+mod Opened
+mod Staying
