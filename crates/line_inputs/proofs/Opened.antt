@@ -12,7 +12,10 @@ use Rattle.io_traits.specs.declared.stores.Store.{Ghosts as StoreWords}
 use Rattle.io_traits.proofs.Moments.{holds_now, one_then_other, started}
 use Rattle.in_file.specs.Positions.{IsReady}
 use Rattle.in_file.specs.Views.{Watched}
+use Rattle.in_file.specs.Openings.{IsDamaged}
 use Rattle.in_file.specs.declared.plan.FilePlan.{FilePlan}
+use Rattle.io_traits.specs.declared.queue_faults.Damage.{Damage}
+use Rattle.slot_files.specs.declared.recorded.Recorded.{Recorded}
 use Rattle.in_file.proofs.Staying.{ready_beside}
 use Rattle.line_inputs.specs.Openings.{AreOpen, IsOpen, OpensOne, paths_of, position_path, slots_of, untaken}
 use Rattle.line_inputs.specs.Positions.{Apart, AreReady, HasOwn}
@@ -158,3 +161,8 @@ module _ {S F : Type 0} (store : StoreWords S) (files : FilesWords F) (folder : 
       → paths_of opened ≡ untaken folder [] all
   all_opened all place opened slots first now f f_now so_far past =
       sym (append-nil (paths_of opened)) ∙ ap (λ l. paths_of opened ++ untaken folder slots l) (sym (drop_all place all past)) ∙ so_far.paths
+
+-- ---- a position file that is damaged
+
+pub by_file : (recorded : List ℕ → Recorded) (slot : List ℕ) (damage : Damage) → IsDamaged slot (recorded slot) damage → IsDamaged damage.file (recorded damage.file) damage
+by_file recorded slot damage is = record { file = refl; place = is.place; recorded_is = ap recorded is.file ∙ is.recorded_is; differ = is.differ }

@@ -6,3 +6,4 @@ pub mod Watching
 pub mod Sources
 pub mod Inputs
 pub mod Openings
+pub mod Starting

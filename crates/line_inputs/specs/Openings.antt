@@ -28,6 +28,10 @@ paths_of opened = map (λ (n : Noted). n.watched.path) opened
 abbrev pub slots_of : List Noted → List (List ℕ)
 slots_of opened = map (λ (n : Noted). n.watched.slot) opened
 
+-- some paths, and others behind them
+abbrev pub BeginsWith : List (List ℕ) → List (List ℕ) → Type 0
+BeginsWith front all = (behind : List (List ℕ)) × (all ≡ front ++ behind)
+
 module _ {S F : Type 0} (store : StoreWords S) (files : FilesWords F) (folder : List ℕ) (plan : FilePlan) (first : S) where
   -- A file that was opened, while the store read as at first, and of which nothing was given.
   pub record IsOpen (n : Noted) : Type 0 where
@@ -49,8 +53,10 @@ module _ {S F : Type 0} (store : StoreWords S) (files : FilesWords F) (folder : 
 
 module _ {F : Type 0} (files : FilesWords F) where
   -- these files are those that an input of this path watches, beside the earlier ones, but for such as have a position file that is taken
-  pub record AreOfPath (folder path : List ℕ) (earlier : List (List ℕ)) (old : F) (opened : List Noted) : Type 0 where
+  pub record AreOfPath (folder path : List ℕ) (earlier later : List (List ℕ)) (old : F) (opened : List Noted) : Type 0 where
     pub paths : List (List ℕ)
     pub mid : F
     pub watched : AreWatched files path earlier old mid paths
     pub are : paths_of opened ≡ untaken folder [] paths
+    -- they join the earlier ones
+    pub joined : later ≡ earlier ++ paths

@@ -1,9 +1,13 @@
 // The opening of the files that one input watches.
-ghost use Rattle.std.specs.Prelude.{◌≡◌, ◌++◌, ◌∷◌, ℕ, List, [], Err, IsTrue, IfOk, OnOk};
+ghost use Rattle.std.specs.Prelude.{◌≡◌, ◌++◌, ◌∷◌, ℕ, List, [], Err, IsTrue, IfOk, OnOk, OnErr};
 ghost use Rattle.std.specs.List.{list_any};
 ghost use Rattle.std.specs.Str.{bytes_eq};
 ghost use Rattle.io_traits.specs.Counts.{HasCause};
 ghost use Rattle.io_traits.specs.Moments.{EachMoment, NowOrSynced};
+ghost use Rattle.io_traits.specs.Reads.{bytes_of};
+ghost use Rattle.io_traits.specs.declared.queue_faults.Damage.{Damage as DamageValue};
+ghost use Rattle.slot_files.specs.Positions.{recorded_in};
+ghost use Rattle.in_file.specs.Openings.{IsDamaged};
 ghost use Rattle.in_file.specs.declared.faults.OpenFault.TheVariants as o;
 ghost use Rattle.line_inputs.specs.Positions.{AreReady};
 ghost use Rattle.line_inputs.specs.Openings as spec;
@@ -26,7 +30,7 @@ pub fn position_path(alloc: Global, folder: &str, path: &str) -> Result<Text, Al
     Ok(Text::from_string(slot))
 }
 
-/// Opens the files that an input of this path watches, beside those that earlier inputs of its pipeline do, as
+/// Opens the files that an input of this path watches, beside those that earlier inputs of its pipeline do, which they join, as
 /// [`watched_paths`](in_file::watched_paths) has them, each with its position file in the folder, whose path ends with a slash.
 ///
 /// `Memory` may come before or behind any call. Behind an error they can be opened again.
@@ -37,25 +41,42 @@ pub fn open_files<S: Store, F: Files>(
     folder: &str,
     path: &str,
     plan: FilePlan,
-    earlier: &[Text],
+    earlier: &mut Names,
 ) -> Result<WatchedFiles, OpenFault>
-    ensures paths { IfOk result (λ w.
-        spec.AreOfPath F.Files folder.now path.now earlier.now files.old w.files) }
+    ensures paths { IfOk result (λ w. spec.AreOfPath F.Files folder.now path.now earlier.old
+        earlier.new files.old w.files) }
+    ensures earlier { OnErr result (spec.BeginsWith earlier.old earlier.new) }
     ensures open { IfOk result (λ w. spec.AreOpen S.Store F.Files folder.now plan store.old w.files) }
     ensures at { IfOk result (λ w. w.at ≡ 0) }
     ensures ready { IfOk result (λ w. AreReady S.Store w.files store.new) }
+    ensures damaged { (damage : DamageValue) → result ≡ Err (o.Damaged damage) → IsTrue S.tells
+        → IsDamaged damage.file (recorded_in (bytes_of (S.seen store.old damage.file))) damage }
     ensures reads { IsTrue S.tells → S.seen store.new ≡ S.seen store.old }
     ensures any_moment { EachMoment S.Store store.old store.new (NowOrSynced S.Store store.old) }
     ensures store_cause { HasCause (S.faults store.old) (S.faults store.new) (result ≡ Err o.Store) }
     ensures files_cause { HasCause (F.faults files.old) (F.faults files.new) (result ≡ Err o.Files) }
 {
-    let paths = match watched_paths(alloc, files, path, earlier) {
+    let paths = match watched_paths(alloc, files, path, earlier.as_slice()) {
         Ok(paths) => paths,
         Err(ListFault::Failed) => return Err(OpenFault::Files),
         Err(ListFault::Memory) => return Err(OpenFault::Memory),
     };
     let opened = open_each(alloc, store, files, folder, paths.as_slice(), plan)?;
-    Ok(WatchedFiles::of(opened))
+    match append_paths(earlier, paths.as_slice()) {
+        Ok(()) => Ok(WatchedFiles::of(opened)),
+        Err(_) => Err(OpenFault::Memory),
+    }
+}
+
+// Appends paths to some.
+fn append_paths(to: &mut Names, paths: &[Text]) -> Result<(), AllocError>
+    ensures ok { OnOk result (to.new ≡ to.old ++ paths.now) }
+    ensures err { OnErr result (spec.BeginsWith to.old to.new) }
+{
+    for place in 0..paths.len() {
+        to.push(paths[place].copy()?)?;
+    }
+    Ok(())
 }
 
 // Opens the files of these paths.
@@ -72,6 +93,8 @@ fn open_each<S: Store, F: Files>(
     ensures open { IfOk result (λ opened.
         spec.AreOpen S.Store F.Files folder.now plan store.old opened.items) }
     ensures ready { IfOk result (λ opened. AreReady S.Store opened.items store.new) }
+    ensures damaged { (damage : DamageValue) → result ≡ Err (o.Damaged damage) → IsTrue S.tells
+        → IsDamaged damage.file (recorded_in (bytes_of (S.seen store.old damage.file))) damage }
     ensures reads { IsTrue S.tells → S.seen store.new ≡ S.seen store.old }
     ensures any_moment { EachMoment S.Store store.old store.new (NowOrSynced S.Store store.old) }
     ensures store_cause { HasCause (S.faults store.old) (S.faults store.new) (result ≡ Err o.Store) }
@@ -115,6 +138,8 @@ fn open_one<S: Store, F: Files>(
     ensures opened { OnOk result (spec.OpensOne S.Store F.Files folder.now plan store.old
         opened.old.items opened.new.items) }
     ensures ready { OnOk result (AreReady S.Store opened.new.items store.new) }
+    ensures damaged { (damage : DamageValue) → result ≡ Err (o.Damaged damage) → IsTrue S.tells
+        → IsDamaged damage.file (recorded_in (bytes_of (S.seen store.old damage.file))) damage }
     ensures reads { IsTrue S.tells → S.seen store.new ≡ S.seen store.old }
     ensures any_moment { EachMoment S.Store store.old store.new (NowOrSynced S.Store store.old) }
     ensures store_cause { HasCause (S.faults store.old) (S.faults store.new) (result ≡ Err o.Store) }

@@ -1,13 +1,19 @@
 // Inputs opened by their settings.
-ghost use Rattle.std.specs.Prelude.{◌≡◌, [], false, None, Err, IsTrue, IfOk};
+ghost use Rattle.std.specs.Prelude.{◌≡◌, [], false, None, Err, IsTrue, IfOk, IfSome, OnErr};
 ghost use Rattle.io_traits.specs.Counts.{HasCause};
 ghost use Rattle.io_traits.specs.Moments.{EachMoment, NowOrSynced};
 ghost use Rattle.in_file.specs.Streams.{begun};
+ghost use Rattle.io_traits.specs.Reads.{bytes_of};
+ghost use Rattle.io_traits.specs.declared.queue_faults.Damage.{Damage as DamageValue};
+ghost use Rattle.slot_files.specs.Positions.{recorded_in};
+ghost use Rattle.in_file.specs.Openings.{IsDamaged};
 ghost use Rattle.in_file.specs.declared.faults.OpenFault.TheVariants as o;
 ghost use Rattle.in_lines.specs.declared.codec.Codec.TheVariants as codec;
 ghost use Rattle.line_inputs.specs.Generating.{begun as generator_begun};
-ghost use Rattle.line_inputs.specs.Openings.{AreOfPath, AreOpen};
+ghost use Rattle.line_inputs.specs.Openings.{AreOfPath, AreOpen, BeginsWith};
 ghost use Rattle.line_inputs.specs.Positions.{AreReady};
+ghost use Rattle.line_inputs.specs.Starting as spec;
+ghost use Rattle.line_inputs.specs.Starting.{IsOpenAs};
 ghost use Rattle.line_inputs.specs.Settings.{generator_of, plain_settings, settings_of};
 ghost use Rattle.line_inputs.specs.Sources.{files_of};
 ghost use Rattle.line_inputs.specs.declared.source.InputSource.TheVariants as source;
@@ -22,8 +28,8 @@ use in_file::{FilePlan, OpenFault, StdinInput};
 use in_lines::{Codec, EventSettings};
 use in_tcp::TcpInput;
 use io_traits::{Files, Store};
-use plain_data::Text;
-use plugin_settings::{FileInputSettings, GeneratorSettings, InputSettings, TcpSettings};
+use plain_data::Names;
+use plugin_settings::{FileInputSettings, GeneratorSettings, Input, InputSettings, TcpSettings};
 use std::alloc::{AllocError, Global};
 
 impl OpenInput {
@@ -90,10 +96,11 @@ impl OpenInput {
         files: &mut F,
         folder: &str,
         settings: &mut FileInputSettings,
-        earlier: &[Text],
+        earlier: &mut Names,
     ) -> Result<OpenInput, OpenFault>
-        ensures paths { IfOk result (λ input. AreOfPath F.Files folder.now settings.old.path earlier.now
-            files.old (files_of input.source)) }
+        ensures paths { IfOk result (λ input. AreOfPath F.Files folder.now settings.old.path
+            earlier.old earlier.new files.old (files_of input.source)) }
+        ensures earlier { OnErr result (BeginsWith earlier.old earlier.new) }
         ensures open { IfOk result (λ input. AreOpen S.Store F.Files folder.now
             (record { from_start = settings.old.from_start; ends = settings.old.ends; codec = settings.old.common.codec })
             store.old (files_of input.source)) }
@@ -101,6 +108,8 @@ impl OpenInput {
         ensures waiting { IfOk result (λ input. input.waiting ≡ None) }
         ensures ended { IfOk result (λ input. input.ended ≡ false) }
         ensures ready { IfOk result (λ input. AreReady S.Store (files_of input.source) store.new) }
+        ensures damaged { (damage : DamageValue) → result ≡ Err (o.Damaged damage) → IsTrue S.tells
+            → IsDamaged damage.file (recorded_in (bytes_of (S.seen store.old damage.file))) damage }
         ensures reads { IsTrue S.tells → S.seen store.new ≡ S.seen store.old }
         ensures any_moment { EachMoment S.Store store.old store.new
             (NowOrSynced S.Store store.old) }
@@ -118,6 +127,57 @@ impl OpenInput {
         let watched = open_files(alloc, store, files, folder, path, plan, earlier)?;
         let changes = event_settings(alloc, &mut settings.common);
         Ok(OpenInput::of(alloc, InputSource::Files(watched), changes))
+    }
+
+    /// The input of these settings, which are moved out of them; none where they are those of an input that takes no lines: of `http`,
+    /// `pipeline` or `dead_letter_queue`. Of the files that are watched those of a `file` input are added to `watched`.
+    ///
+    /// The folder is that of the pipeline; its path ends with a slash. Behind an error it can be opened again.
+    pub fn open_on<S: Store, F: Files>(
+        alloc: Global,
+        store: &mut S,
+        files: &mut F,
+        folder: &str,
+        input: &mut Input,
+        watched: &mut Names,
+    ) -> Result<Option<OpenInput>, OpenFault>
+        ensures open { IfOk result (IsOpenAs S.Store F.Files folder.now store.old files.old
+            watched.old watched.new input.old) }
+        ensures ready { IfOk result (λ made. IfSome made
+            (λ made. AreReady S.Store (files_of made.source) store.new)) }
+        ensures damaged { (damage : DamageValue) → result ≡ Err (o.Damaged damage) → IsTrue S.tells
+            → IsDamaged damage.file (recorded_in (bytes_of (S.seen store.old damage.file))) damage }
+        ensures watched { OnErr result (BeginsWith watched.old watched.new) }
+        ensures reads { IsTrue S.tells → S.seen store.new ≡ S.seen store.old }
+        ensures any_moment { EachMoment S.Store store.old store.new
+            (NowOrSynced S.Store store.old) }
+        ensures store_cause { HasCause (S.faults store.old) (S.faults store.new)
+            (result ≡ Err o.Store) }
+        ensures files_cause { HasCause (F.faults files.old) (F.faults files.new)
+            (result ≡ Err o.Files) }
+    {
+        match input {
+            Input::Stdin(settings) => Ok(Some(OpenInput::stdin(alloc, settings))),
+            Input::Generator(settings) => or_memory(OpenInput::generator(alloc, settings)),
+            Input::Tcp(settings) => or_memory(OpenInput::connections(alloc, settings)),
+            Input::File(settings) => {
+                let made = OpenInput::files(alloc, store, files, folder, settings, watched)?;
+                Ok(Some(made))
+            }
+            Input::Http(_settings) => Ok(None),
+            Input::Pipeline(_settings) => Ok(None),
+            Input::DeadLetters(_settings) => Ok(None),
+        }
+    }
+}
+
+// An input that was made, or that there was no memory for it.
+fn or_memory(made: Result<OpenInput, AllocError>) -> Result<Option<OpenInput>, OpenFault>
+    ensures { result ≡ spec.or_memory made }
+{
+    match made {
+        Ok(input) => Ok(Some(input)),
+        Err(_) => Err(OpenFault::Memory),
     }
 }
 

@@ -1,5 +1,8 @@
-use Rattle.std.proofs.Common.{rules, ◌∙◌, arith}
+use Rattle.std.proofs.Common.{rules, ◌∙◌, arith, subst}
 use Rattle.io_traits.proofs.Causes.{cause_from, cause_of, no_cause}
+use Rattle.io_traits.specs.Reads.{bytes_of}
+use Rattle.slot_files.specs.Positions.{recorded_in}
+use Rattle.in_file.specs.Openings.{IsDamaged}
 use Rattle.line_inputs.proofs.Opened.{all_opened, moments_then, none_yet, one_opened}
 use Rattle.line_inputs.proofs.opening.open_each.Goals as goal
 
@@ -59,3 +62,8 @@ returns-clause-store_cause g c = no_cause c.loop-place.invariant.store_faults (�
 
 pub returns-clause-files_cause : goal.returns-clause-files_cause
 returns-clause-files_cause g c = no_cause c.loop-place.invariant.files_faults (λ is. cc)
+
+pub returns-in_err-open_one-clause-damaged : goal.returns-in_err-open_one-clause-damaged
+returns-in_err-open_one-clause-damaged g c = λ damage is told.
+    subst (λ seen. IsDamaged damage.file (recorded_in (bytes_of (seen damage.file))) damage) (c.loop-place.invariant.reads told)
+    (c.open_one.ensures.damaged damage (search (is, c.in_err-open_one.was, c.from_residual.ensures, rules)) told)

@@ -40,7 +40,7 @@ returns-in_err-assure-clause-cause g c =
     record {
       later = cause.later;
       rose = λ failed. cause.rose (search rules);
-      same = λ none. absurd (none (search (c.in_err-assure.was, c.from_residual.ensures, rules)));
+      same = λ none. absurd (none (search (c.from_residual.ensures, rules)));
     }
 
 pub loop-place-preserved : goal.loop-place-preserved
