@@ -1,8 +1,9 @@
 -- Dead letters that are made of events which were not delivered.
-use Rattle.std.specs.Prelude.{ℕ, ℤ, List, [], ◌∷◌, ◌++◌, map, codes}
+use Rattle.std.specs.Prelude.{◌≡◌, length, ℕ, ℤ, List, [], ◌∷◌, ◌++◌, map, codes}
 use Rattle.std.specs.Fmt.{decimal}
 use Rattle.event_tree.specs.Events.{Ev}
 use Rattle.event_tree.specs.declared.lists.DeadPart.{DeadPart}
+use Rattle.foreign_parts.specs.Delivering.{AreFates}
 use Rattle.foreign_parts.specs.declared.output.Fate.{Fate}
 use Rattle.foreign_parts.specs.declared.output.Fate.TheVariants.{Took, Rejected}
 use Rattle.dead_letters.specs.Letters.{letter}
@@ -34,3 +35,9 @@ abbrev pub rejections : List ℕ → List ℕ → List Fate → List Ev → List
 rejections kind id [] es = []
 rejections kind id (x ∷ fates) [] = []
 rejections kind id (x ∷ fates) (e ∷ es) = rejection kind id x e ++ rejections kind id fates es
+
+-- ---- laws
+
+-- an output that took events answered with a fate for each
+abbrev pub FatesAreAsMany : Type 0
+FatesAreAsMany = (fates : List Fate) (events : List Ev) → AreFates fates events → length fates ≡ length events

@@ -1,5 +1,6 @@
-//! What holds of output files and dead letters beside each other. Each function here does nothing: its
-//! clauses are theorems.
+//! What holds of output files and dead letters beside each other, and of fates. Each function here does
+//! nothing: its clauses are theorems.
+ghost use Rattle.line_outputs.specs.NewLetters.{FatesAreAsMany};
 ghost use Rattle.line_outputs.specs.OpenFiles.{FilesStand, FilesStayReady};
 ghost use Rattle.line_outputs.specs.Readiness.{FilesKeepLetters, LettersKeepFiles, OpenCountsWhole, OutputsStayReady};
 
@@ -23,4 +24,9 @@ pub fn files_and_letters_stay_ready<S: Store>()
 /// Of an output file that is open all counts: a delivery leaves all its bytes, and then the batch.
 pub fn all_of_an_open_file_counts<S: Store>()
     ensures { OpenCountsWhole S.Store }
+{}
+
+/// The fates of events are as many as the events, so that what was rejected of them can be asked.
+pub fn fates_are_as_many_as_events()
+    ensures { FatesAreAsMany }
 {}
