@@ -11,5 +11,9 @@ impl Book for BlankBook {
 
     ghost told = { λ _. None };
 
+    fn keeps(&self) -> bool {
+        false
+    }
+
     fn tell(&mut self, _line: u32, _entry: Entry<'_>) {}
 }

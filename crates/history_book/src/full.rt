@@ -87,6 +87,10 @@ impl Book for FullBook {
 
     ghost told = { told_by };
 
+    fn keeps(&self) -> bool {
+        true
+    }
+
     fn tell(&mut self, line: u32, entry: Entry<'_>) {
         self.tell(line, entry);
     }
