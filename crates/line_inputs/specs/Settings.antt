@@ -7,6 +7,8 @@ use Rattle.in_lines.specs.declared.generator.GeneratedLines.TheVariants.{Texts, 
 use Rattle.in_lines.specs.declared.generator.Generator.{Generator}
 use Rattle.in_lines.specs.declared.settings.EventSettings.{EventSettings}
 use Rattle.plugin_settings.specs.declared.common.InputSettings.{InputSettings}
+use Rattle.in_file.specs.declared.plan.FilePlan.{FilePlan}
+use Rattle.plugin_settings.specs.declared.inputs.FileInputSettings.{FileInputSettings}
 use Rattle.plugin_settings.specs.declared.inputs.GeneratorSettings.{GeneratorSettings}
 
 -- what the settings that every input has say of its events
@@ -16,6 +18,10 @@ settings_of s = record {
   event_type = s.event_type;
   options = record { add_field = s.add_field; remove_field = []; add_tag = s.tags; remove_tag = [] };
 }
+
+-- how the files of a path are watched
+abbrev pub plan_of : FileInputSettings → FilePlan
+plan_of f = record { from_start = f.from_start; ends = f.ends; codec = f.common.codec }
 
 -- settings that change no event
 abbrev pub plain_settings : Codec → EventSettings

@@ -55,6 +55,10 @@ module _ {I F L : Type 0} (stdin : SourceWords I) (files : FilesWords F) (links 
     pub links_old : L
     pub links_new : L
 
+  abbrev pub around : I → I → F → F → L → L → Around
+  around stdin_old stdin_new files_old files_new links_old links_new =
+      record { stdin_old = stdin_old; stdin_new = stdin_new; files_old = files_old; files_new = files_new; links_old = links_old; links_new = links_new }
+
   pub record StreamWas (moment : ℤ) (o : Around) (s : Stream) (after : InputSource) (result : Result Got PollFault) : Type 0 where
     pub left : Stream
     pub after_is : after ≡ Stdin left

@@ -16,7 +16,7 @@ use Rattle.plugin_settings.specs.declared.read.Input.TheVariants as i
 use Rattle.line_inputs.specs.Generating.{begun as generator_begun}
 use Rattle.line_inputs.specs.Inputs.{InputView}
 use Rattle.line_inputs.specs.Openings.{AreOfPath, AreOpen}
-use Rattle.line_inputs.specs.Settings.{generator_of, plain_settings, settings_of}
+use Rattle.line_inputs.specs.Settings.{generator_of, plain_settings, plan_of, settings_of}
 use Rattle.line_inputs.specs.Sources.{files_of}
 use Rattle.line_inputs.specs.declared.source.InputSource.TheVariants.{Stdin, Generated, Connections}
 
@@ -43,7 +43,7 @@ module _ {S F : Type 0} (store : StoreWords S) (files : FilesWords F) (folder : 
   -- the input of the files that settings name
   pub record IsFileInput (f : FileInputSettings) (made : InputView) : Type 0 where
     pub paths : AreOfPath files folder f.path watched joined files_first (files_of made.source)
-    pub open_are : AreOpen store files folder (record { from_start = f.from_start; ends = f.ends; codec = f.common.codec }) first (files_of made.source)
+    pub open_are : AreOpen store files folder (plan_of f) first (files_of made.source)
     pub settings : made.settings ≡ settings_of f.common
     pub waiting : made.waiting ≡ None
     pub ended : made.ended ≡ false

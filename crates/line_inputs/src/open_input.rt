@@ -8,7 +8,7 @@ ghost use Rattle.event_text.specs.Options.{with_options};
 ghost use Rattle.event_tree.specs.Events.{Ev};
 ghost use Rattle.line_inputs.specs.Inputs as spec;
 ghost use Rattle.line_inputs.specs.Positions.{AreReady, IsOfThese, stored};
-ghost use Rattle.line_inputs.specs.Sources.{AreCame, AssuredInPart, LastHasRoom, NextHasRoom, WasPolled, assured, events_held, files_of, passed_on, with_row};
+ghost use Rattle.line_inputs.specs.Sources.{AreCame, AssuredInPart, LastHasRoom, NextHasRoom, WasPolled, around, assured, events_held, files_of, passed_on, with_row};
 
 use crate::source::InputSource;
 use event_text::Options;
@@ -65,13 +65,19 @@ impl Model for OpenInput {
       ended = o.ended;
     } };
 
-    ghost invariant = { λ o. o.plain ≡ true → (event : Ev) → with_settings o.settings event ≡ event };
+    ghost invariant = { λ o. o.plain ≡ true
+        → (event : Ev) → with_settings o.settings event ≡ event };
 }
 
 impl OpenInput {
     /// An input of this source, whose events get these settings; those of a generator get its own.
     pub fn of(alloc: Global, source: InputSource, settings: EventSettings) -> OpenInput
-        ensures { result ≡ record { source = source; settings = settings; waiting = None; ended = false } }
+        ensures { result ≡ record {
+          source = source;
+          settings = settings;
+          waiting = None;
+          ended = false;
+        } }
     {
         let plain = is_plain(&settings);
         OpenInput {
@@ -94,11 +100,13 @@ impl OpenInput {
     ) -> Result<Got, PollFault>
         requires { AreCame I.Source F.Files L.Links self.old.source links.old }
         ensures polled { spec.coming self.old ≡ [] → WasPolled I.Source F.Files L.Links moment
-            (record { stdin_old = stdin.old; stdin_new = stdin.new; files_old = files.old; files_new = files.new; links_old = links.old; links_new = links.new })
+            (around I.Source F.Files L.Links stdin.old stdin.new files.old files.new
+            links.old links.new)
             self.old.source self.new.source result }
-        ensures stood { (spec.coming self.old ≡ [] → ⊥) → (result ≡ Ok got.Lines) × (self.new ≡ self.old)
-            × (stdin.new ≡ stdin.old) × (files.new ≡ files.old) × (links.new ≡ links.old) }
-        ensures ended { spec.coming self.old ≡ [] → self.new.ended ≡ (self.old.ended || spec.met_end result) }
+        ensures stood { (spec.coming self.old ≡ [] → ⊥) → (result ≡ Ok got.Lines)
+            × (self.new ≡ self.old) × (stdin.new ≡ stdin.old) × (files.new ≡ files.old) × (links.new ≡ links.old) }
+        ensures ended { spec.coming self.old ≡ []
+            → self.new.ended ≡ (self.old.ended || spec.met_end result) }
         ensures settings { self.new.settings ≡ self.old.settings }
         ensures waiting { self.new.waiting ≡ self.old.waiting }
         ensures stored { stored (files_of self.new.source) ≡ stored (files_of self.old.source) }

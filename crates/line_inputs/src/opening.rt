@@ -46,15 +46,18 @@ pub fn open_files<S: Store, F: Files>(
     ensures paths { IfOk result (λ w. spec.AreOfPath F.Files folder.now path.now earlier.old
         earlier.new files.old w.files) }
     ensures earlier { OnErr result (spec.BeginsWith earlier.old earlier.new) }
-    ensures open { IfOk result (λ w. spec.AreOpen S.Store F.Files folder.now plan store.old w.files) }
+    ensures open { IfOk result (λ w.
+        spec.AreOpen S.Store F.Files folder.now plan store.old w.files) }
     ensures at { IfOk result (λ w. w.at ≡ 0) }
     ensures ready { IfOk result (λ w. AreReady S.Store w.files store.new) }
     ensures damaged { (damage : DamageValue) → result ≡ Err (o.Damaged damage) → IsTrue S.tells
         → IsDamaged damage.file (recorded_in (bytes_of (S.seen store.old damage.file))) damage }
     ensures reads { IsTrue S.tells → S.seen store.new ≡ S.seen store.old }
     ensures any_moment { EachMoment S.Store store.old store.new (NowOrSynced S.Store store.old) }
-    ensures store_cause { HasCause (S.faults store.old) (S.faults store.new) (result ≡ Err o.Store) }
-    ensures files_cause { HasCause (F.faults files.old) (F.faults files.new) (result ≡ Err o.Files) }
+    ensures store_cause { HasCause (S.faults store.old) (S.faults store.new)
+        (result ≡ Err o.Store) }
+    ensures files_cause { HasCause (F.faults files.old) (F.faults files.new)
+        (result ≡ Err o.Files) }
 {
     let paths = match watched_paths(alloc, files, path, earlier.as_slice()) {
         Ok(paths) => paths,
@@ -97,8 +100,10 @@ fn open_each<S: Store, F: Files>(
         → IsDamaged damage.file (recorded_in (bytes_of (S.seen store.old damage.file))) damage }
     ensures reads { IsTrue S.tells → S.seen store.new ≡ S.seen store.old }
     ensures any_moment { EachMoment S.Store store.old store.new (NowOrSynced S.Store store.old) }
-    ensures store_cause { HasCause (S.faults store.old) (S.faults store.new) (result ≡ Err o.Store) }
-    ensures files_cause { HasCause (F.faults files.old) (F.faults files.new) (result ≡ Err o.Files) }
+    ensures store_cause { HasCause (S.faults store.old) (S.faults store.new)
+        (result ≡ Err o.Store) }
+    ensures files_cause { HasCause (F.faults files.old) (F.faults files.new)
+        (result ≡ Err o.Files) }
 {
     let mut opened = Vec::new(alloc);
     let mut slots = Names::new(alloc);
@@ -142,8 +147,10 @@ fn open_one<S: Store, F: Files>(
         → IsDamaged damage.file (recorded_in (bytes_of (S.seen store.old damage.file))) damage }
     ensures reads { IsTrue S.tells → S.seen store.new ≡ S.seen store.old }
     ensures any_moment { EachMoment S.Store store.old store.new (NowOrSynced S.Store store.old) }
-    ensures store_cause { HasCause (S.faults store.old) (S.faults store.new) (result ≡ Err o.Store) }
-    ensures files_cause { HasCause (F.faults files.old) (F.faults files.new) (result ≡ Err o.Files) }
+    ensures store_cause { HasCause (S.faults store.old) (S.faults store.new)
+        (result ≡ Err o.Store) }
+    ensures files_cause { HasCause (F.faults files.old) (F.faults files.new)
+        (result ≡ Err o.Files) }
 {
     let Ok(slot) = position_path(alloc, folder, path) else {
         return Err(OpenFault::Memory);

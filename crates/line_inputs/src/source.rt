@@ -51,7 +51,8 @@ impl InputSource {
     ) -> Result<Got, PollFault>
         requires { spec.AreCame I.Source F.Files L.Links self.old links.old }
         ensures polled { spec.WasPolled I.Source F.Files L.Links moment
-            (record { stdin_old = stdin.old; stdin_new = stdin.new; files_old = files.old; files_new = files.new; links_old = links.old; links_new = links.new })
+            (spec.around I.Source F.Files L.Links stdin.old stdin.new files.old files.new
+            links.old links.new)
             self.old self.new result }
         ensures stored { stored (spec.files_of self.new) ≡ stored (spec.files_of self.old) }
     {
@@ -147,7 +148,8 @@ impl InputSource {
         ensures err { OnErr result (spec.AssuredInPart front self.old self.new) }
         ensures any_moment { EachMoment S.Store store.old store.new
             (LeavesBeside S.Store (IsOfThese (spec.files_of self.old)) store.old) }
-        ensures beside { ReadsBeside S.Store (IsOfThese (spec.files_of self.old)) store.old store.new }
+        ensures beside { ReadsBeside S.Store (IsOfThese (spec.files_of self.old))
+            store.old store.new }
         ensures cause { HasCause (S.faults store.old) (S.faults store.new) (IsErr result) }
     {
         match self {

@@ -14,7 +14,7 @@ ghost use Rattle.line_inputs.specs.Openings.{AreOfPath, AreOpen, BeginsWith};
 ghost use Rattle.line_inputs.specs.Positions.{AreReady};
 ghost use Rattle.line_inputs.specs.Starting as spec;
 ghost use Rattle.line_inputs.specs.Starting.{IsOpenAs};
-ghost use Rattle.line_inputs.specs.Settings.{generator_of, plain_settings, settings_of};
+ghost use Rattle.line_inputs.specs.Settings.{generator_of, plain_settings, plan_of, settings_of};
 ghost use Rattle.line_inputs.specs.Sources.{files_of};
 ghost use Rattle.line_inputs.specs.declared.source.InputSource.TheVariants as source;
 
@@ -102,7 +102,7 @@ impl OpenInput {
             earlier.old earlier.new files.old (files_of input.source)) }
         ensures earlier { OnErr result (BeginsWith earlier.old earlier.new) }
         ensures open { IfOk result (λ input. AreOpen S.Store F.Files folder.now
-            (record { from_start = settings.old.from_start; ends = settings.old.ends; codec = settings.old.common.codec })
+            (plan_of settings.old)
             store.old (files_of input.source)) }
         ensures settings { IfOk result (λ input. input.settings ≡ settings_of settings.old.common) }
         ensures waiting { IfOk result (λ input. input.waiting ≡ None) }
