@@ -38,13 +38,17 @@ events_held (Generated g) = generated_events g
 events_held (Files w) = watched_events w
 events_held (Connections t) = tcp_events t
 
+-- the connections of a source that are open
+abbrev pub connections_of : InputSource → List ℕ
+connections_of (Stdin s) = []
+connections_of (Generated g) = []
+connections_of (Files w) = []
+connections_of (Connections t) = t.connections
+
 module _ {I F L : Type 0} (stdin : SourceWords I) (files : FilesWords F) (links : LinksWords L) where
   -- its connections are those that came
   abbrev pub AreCame : InputSource → L → Type 0
-  AreCame (Stdin s) l = Unit {0}
-  AreCame (Generated g) l = Unit {0}
-  AreCame (Files w) l = Unit {0}
-  AreCame (Connections t) l = AllCame (links.came l) t.connections
+  AreCame source l = AllCame (links.came l) (connections_of source)
 
   -- the outside, before a poll and behind it
   pub record Around : Type 0 where

@@ -8,7 +8,7 @@ ghost use Rattle.event_text.specs.Options.{with_options};
 ghost use Rattle.event_tree.specs.Events.{Ev};
 ghost use Rattle.line_inputs.specs.Inputs as spec;
 ghost use Rattle.line_inputs.specs.Positions.{AreReady, IsOfThese, stored};
-ghost use Rattle.line_inputs.specs.Sources.{AreCame, AssuredInPart, LastHasRoom, NextHasRoom, WasPolled, around, assured, events_held, files_of, passed_on, with_row};
+ghost use Rattle.line_inputs.specs.Sources.{AreCame, AssuredInPart, LastHasRoom, NextHasRoom, WasPolled, around, assured, connections_of, events_held, files_of, passed_on, with_row};
 
 use crate::source::InputSource;
 use event_text::Options;
@@ -133,6 +133,8 @@ impl OpenInput {
         ensures room { IfOk result (λ event. IfSome event
             (λ given. LastHasRoom self.new.source)) }
         ensures stored { stored (files_of self.new.source) ≡ stored (files_of self.old.source) }
+        ensures connections { connections_of self.new.source
+            ≡ connections_of self.old.source }
     {
         self.fetch()?;
         self.make_room()?;
@@ -148,6 +150,8 @@ impl OpenInput {
         ensures room { OnOk result (NextHasRoom self.new.source) }
         ensures events { events_held self.new.source ≡ events_held self.old.source }
         ensures stored { stored (files_of self.new.source) ≡ stored (files_of self.old.source) }
+        ensures connections { connections_of self.new.source
+            ≡ connections_of self.old.source }
         ensures rest { self.new ≡ record self.old { source = self.new.source } }
     {
         self.source.make_room()
@@ -158,6 +162,8 @@ impl OpenInput {
         ensures room { NextHasRoom self.old.source → LastHasRoom self.new.source }
         ensures events { events_held self.new.source ≡ events_held self.old.source }
         ensures stored { stored (files_of self.new.source) ≡ stored (files_of self.old.source) }
+        ensures connections { connections_of self.new.source
+            ≡ connections_of self.old.source }
         ensures rest { self.new ≡ record self.old { source = passed_on self.old.source } }
     {
         self.source.pass_on();
@@ -169,6 +175,8 @@ impl OpenInput {
         requires { LastHasRoom self.old.source }
         ensures with_row { self.new ≡ record self.old { source = with_row number self.old.source } }
         ensures stored { stored (files_of self.new.source) ≡ stored (files_of self.old.source) }
+        ensures connections { connections_of self.new.source
+            ≡ connections_of self.old.source }
     {
         self.source.note_row(number);
     }
@@ -197,6 +205,8 @@ impl OpenInput {
         ensures coming { spec.coming self.new ≡ spec.coming self.old }
         ensures none { OnOk result (self.new.waiting ≡ None → events_held self.new.source ≡ []) }
         ensures stored { stored (files_of self.new.source) ≡ stored (files_of self.old.source) }
+        ensures connections { connections_of self.new.source
+            ≡ connections_of self.old.source }
         ensures settings { self.new.settings ≡ self.old.settings }
         ensures ended { self.new.ended ≡ self.old.ended }
     {

@@ -83,6 +83,7 @@ impl InputSource {
             ≡ option_to_list event ++ spec.events_held self.new) }
         ensures none { IfOk result (λ event. IfNone event (spec.events_held self.old ≡ [])) }
         ensures stored { stored (spec.files_of self.new) ≡ stored (spec.files_of self.old) }
+        ensures connections { spec.connections_of self.new ≡ spec.connections_of self.old }
         ensures err { OnErr result (spec.events_held self.new ≡ spec.events_held self.old) }
     {
         match self {
@@ -97,6 +98,7 @@ impl InputSource {
     pub fn make_room(&mut self) -> Result<(), AllocError>
         ensures room { OnOk result (spec.NextHasRoom self.new) }
         ensures stored { stored (spec.files_of self.new) ≡ stored (spec.files_of self.old) }
+        ensures connections { spec.connections_of self.new ≡ spec.connections_of self.old }
         ensures events { spec.events_held self.new ≡ spec.events_held self.old }
     {
         match self {
@@ -111,6 +113,7 @@ impl InputSource {
     pub fn pass_on(&mut self)
         ensures passed_on { self.new ≡ spec.passed_on self.old }
         ensures stored { stored (spec.files_of self.new) ≡ stored (spec.files_of self.old) }
+        ensures connections { spec.connections_of self.new ≡ spec.connections_of self.old }
         ensures events { spec.events_held self.new ≡ spec.events_held self.old }
         ensures room { spec.NextHasRoom self.old → spec.LastHasRoom self.new }
     {
@@ -128,6 +131,7 @@ impl InputSource {
         requires { spec.LastHasRoom self.old }
         ensures with_row { self.new ≡ spec.with_row number self.old }
         ensures stored { stored (spec.files_of self.new) ≡ stored (spec.files_of self.old) }
+        ensures connections { spec.connections_of self.new ≡ spec.connections_of self.old }
     {
         match self {
             InputSource::Files(input) => input.note_row(number),
