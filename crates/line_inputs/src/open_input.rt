@@ -181,8 +181,7 @@ impl OpenInput {
         self.source.note_row(number);
     }
 
-    /// Records of each watched file the place that its rows up to a front reach, unless it is recorded already, and forgets these rows.
-    /// Takes no memory.
+    /// Records of each watched file the place that its rows up to a front reach, unless it is recorded, and forgets these rows. Takes no memory.
     ///
     /// Behind an error, which leaves the positions of the first few files recorded, the input has to be opened again.
     pub fn assure<S: Store>(&mut self, store: &mut S, front: u64) -> Result<(), Failed>

@@ -103,9 +103,9 @@ impl InputSource {
     {
         match self {
             InputSource::Files(input) => input.make_room(),
-            InputSource::Stdin(_input) => Ok(()),
-            InputSource::Generated(_input) => Ok(()),
-            InputSource::Connections(_input) => Ok(()),
+            InputSource::Stdin(_) | InputSource::Generated(_) | InputSource::Connections(_) => Ok(
+                (),
+            ),
         }
     }
 
@@ -125,8 +125,7 @@ impl InputSource {
         }
     }
 
-    /// Notes the row that the event which was handed on last became; where it is none of a watched file, there is nothing to note. Takes
-    /// no memory.
+    /// Notes the row that the event which was handed on last became, where it is one of a watched file. Takes no memory.
     pub fn note_row(&mut self, number: u64)
         requires { spec.LastHasRoom self.old }
         ensures with_row { self.new ≡ spec.with_row number self.old }
@@ -135,14 +134,11 @@ impl InputSource {
     {
         match self {
             InputSource::Files(input) => input.note_row(number),
-            InputSource::Stdin(_input) => {}
-            InputSource::Generated(_input) => {}
-            InputSource::Connections(_input) => {}
+            InputSource::Stdin(_) | InputSource::Generated(_) | InputSource::Connections(_) => {}
         }
     }
 
-    /// Records of each watched file the place that its rows up to a front reach, unless it is recorded already, and forgets these rows.
-    /// Takes no memory.
+    /// Records of each watched file the place that its rows up to a front reach, unless it is recorded, and forgets these rows. Takes no memory.
     ///
     /// Behind an error, which leaves the positions of the first few files recorded, the input has to be opened again.
     pub fn assure<S: Store>(&mut self, store: &mut S, front: u64) -> Result<(), Failed>

@@ -13,7 +13,6 @@ ghost use Rattle.line_inputs.specs.Generating.{begun as generator_begun};
 ghost use Rattle.line_inputs.specs.Openings.{AreOfPath, AreOpen, BeginsWith};
 ghost use Rattle.line_inputs.specs.Positions.{AreReady};
 ghost use Rattle.line_inputs.specs.Starting as spec;
-ghost use Rattle.line_inputs.specs.Starting.{IsOpenAs};
 ghost use Rattle.line_inputs.specs.Settings.{generator_of, plain_settings, plan_of, settings_of};
 ghost use Rattle.line_inputs.specs.Sources.{files_of};
 ghost use Rattle.line_inputs.specs.declared.source.InputSource.TheVariants as source;
@@ -141,7 +140,7 @@ impl OpenInput {
         input: &mut Input,
         watched: &mut Names,
     ) -> Result<Option<OpenInput>, OpenFault>
-        ensures open { IfOk result (IsOpenAs S.Store F.Files folder.now store.old files.old
+        ensures open { IfOk result (spec.IsOpenAs S.Store F.Files folder.now store.old files.old
             watched.old watched.new input.old) }
         ensures ready { IfOk result (λ made. IfSome made
             (λ made. AreReady S.Store (files_of made.source) store.new)) }
