@@ -14,7 +14,7 @@ use Rattle.pipeline_bus.specs.declared.parcel.Heard.TheVariants.{Assured, NotLis
 use Rattle.pipeline_bus.specs.declared.parcel.Parcel.{Parcel}
 use Rattle.pipeline_bus.proofs.Numbers.{numbered_more}
 use Rattle.event_flow.specs.Meaning.{Makes}
-use Rattle.history_book.specs.Deeds.{Deed, Tell, Send, Hear, SentTo, HeardFrom, Mail, Assurance, DeedOf, no_mail, told_of, tell_all, deeds_by, told_by, mail_of, AreTold, mail_told, mail_next, mail_after, sent_on, heard_on, says_assured, assures, assured_by, Serves, ServesAt, LeavesUnused, IsNextFor, MaySend, Leaves, LegalDeeds, LegalBehind, DidLegally, LegalDeedsTell, FrontsOfDeedsAreLegal, IsAnswered, DeliveriesAreAnswered}
+use Rattle.history_book.specs.Deeds.{Deed, Tell, Send, Hear, SentTo, HeardFrom, Mail, Assurance, DeedOf, no_mail, told_of, tell_all, deeds_by, told_by, mail_of, AreTold, mail_told, mail_next, mail_after, sent_on, heard_on, says_assured, assures, assured_by, Serves, ServesAt, LeavesUnused, IsNextFor, MaySend, Leaves, LegalBehind, DidLegally, LegalDeedsTell, FrontsOfDeedsAreLegal, IsAnswered, DeliveriesAreAnswered}
 use Rattle.history_book.specs.Entries.{Entry, Accept, Mark, Assure, Read, Back, Shed, Deliver, Letters, Ack, Purge, Adopt, Opened}
 use Rattle.history_book.specs.Legal.{Legal}
 use Rattle.history_book.specs.Lists.{IsIn}
@@ -313,10 +313,10 @@ module _ (makes : Makes) where
         answered_in s (mail_next m (Hear from a)) _ left deeds legal.1 (heard_answered m from a unused all) before rest is none
 
 pub legal_deeds_tell : LegalDeedsTell
-legal_deeds_tell makes deeds legal = legal_tell makes start no_mail [] legal.0 deeds legal.1
+legal_deeds_tell makes told deeds legal = legal_tell makes (after makes start told) no_mail [] legal.0 deeds legal.1
 
 pub fronts_are_legal : FrontsOfDeedsAreLegal
-fronts_are_legal makes deeds more legal = let front = leaves_front makes start no_mail [] legal.0 deeds more legal.1 in (front.0, front.1)
+fronts_are_legal makes told deeds more legal = let front = leaves_front makes (after makes start told) no_mail [] legal.0 deeds more legal.1 in (front.0, front.1)
 
 pub deliveries_are_answered : DeliveriesAreAnswered
 deliveries_are_answered makes told deeds legal before batch address events fates rest is none =

@@ -176,11 +176,7 @@ module _ (makes : Makes) where
       MayHear (sent_on address mail.sent) (heard_on address mail.heard) a
       × Leaves s (mail_next mail (Hear address a)) (unused ++ assured_by address a (sent_on address mail.sent)) deeds left
 
-  -- from the beginning on
-  abbrev pub LegalDeeds : List Deed → Type 0
-  LegalDeeds deeds = (left : List Assurance) × Leaves start no_mail [] deeds left
-
-  -- Behind entries of an earlier run, of which no parcel is on its way and no answer is left.
+  -- Behind entries of an earlier run, of which no parcel is on its way and no answer is left; behind none of them from the beginning on.
   abbrev pub LegalBehind : List Entry → List Deed → Type 0
   LegalBehind told deeds = (left : List Assurance) × Leaves (after makes start told) no_mail [] deeds left
 
@@ -222,13 +218,13 @@ mail_of k done = mail_after no_mail (deeds_by k done)
 
 -- ---- laws
 
--- What is legal so tells a legal history.
+-- What is legal so tells a history that is legal behind those entries.
 abbrev pub LegalDeedsTell : Type 0
-LegalDeedsTell = (makes : Makes) (deeds : List Deed) → LegalDeeds makes deeds → Legal makes start (told_of deeds)
+LegalDeedsTell = (makes : Makes) (told : List Entry) (deeds : List Deed) → LegalBehind makes told deeds → Legal makes (after makes start told) (told_of deeds)
 
 -- what was legal with more behind it was so at each moment
 abbrev pub FrontsOfDeedsAreLegal : Type 0
-FrontsOfDeedsAreLegal = (makes : Makes) (deeds more : List Deed) → LegalDeeds makes (deeds ++ more) → LegalDeeds makes deeds
+FrontsOfDeedsAreLegal = (makes : Makes) (told : List Entry) (deeds more : List Deed) → LegalBehind makes told (deeds ++ more) → LegalBehind makes told deeds
 
 -- An answer was heard from the address, and so it still is in the mail, that a parcel of exactly these events is assured.
 pub record IsAnswered (mail : Mail) (address : List ℕ) (events : List Ev) : Type 0 where

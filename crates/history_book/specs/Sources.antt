@@ -11,14 +11,14 @@ use Rattle.history_book.specs.States.{start, after}
 use Rattle.history_book.specs.Steps.{steps_of}
 
 -- Where an input looks: at the one source that it has, at a connection, by its number, or at a file that it watches.
-pub data Source : Type 0 where
-  Alone : Source
-  Connection : (number : ℕ) → Source
-  Watched : (path : List ℕ) → Source
+pub data LookSource : Type 0 where
+  Alone : LookSource
+  Connection : (number : ℕ) → LookSource
+  Watched : (path : List ℕ) → LookSource
 
 -- a look at a source, and what it brought
 pub record SourceLook : Type 0 where
-  pub source : Source
+  pub source : LookSource
   pub poll : Poll
 
 -- What an input of a statement makes of the looks that it made since it was opened: the events that these give, in order, before its own settings act on

@@ -1,9 +1,7 @@
--- What was told since a pipeline was last opened, and what that alone gave to stdout, boxes and addresses.
-use Rattle.std.specs.Prelude.{ℕ, List, [], ◌∷◌, ◌++◌, Bool, false, bytes_eq, flat_map, if◌then◌else◌, ⊤}
+-- What was told since a pipeline was last opened, and what that alone gave to stdout and boxes.
+use Rattle.std.specs.Prelude.{ℕ, List, [], ◌∷◌, ◌++◌, flat_map, if◌then◌else◌, ⊤}
 use Rattle.event_tree.specs.Events.{Ev}
 use Rattle.foreign_parts.specs.Delivering.{taken}
-use Rattle.foreign_parts.specs.declared.place.Place.{Place}
-use Rattle.foreign_parts.specs.declared.place.Place.TheVariants as place
 use Rattle.event_flow.specs.Meaning.{Makes}
 use Rattle.history_book.specs.Contents.{Bytes, next_bytes, is_stdout, is_box}
 use Rattle.history_book.specs.Entries.{Entry, Deliver, Opened}
@@ -30,19 +28,6 @@ abbrev pub given_in : ℕ → Entry → List Ev
 given_in number (Deliver batch at events fates) = if is_box number at then taken fates events else []
 given_in number e = []
 
-abbrev pub is_address : List ℕ → Place → Bool
-is_address address (place.Address other) = bytes_eq address other
-is_address address place.Stdout = false
-is_address address (place.File path) = false
-is_address address (place.Foreign number) = false
-is_address address place.Discard = false
-is_address address place.Dead = false
-
--- the events of a delivery to this address, as one
-abbrev pub sent_in : List ℕ → Entry → List (List Ev)
-sent_in address (Deliver batch at events fates) = if is_address address at then events ∷ [] else []
-sent_in address e = []
-
 -- the bytes of a delivery to stdout
 abbrev pub printed_in : Bytes → State → Entry → List ℕ
 printed_in bytes s (Deliver batch at events fates) = next_bytes bytes is_stdout (out_of batch s.out)
@@ -64,7 +49,3 @@ module _ (makes : Makes) where
 
   abbrev pub given : ℕ → List Entry → List Ev
   given number told = flat_map (λ step. given_in number step.entry) (steps_of told)
-
-  -- the deliveries to an address, each with its events
-  abbrev pub sent_to : List ℕ → List Entry → List (List Ev)
-  sent_to address told = flat_map (λ step. sent_in address step.entry) (steps_of told)

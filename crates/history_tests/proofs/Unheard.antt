@@ -29,7 +29,7 @@ none_heard m (Send address parcel ∷ deeds) hears e = none_heard (mail_next m (
 none_heard m (Hear address answer ∷ deeds) hears e = absurd hears
 
 pub unanswered_is_not_legal : UnansweredIsNotLegal
-unanswered_is_not_legal makes deeds before batch address events fates rest hears is none legal =
-    let a = deliveries_are_answered makes [] deeds legal before batch address events fates rest is none in
+unanswered_is_not_legal makes earlier deeds before batch address events fates rest hears is none legal =
+    let a = deliveries_are_answered makes earlier deeds legal before batch address events fates rest is none in
     let x : Answer = record { number = a.parcel.number; answer = Assured } in
     absurd (subst (λ (hs : List HeardFrom). IsIn x (heard_on address hs)) (none_heard no_mail deeds hears refl) a.heard)
