@@ -7,7 +7,7 @@ use Rattle.event_flow.specs.Meaning.{Makes, Due}
 use Rattle.event_flow.specs.Meaning as due
 use Rattle.dead_letters.specs.Found.{Held}
 use Rattle.dead_letters.specs.declared.shedding.Shedding.{Shedding}
-use Rattle.history_book.specs.Contents.{Bytes, Appends, AppendsTold, AppendsOf, DeadLeft, DeadAfter, DeadHolds}
+use Rattle.history_book.specs.Contents.{Clock, Appends, AppendsTold, AppendsOf, DeadLeft, DeadAfter, DeadHolds}
 use Rattle.history_book.specs.Entries.{Entry, Accept, Mark, Assure, Read, Back, Shed, Deliver, Letters, Ack, Purge, Adopt, Opened}
 use Rattle.history_book.specs.Laws.{Tells, Append, ByAppends, limits_in, WereAppended, LettersWereAppended}
 use Rattle.history_book.specs.Lists.{IsIn}
@@ -48,20 +48,20 @@ rest_known known (Adopt generation config draws) told are = are
 
 -- ---- appends
 
-module _ (known : List Limits) where
+module _ (known : List Limits) (clock : Clock) where
   -- some appends lie between
   abbrev pub Changes : Held → Held → Type 0
-  Changes old new = (appends : List Append) × ByAppends known appends old new
+  Changes old new = (appends : List Append) × ByAppends known clock appends old new
 
-  by_both : (one other : List Append) (a b c : Held) → ByAppends known one a b → ByAppends known other b c → ByAppends known (one ++ other) a c
-  by_both [] other a b c first second = subst (λ (x : Held). ByAppends known other x c) first second
+  by_both : (one other : List Append) (a b c : Held) → ByAppends known clock one a b → ByAppends known clock other b c → ByAppends known clock (one ++ other) a c
+  by_both [] other a b c first second = subst (λ (x : Held). ByAppends known clock other x c) first second
   by_both (x ∷ one) other a b c first second = (first.0, first.1, first.2, by_both one other first.0 b c first.3 second)
 
   both : (a b c : Held) → Changes a b → Changes b c → Changes a c
   both a b c one other = (one.0 ++ other.0, by_both one.0 other.0 a b c one.1 other.1)
 
   pub appends_change : (limits : Option Limits) → ((l : Limits) → limits ≡ Some l → IsIn l known) → (shed : Shedding) (parts : List DeadPart) (old new : Held)
-      → Appends limits shed parts old new → Changes old new
+      → Appends limits clock shed parts old new → Changes old new
   appends_change None are shed parts old new is = absurd is
   appends_change (Some limits) are shed parts old new is = (record { limits = limits; shed = shed; parts = parts } ∷ [], (new, are limits refl, is, refl))
 
@@ -69,17 +69,17 @@ module _ (known : List Limits) where
   same old new is = ([], is)
 
   told_change : (limits : Option Limits) → ((l : Limits) → limits ≡ Some l → IsIn l known) → (shed : Shedding) (letters : List DeadPart) (told : List Entry) (config : Config) (left : List Due)
-      (old new : Held) → AppendsTold limits shed letters told config left old new → Changes old new
+      (old new : Held) → AppendsTold limits clock shed letters told config left old new → Changes old new
   told_change limits are shed letters told config [] old new is = same old new is
   told_change limits are shed letters told config (due.Letters ds ∷ rest) old new is = appends_change limits are shed ds old new is
   told_change limits are shed letters told config (due.Events id at es ∷ rest) old new is = appends_change limits are shed is.0 old new is.3
 
   of_change : (limits : Option Limits) → ((l : Limits) → limits ≡ Some l → IsIn l known) → (shed : Shedding) (letters : List DeadPart) (told : List Entry) (o : Option Out) (old new : Held)
-      → AppendsOf limits shed letters told o old new → Changes old new
+      → AppendsOf limits clock shed letters told o old new → Changes old new
   of_change limits are shed letters told None old new is = same old new is
   of_change limits are shed letters told (Some o) old new is = told_change limits are shed letters told o.plan.config o.left old new is
 
-  module _ (makes : Makes) (bytes : Bytes) where
+  module _ (makes : Makes) where
     next_known : (s : State) (e : Entry) (told : List Entry) → AreKnown known (e ∷ told) → IsKnown known s → IsKnown known (next makes s e)
     next_known s (Accept input parcel number event) told are is = is
     next_known s (Mark front) told are is = is
@@ -95,7 +95,7 @@ module _ (known : List Limits) where
     next_known s (Opened rows limit policy) told are is =
         λ l e. are l (inl (sym (same_Some (record { limit = limit; policy = policy }) l e)))
 
-    step_changes : (s : State) (e : Entry) (told : List Entry) (old new : Held) → IsKnown known s → DeadAfter makes bytes s e told old new → Changes old new
+    step_changes : (s : State) (e : Entry) (told : List Entry) (old new : Held) → IsKnown known s → DeadAfter makes clock s e told old new → Changes old new
     step_changes s (Accept input parcel number event) told old new are is = same old new is
     step_changes s (Mark front) told old new are is = same old new is
     step_changes s (Assure input front) told old new are is = same old new is
@@ -108,9 +108,9 @@ module _ (known : List Limits) where
     step_changes s (Purge page) told old new are is = same old new is
     step_changes s (Adopt generation config draws) told old new are is = same old new is
     step_changes s (Opened rows limit policy) told old new are is =
-        ⊎_elim (λ (e : new ≡ old). same old new e) (λ (l : DeadLeft s old new). appends_change s.limits are l.shed l.parts old new l.appends) is
+        ⊎_elim (λ (e : new ≡ old). same old new e) (λ (l : DeadLeft clock s old new). appends_change s.limits are l.shed l.parts old new l.appends) is
 
-    all_change : (s : State) (told : List Entry) (base content : Held) → AreKnown known told → IsKnown known s → DeadHolds makes bytes s base told content → Changes base content
+    all_change : (s : State) (told : List Entry) (base content : Held) → AreKnown known told → IsKnown known s → DeadHolds makes clock s base told content → Changes base content
     all_change s [] base content are is holds = same base content holds
     all_change s (e ∷ told) base content are is holds =
         both base holds.0 content (step_changes s e told base holds.0 is holds.1)
@@ -125,7 +125,7 @@ module _ (known : List Limits) where
       pub old : Held
       pub first : Changes base old
       pub new : Held
-      pub made : DeadAfter makes bytes s entry rest old new
+      pub made : DeadAfter makes clock s entry rest old new
       pub since : Changes new content
       pub are : IsKnown known s
 
@@ -134,7 +134,7 @@ module _ (known : List Limits) where
         record { old = at_now.old; first = both base now at_now.old change at_now.first; new = at_now.new; made = at_now.made; since = at_now.since; are = at_now.are }
 
     pub at : (s : State) (before : List Entry) (entry : Entry) (rest : List Entry) (base content : Held) → AreKnown known (before ++ entry ∷ rest) → IsKnown known s
-        → DeadHolds makes bytes s base (before ++ entry ∷ rest) content → At (after makes s before) entry rest base content
+        → DeadHolds makes clock s base (before ++ entry ∷ rest) content → At (after makes s before) entry rest base content
     at s [] entry rest base content are is holds = record {
       old = base;
       first = same base base refl;
@@ -148,11 +148,11 @@ module _ (known : List Limits) where
         (at (next makes s e) before entry rest holds.0 content (rest_known known e (before ++ entry ∷ rest) are) (next_known s e (before ++ entry ∷ rest) are is) holds.2)
 
     made_of : (s : State) (entry : Entry) (rest : List Entry) (batch : ℕ) (o : Out) (letters : List DeadPart) (left : List Due) (old new : Held) → Tells entry batch (due.Letters letters)
-        → out_of batch s.out ≡ Some o → o.left ≡ due.Letters letters ∷ left → DeadAfter makes bytes s entry rest old new → (shed : Shedding) × Appends s.limits shed letters old new
+        → out_of batch s.out ≡ Some o → o.left ≡ due.Letters letters ∷ left → DeadAfter makes clock s entry rest old new → (shed : Shedding) × Appends s.limits clock shed letters old new
     made_of s (Letters b ds) rest batch o letters left old new tells has is made = (
       shed_in s.between,
-      subst (λ (l : List Due). AppendsTold s.limits (shed_in s.between) ds rest o.plan.config l old new) is
-          (subst (λ (x : Option Out). AppendsOf s.limits (shed_in s.between) ds rest x old new) (ap (λ (n : ℕ). out_of n s.out) tells.0 ∙ has) made),
+      subst (λ (l : List Due). AppendsTold s.limits clock (shed_in s.between) ds rest o.plan.config l old new) is
+          (subst (λ (x : Option Out). AppendsOf s.limits clock (shed_in s.between) ds rest x old new) (ap (λ (n : ℕ). out_of n s.out) tells.0 ∙ has) made),
     )
     made_of s (Deliver b place es fates) rest batch o letters left old new tells has is made = absurd (differ tells.1 tells.2)
       where
@@ -171,7 +171,7 @@ module _ (known : List Limits) where
 
   -- an append by the limits of an opening, between others
   pub appended : (base old new content : Held) (limits : Option Limits) → ((l : Limits) → limits ≡ Some l → IsIn l known) → (shed : Shedding) (letters : List DeadPart) → Changes base old
-      → Appends limits shed letters old new → Changes new content → WereAppended known base content letters
+      → Appends limits clock shed letters old new → Changes new content → WereAppended known clock base content letters
   appended base old new content None are shed letters first here since = absurd here
   appended base old new content (Some limits) are shed letters first here since = record {
     before = first.0;
@@ -187,7 +187,7 @@ module _ (known : List Limits) where
   }
 
   -- with more appends behind it, too
-  pub appended_before : (base whole content : Held) (letters : List DeadPart) → WereAppended known base whole letters → Changes whole content → WereAppended known base content letters
+  pub appended_before : (base whole content : Held) (letters : List DeadPart) → WereAppended known clock base whole letters → Changes whole content → WereAppended known clock base content letters
   appended_before base whole content letters w more = record {
     before = w.before;
     old = w.old;
@@ -206,9 +206,9 @@ pub start_known : (known : List Limits) → IsKnown known start
 start_known known = λ l e. absurd (cc)
 
 pub letters_were_appended : LettersWereAppended
-letters_were_appended makes bytes base content told plan letters holds w =
+letters_were_appended makes clock base content told plan letters holds w =
     let known = limits_in told in
     let are = subst (AreKnown known) w.parts (λ l i. i) in
-    let there = at known makes bytes start w.before w.entry w.rest base content are (start_known known) (subst (λ (l : List Entry). DeadHolds makes bytes start base l content) w.parts holds) in
-    let made = made_of known makes bytes (after makes start w.before) w.entry w.rest w.batch w.out letters w.left there.old there.new w.tells w.was_out w.next there.made in
-    appended known base there.old there.new content (after makes start w.before).limits there.are made.0 letters there.first made.1 there.since
+    let there = at known clock makes start w.before w.entry w.rest base content are (start_known known) (subst (λ (l : List Entry). DeadHolds makes clock start base l content) w.parts holds) in
+    let made = made_of known clock makes (after makes start w.before) w.entry w.rest w.batch w.out letters w.left there.old there.new w.tells w.was_out w.next there.made in
+    appended known clock base there.old there.new content (after makes start w.before).limits there.are made.0 letters there.first made.1 there.since

@@ -7,7 +7,7 @@ use Rattle.event_flow.specs.Meaning as due
 use Rattle.dead_letters.specs.Found.{Held}
 use Rattle.queue_files.specs.Folders.{folder_in}
 use Rattle.dead_letters.specs.declared.shedding.Shedding.{Shedding}
-use Rattle.history_book.specs.Contents.{Bytes, AreRejected, AppendsTold, AppendsOf, DeadAfter, FileHolds, DeadHolds, next_fates}
+use Rattle.history_book.specs.Contents.{Bytes, Clock, AreRejected, AppendsTold, AppendsOf, DeadAfter, FileHolds, DeadHolds, next_fates}
 use Rattle.history_book.specs.Entries.{Entry, Accept, Mark, Assure, Read, Back, Shed, Deliver, Letters, Ack, Purge, Adopt, Opened}
 use Rattle.history_book.specs.Holdings.{LeftIsSound, FollowingStands, OpeningStands}
 use Rattle.history_book.specs.Legal.{Legal}
@@ -29,22 +29,23 @@ module _ (makes : Makes) (bytes : Bytes) where
   file_both path s [] more base mid content holds then_more = subst (λ b. FileHolds makes bytes path s b more content) holds then_more
   file_both path s (e ∷ told) more base mid content holds then_more = (holds.0, holds.1, file_both path (next makes s e) told more holds.0 mid content holds.2 then_more)
 
+module _ (makes : Makes) (clock : Clock) where
   -- ---- dead letters
 
   -- letters that are told append by the fates of the delivery behind them alone
   told_same : (limits : Option Limits) (shed : Shedding) (letters : List DeadPart) (config : Config) (left : List Due) (told more : List Entry) (old new : Held) → next_fates told ≡ next_fates more
-      → AppendsTold limits shed letters told config left old new → AppendsTold limits shed letters more config left old new
+      → AppendsTold limits clock shed letters told config left old new → AppendsTold limits clock shed letters more config left old new
   told_same limits shed letters config [] told more old new same appends = appends
   told_same limits shed letters config (due.Letters ds ∷ rest) told more old new same appends = appends
   told_same limits shed letters config (due.Events id at es ∷ rest) told more old new same appends =
       (appends.0, subst (AreRejected config id es appends.0) same appends.1, appends.2, appends.3)
 
   of_same : (limits : Option Limits) (shed : Shedding) (letters : List DeadPart) (o : Option Out) (told more : List Entry) (old new : Held) → next_fates told ≡ next_fates more
-      → AppendsOf limits shed letters told o old new → AppendsOf limits shed letters more o old new
+      → AppendsOf limits clock shed letters told o old new → AppendsOf limits clock shed letters more o old new
   of_same limits shed letters None told more old new same appends = appends
   of_same limits shed letters (Some o) told more old new same appends = told_same limits shed letters o.plan.config o.left told more old new same appends
 
-  dead_same : (s : State) (e : Entry) (told more : List Entry) (old new : Held) → next_fates told ≡ next_fates more → DeadAfter makes bytes s e told old new → DeadAfter makes bytes s e more old new
+  dead_same : (s : State) (e : Entry) (told more : List Entry) (old new : Held) → next_fates told ≡ next_fates more → DeadAfter makes clock s e told old new → DeadAfter makes clock s e more old new
   dead_same s (Letters batch letters) told more old new same is = of_same s.limits (shed_in s.between) letters (out_of batch s.out) told more old new same is
   dead_same s (Accept input parcel number event) told more old new same is = is
   dead_same s (Mark front) told more old new same is = is
@@ -60,12 +61,12 @@ module _ (makes : Makes) (bytes : Bytes) where
 
   -- where no letters of rejected events were told last, those that were go by no entry behind them
   due_alone : (limits : Option Limits) (shed : Shedding) (s : State) (batch : ℕ) (letters : List DeadPart) (o : Option Out) (more : List Entry) (old new : Held)
-      → (tells_letters s batch letters (left_of o)).between ≡ Nothing → AppendsOf limits shed letters [] o old new → AppendsOf limits shed letters more o old new
+      → (tells_letters s batch letters (left_of o)).between ≡ Nothing → AppendsOf limits clock shed letters [] o old new → AppendsOf limits clock shed letters more o old new
   due_alone limits shed s batch letters None more old new whole appends = appends
   due_alone limits shed s batch letters (Some o) more old new whole appends = by_left o.left whole appends
     where
-      by_left : (left : List Due) → (tells_letters s batch letters left).between ≡ Nothing → AppendsTold limits shed letters [] o.plan.config left old new
-          → AppendsTold limits shed letters more o.plan.config left old new
+      by_left : (left : List Due) → (tells_letters s batch letters left).between ≡ Nothing → AppendsTold limits clock shed letters [] o.plan.config left old new
+          → AppendsTold limits clock shed letters more o.plan.config left old new
       by_left [] none a = a
       by_left (due.Letters ds ∷ rest) none a = a
       by_left (due.Events id at es ∷ rest) none a = absurd (differ none)
@@ -73,7 +74,7 @@ module _ (makes : Makes) (bytes : Bytes) where
           differ : Rejecting batch (shed_in s.between) letters ≡ Nothing → ⊥
           differ e = cc
 
-  whole_dead : (s : State) (e : Entry) (more : List Entry) (old new : Held) → (next makes s e).between ≡ Nothing → DeadAfter makes bytes s e [] old new → DeadAfter makes bytes s e more old new
+  whole_dead : (s : State) (e : Entry) (more : List Entry) (old new : Held) → (next makes s e).between ≡ Nothing → DeadAfter makes clock s e [] old new → DeadAfter makes clock s e more old new
   whole_dead s (Letters batch letters) more old new whole is = due_alone s.limits (shed_in s.between) s batch letters (out_of batch s.out) more old new whole is
   whole_dead s (Accept input parcel number event) more old new whole is = is
   whole_dead s (Mark front) more old new whole is = is
@@ -101,14 +102,14 @@ module _ (makes : Makes) (bytes : Bytes) where
   fates_alone (Adopt generation config draws) told more = refl
   fates_alone (Opened rows limit policy) told more = refl
 
-  dead_both : (s : State) (told more : List Entry) (base mid content : Held) → ((after makes s told).between ≡ Nothing) ⊎ (next_fates more ≡ None) → DeadHolds makes bytes s base told mid
-      → DeadHolds makes bytes (after makes s told) mid more content → DeadHolds makes bytes s base (told ++ more) content
-  dead_both s [] more base mid content whole holds then_more = subst (λ b. DeadHolds makes bytes s b more content) holds then_more
+  dead_both : (s : State) (told more : List Entry) (base mid content : Held) → ((after makes s told).between ≡ Nothing) ⊎ (next_fates more ≡ None) → DeadHolds makes clock s base told mid
+      → DeadHolds makes clock (after makes s told) mid more content → DeadHolds makes clock s base (told ++ more) content
+  dead_both s [] more base mid content whole holds then_more = subst (λ b. DeadHolds makes clock s b more content) holds then_more
   dead_both s (e ∷ []) more base mid content whole holds then_more = (
     holds.0,
     ⊎_elim (λ (none : (next makes s e).between ≡ Nothing). whole_dead s e more base holds.0 none holds.1)
         (λ (none : next_fates more ≡ None). dead_same s e [] more base holds.0 (sym none) holds.1) whole,
-    subst (λ b. DeadHolds makes bytes (next makes s e) b more content) holds.2 then_more,
+    subst (λ b. DeadHolds makes clock (next makes s e) b more content) holds.2 then_more,
   )
   dead_both s (e ∷ x ∷ told) more base mid content whole holds then_more =
       (holds.0, dead_same s e (x ∷ told) (x ∷ (told ++ more)) base holds.0 (fates_alone x told more) holds.1, dead_both (next makes s e) (x ∷ told) more holds.0 mid content whole holds.2 then_more)
@@ -131,7 +132,7 @@ module _ (makes : Makes) (bytes : Bytes) (places : Places) where
     legal = legal_both makes bytes start told more stands.legal follows.legal;
     queue = subst (λ s. IsQueueAt s new.queue) (sym (after_both makes start told more)) follows.queue;
     files = λ file i. file_both makes bytes file.path start told more file.base (old.content file i) (new.content file i) (stands.files file i) (follows.files file i);
-    dead = dead_both makes bytes start told more places.dead_base old.dead new.dead follows.whole stands.dead follows.dead;
+    dead = dead_both makes places.clock start told more places.dead_base old.dead new.dead follows.whole stands.dead follows.dead;
   }
 
   pub opening_stands : OpeningStands makes bytes places
@@ -145,5 +146,5 @@ module _ (makes : Makes) (bytes : Bytes) (places : Places) where
             let f = sound.files file j in
             file_both makes bytes file.path start told (e ∷ []) file.base f.whole (h.content file j) f.allowed
             (f.content, f.or_more, opened.files file j);
-        dead = dead_both makes bytes start told (e ∷ []) places.dead_base sound.dead.whole h.dead (inr refl) sound.dead.allowed (sound.dead.held, sound.dead.or_more, opened.dead);
+        dead = dead_both makes places.clock start told (e ∷ []) places.dead_base sound.dead.whole h.dead (inr refl) sound.dead.allowed (sound.dead.held, sound.dead.or_more, opened.dead);
       }

@@ -9,7 +9,7 @@ use Rattle.event_flow.specs.Meaning.{Makes, Due}
 use Rattle.event_flow.specs.Meaning as due
 use Rattle.dead_letters.specs.Found.{Held}
 use Rattle.dead_letters.specs.declared.shedding.Shedding.{Shedding}
-use Rattle.history_book.specs.Contents.{Bytes, Appends, AppendsTold, AppendsOf, DeadHolds}
+use Rattle.history_book.specs.Contents.{Clock, Appends, AppendsTold, AppendsOf, DeadHolds}
 use Rattle.history_book.specs.Entries.{Entry, Accept, Mark, Assure, Read, Back, Shed, Deliver, Letters, Ack, Purge, Adopt, Opened}
 use Rattle.history_book.specs.Laws.{Tells, fates_of, limits_in, WereAppended, RejectionsWereAppended}
 use Rattle.history_book.specs.Legal.{rejections, WereTold, AreNextLetters, MayDeliver, MayTellLetters, Legal_at, Legal}
@@ -114,23 +114,23 @@ outs_stay : (s : State) (batch : ℕ) (ls : List DeadPart) (left : List Due) (id
     → (tells_letters s batch ls left).out ≡ s.out
 outs_stay s batch ls left id at es rest is = ap (λ (l : List Due). (tells_letters s batch ls l).out) is
 
-module _ (known : List Limits) (makes : Makes) (bytes : Bytes) (base content : Held) (s : State) (rest : List Entry) (b batch : ℕ) (place : Place) (es : List Ev) (fates : List Fate) where
+module _ (known : List Limits) (makes : Makes) (clock : Clock) (base content : Held) (s : State) (rest : List Entry) (b batch : ℕ) (place : Place) (es : List Ev) (fates : List Fate) where
   -- what was appended where the letters were told, with the delivery behind them
   parts_of : (o : Out) (shed : Shedding) (ls : List DeadPart) (id : List ℕ) (at_place : Place) (events : List Ev) (left : List Due) (old new : Held) → o.left ≡ due.Events id at_place events ∷ left
-      → AppendsOf s.limits shed ls (Deliver b place es fates ∷ rest) (Some o) old new → Appends s.limits shed (rejections o.plan.config id fates es) old new
+      → AppendsOf s.limits clock shed ls (Deliver b place es fates ∷ rest) (Some o) old new → Appends s.limits clock shed (rejections o.plan.config id fates es) old new
   parts_of o shed ls id at_place events left old new is made =
-      let told = subst (λ (l : List Due). AppendsTold s.limits shed ls (Deliver b place es fates ∷ rest) o.plan.config l old new) is made in
-      subst (λ (parts : List DeadPart). Appends s.limits shed parts old new) told.1 told.3
+      let told = subst (λ (l : List Due). AppendsTold s.limits clock shed ls (Deliver b place es fates ∷ rest) o.plan.config l old new) is made in
+      subst (λ (parts : List DeadPart). Appends s.limits clock shed parts old new) told.1 told.3
 
-module _ (makes : Makes) (bytes : Bytes) (base content : Held) (told : List Entry) (plan : Plan) (id : List ℕ) (at_place : Place) (events : List Ev) (legal : Legal makes start told)
-    (holds : DeadHolds makes bytes start base told content) (before : List Entry) (rest : List Entry) (batch : ℕ) (o : Out) (left : List Due)
+module _ (makes : Makes) (clock : Clock) (base content : Held) (told : List Entry) (plan : Plan) (id : List ℕ) (at_place : Place) (events : List Ev) (legal : Legal makes start told)
+    (holds : DeadHolds makes clock start base told content) (before : List Entry) (rest : List Entry) (batch : ℕ) (o : Out) (left : List Due)
     (was_out : out_of batch (after makes start before).out ≡ Some o) (next_is : o.left ≡ due.Events id at_place events ∷ left) where
   abbrev known : List Limits
   known = limits_in told
 
   module _ (b : ℕ) (place : Place) (es : List Ev) (fates : List Fate) (parts : told ≡ before ++ Deliver b place es fates ∷ rest) (same_events : es ≡ events) where
     abbrev Result : Type 0
-    Result = (rejections o.plan.config id fates es ≡ []) ⊎ WereAppended known base content (rejections o.plan.config id fates es)
+    Result = (rejections o.plan.config id fates es ≡ []) ⊎ WereAppended known clock base content (rejections o.plan.config id fates es)
 
     by_last : (shed : Shedding) (ls : List DeadPart) → IsLast batch shed ls makes start before → Result
     by_last shed ls last =
@@ -139,16 +139,16 @@ module _ (makes : Makes) (bytes : Bytes) (base content : Held) (told : List Entr
         let whole : told ≡ last.before ++ Letters batch ls ∷ Deliver b place es fates ∷ rest
         = parts ∙ ap (λ (l : List Entry). l ++ Deliver b place es fates ∷ rest) last.parts ∙ append_assoc last.before (last.entry ∷ []) (Deliver b place es fates ∷ rest)
         ∙ ap (λ (e : Entry). last.before ++ e ∷ Deliver b place es fates ∷ rest) entry_is in
-        let there = at known makes bytes start last.before (Letters batch ls) (Deliver b place es fates ∷ rest) base content
-        (subst (AreKnown known) whole (λ l i. i)) (start_known known) (subst (λ (l : List Entry). DeadHolds makes bytes start base l content) whole holds) in
+        let there = at known clock makes start last.before (Letters batch ls) (Deliver b place es fates ∷ rest) base content
+        (subst (AreKnown known) whole (λ l i. i)) (start_known known) (subst (λ (l : List Entry). DeadHolds makes clock start base l content) whole holds) in
         let after_is : after makes start before ≡ next makes s (Letters batch ls)
         = ap (after makes start) last.parts ∙ after_both makes start last.before (last.entry ∷ []) ∙ ap (next makes s) entry_is in
         let outs : (after makes start before).out ≡ s.out
         = ap (λ (x : State). x.out) after_is ∙ outs_stay s batch ls (left_of (out_of batch s.out)) last.tells.id last.tells.at last.tells.events last.tells.rest last.tells.next in
         let out_there : out_of batch s.out ≡ Some o = ap (out_of batch) (sym outs) ∙ was_out in
-        let made = subst (λ (x : Option Out). AppendsOf s.limits (shed_in s.between) ls (Deliver b place es fates ∷ rest) x there.old there.new) out_there there.made in
-        let appends = parts_of known makes bytes base content s rest b batch place es fates o (shed_in s.between) ls id at_place events left there.old there.new next_is made in
-        inr (appended known base there.old there.new content s.limits there.are (shed_in s.between) (rejections o.plan.config id fates es) there.first appends there.since)
+        let made = subst (λ (x : Option Out). AppendsOf s.limits clock (shed_in s.between) ls (Deliver b place es fates ∷ rest) x there.old there.new) out_there there.made in
+        let appends = parts_of known makes clock base content s rest b batch place es fates o (shed_in s.between) ls id at_place events left there.old there.new next_is made in
+        inr (appended known clock base there.old there.new content s.limits there.are (shed_in s.between) (rejections o.plan.config id fates es) there.first appends there.since)
 
     by_between : (between : Between) → (after makes start before).between ≡ between → b ≡ batch → WereTold between b (rejections o.plan.config id fates es) → Result
     by_between Nothing is same none = inl none
@@ -168,7 +168,7 @@ module _ (makes : Makes) (bytes : Bytes) (base content : Held) (told : List Entr
         (subst (λ (x : Out). WereTold (after makes start before).between b (rejections x.plan.config may.id fates es)) one may.told))
 
   abbrev Whole : Entry → Type 0
-  Whole e = (rejections plan.config id (fates_of e) events ≡ []) ⊎ WereAppended known base content (rejections plan.config id (fates_of e) events)
+  Whole e = (rejections plan.config id (fates_of e) events ≡ []) ⊎ WereAppended known clock base content (rejections plan.config id (fates_of e) events)
 
   same_list : (x y : List ℕ) (p q : Place) (u v : List Ev) → due.Events x p u ≡ due.Events y q v → v ≡ u
   same_list x y p q u v e = cc
@@ -179,8 +179,8 @@ module _ (makes : Makes) (bytes : Bytes) (base content : Held) (told : List Entr
   of_entry : (e : Entry) → told ≡ before ++ e ∷ rest → o.plan ≡ plan → Tells e batch (due.Events id at_place events) → Legal_at makes (after makes start before) e → Whole e
   of_entry (Deliver b place es fates) parts plan_is tells may =
       let es_is = same_list id tells.1 at_place place events es tells.2 in
-      subst (λ (p : Plan). (rejections p.config id fates events ≡ []) ⊎ WereAppended known base content (rejections p.config id fates events)) plan_is
-      (subst (λ (v : List Ev). (rejections o.plan.config id fates v ≡ []) ⊎ WereAppended known base content (rejections o.plan.config id fates v)) es_is
+      subst (λ (p : Plan). (rejections p.config id fates events ≡ []) ⊎ WereAppended known clock base content (rejections p.config id fates events)) plan_is
+      (subst (λ (v : List Ev). (rejections o.plan.config id fates v ≡ []) ⊎ WereAppended known clock base content (rejections o.plan.config id fates v)) es_is
       (of_delivery b place es fates parts es_is tells.0 may))
   of_entry (Letters b ds) parts plan_is tells may = absurd (no_letters tells.1 tells.2)
   of_entry (Accept input parcel number event) parts plan_is tells may = absurd tells
@@ -195,6 +195,6 @@ module _ (makes : Makes) (bytes : Bytes) (base content : Held) (told : List Entr
   of_entry (Opened rows limit policy) parts plan_is tells may = absurd tells
 
 pub rejections_were_appended : RejectionsWereAppended
-rejections_were_appended makes bytes base content told plan id at_place events legal holds w =
+rejections_were_appended makes clock base content told plan id at_place events legal holds w =
     let legal_there = legal_rest makes start w.before (w.entry ∷ w.rest) (subst (Legal makes start) w.parts legal) in
-    of_entry makes bytes base content told plan id at_place events legal holds w.before w.rest w.batch w.out w.left w.was_out w.next w.entry w.parts w.plan_is w.tells legal_there.0
+    of_entry makes clock base content told plan id at_place events legal holds w.before w.rest w.batch w.out w.left w.was_out w.next w.entry w.parts w.plan_is w.tells legal_there.0

@@ -46,17 +46,17 @@ module _ (makes : Makes) (bytes : Bytes) (places : Places) (told : List Entry) (
   )
 
   -- what was appended was so in what is found, too
-  in_held : (dead : DeadSound makes bytes places.dead places.dead_base told i) (letters : List DeadPart) → WereAppended (limits_in told) places.dead_base dead.whole letters
-      → WereAppended (limits_in told) places.dead_base dead.held letters
+  in_held : (dead : DeadSound makes places.clock places.dead places.dead_base told i) (letters : List DeadPart) → WereAppended (limits_in told) places.clock places.dead_base dead.whole letters
+      → WereAppended (limits_in told) places.clock places.dead_base dead.held letters
   in_held dead letters appended =
       ⊎_elim
-      (λ (same : dead.held ≡ dead.whole). subst (λ (h : Held). WereAppended (limits_in told) places.dead_base h letters) (sym same) appended)
-      (λ (l : DeadLeft (after makes start told) dead.whole dead.held).
-      appended_before (limits_in told) places.dead_base dead.whole dead.held letters appended
-      (appends_change (limits_in told) (after makes start told).limits (end_known (limits_in told) makes bytes start told (λ l i. i) (start_known (limits_in told))) l.shed l.parts dead.whole dead.held l.appends))
+      (λ (same : dead.held ≡ dead.whole). subst (λ (h : Held). WereAppended (limits_in told) places.clock places.dead_base h letters) (sym same) appended)
+      (λ (l : DeadLeft places.clock (after makes start told) dead.whole dead.held).
+      appended_before (limits_in told) places.clock places.dead_base dead.whole dead.held letters appended
+      (appends_change (limits_in told) places.clock (after makes start told).limits (end_known (limits_in told) places.clock makes start told (λ l i. i) (start_known (limits_in told))) l.shed l.parts dead.whole dead.held l.appends))
       dead.or_more
 
-  pub all_stands : ((file : FilePlace) → IsIn file places.files → FileSound makes bytes file told i) → DeadSound makes bytes places.dead places.dead_base told i → WasDelivered makes start told row → AllStands makes bytes places told i row
+  pub all_stands : ((file : FilePlace) → IsIn file places.files → FileSound makes bytes file told i) → DeadSound makes places.clock places.dead places.dead_base told i → WasDelivered makes start told row → AllStands makes bytes places told i row
   all_stands files dead w = record {
     delivered = w;
     in_files = λ file is id events due_there.
@@ -75,7 +75,7 @@ module _ (makes : Makes) (bytes : Bytes) (places : Places) (told : List Entry) (
         let was = deliveries_were_told makes told row legal w (due.Letters letters) due_there in
         let since = subst (λ (l : List Entry). WasTold makes start l w.out.plan (due.Letters letters)) (sym w.parts)
         (told_since makes w.out.plan (due.Letters letters) w.before (Ack w.batch ∷ w.rest) was) in
-        (dead.held, dead.is_found, in_held dead letters (letters_were_appended makes bytes places.dead_base dead.whole told w.out.plan letters dead.allowed since));
+        (dead.held, dead.is_found, in_held dead letters (letters_were_appended makes places.clock places.dead_base dead.whole told w.out.plan letters dead.allowed since));
     in_rejections = λ id at events due_there.
         let was = deliveries_were_told makes told row legal w (due.Events id at events) due_there in
         let since = subst (λ (l : List Entry). WasTold makes start l w.out.plan (due.Events id at events)) (sym w.parts)
@@ -83,8 +83,8 @@ module _ (makes : Makes) (bytes : Bytes) (places : Places) (told : List Entry) (
         let parts = rejections w.out.plan.config id (fates_of since.entry) events in (
           since,
           ⊎_elim (λ (none : parts ≡ []). inl none)
-              (λ (a : WereAppended (limits_in told) places.dead_base dead.whole parts). inr (dead.held, dead.is_found, in_held dead parts a))
-              (rejections_were_appended makes bytes places.dead_base dead.whole told w.out.plan id at events legal dead.allowed since),
+              (λ (a : WereAppended (limits_in told) places.clock places.dead_base dead.whole parts). inr (dead.held, dead.is_found, in_held dead parts a))
+              (rejections_were_appended makes places.clock places.dead_base dead.whole told w.out.plan id at events legal dead.allowed since),
         );
   }
 

@@ -1,5 +1,5 @@
 -- Where pipelines keep what they hold, by the folders of their settings; and how the map of bases grows in a run.
-use Rattle.std.specs.Prelude.{◌≡◌, ◌⊎◌, ℕ, true, List, [], ◌++◌, Option, Some, Ok}
+use Rattle.std.specs.Prelude.{◌≡◌, ◌⊎◌, ℕ, ℤ, true, List, [], ◌++◌, Option, Some, Ok}
 use Rattle.io_traits.specs.Folders.{Content}
 use Rattle.io_traits.specs.Reads.{bytes_of}
 use Rattle.event_tree.specs.Events.{Ev}
@@ -10,7 +10,7 @@ use Rattle.event_flow.specs.Parts.{parts_of}
 use Rattle.event_flow.specs.Places.{Draws, places_of}
 use Rattle.slot_files.specs.Names.{position_name}
 use Rattle.slot_files.specs.declared.name.PositionOf.TheVariants.{Output, Input as Watched_by_input}
-use Rattle.dead_letters.specs.Found.{found as dead_found}
+use Rattle.dead_letters.specs.Found.{Held, found as dead_found}
 use Rattle.queue_files.specs.Folders.{names_in}
 use Rattle.history_book.specs.Deeds.{DeedOf, told_by}
 use Rattle.history_book.specs.Entries.{Entry, Adopt}
@@ -67,13 +67,15 @@ pub record BeganReading (m : Meanings) (files : Content) (file : WatchedFile) : 
   pub begins : file.base ≡ m.sources.begins statement bytes
 
 -- A run keeps the map of bases with these changes alone: a place that it opens first has what stood there when the run began, and so have the dead letters of a pipeline
--- that told nothing before; a watched file without a recorded position has the place where its reading began; and where it opens pipelines, stdout and boxes have
--- what they held when it began.
-pub record Extends (m : Meanings) (first : List DeedOf) (stood : ℕ → Content) (files : Content) (began : Outputs) (old new : Bases) : Type 0 where
+-- that told nothing before; a watched file without a recorded position has the place where its reading began; what the clock gave in the run may join what it gave before;
+-- and where it opens pipelines, stdout and boxes have what they held when it began.
+pub record Extends (m : Meanings) (first : List DeedOf) (stood : ℕ → Content) (files : Content) (asked : List ℤ) (began : Outputs) (old new : Bases) : Type 0 where
   pub queue : (k : ℕ) → (new.places k).queue ≡ (old.places k).queue
   pub dead : (k : ℕ) → (new.places k).dead ≡ (old.places k).dead
   pub dead_base : (k : ℕ) → ((new.places k).dead_base ≡ (old.places k).dead_base)
       ⊎ ((told_by k first ≡ []) × (dead_found (new.places k).dead (stood k) ≡ Ok (new.places k).dead_base))
+  pub clock_stays : (k : ℕ) (h : Held) (t : ℤ) → IsIn t ((old.places k).clock h) → IsIn t ((new.places k).clock h)
+  pub clock_comes : (k : ℕ) (h : Held) (t : ℤ) → IsIn t ((new.places k).clock h) → IsIn t ((old.places k).clock h) ⊎ IsIn t asked
   pub files_stay : (k : ℕ) (file : FilePlace) → IsIn file (old.places k).files → IsIn file (new.places k).files
   pub files_come : (k : ℕ) (file : FilePlace) → IsIn file (new.places k).files → IsIn file (old.places k).files ⊎ (file.base ≡ bytes_of (stood k file.path))
   pub watched_stay : (k : ℕ) (file : WatchedFile) → IsIn file (old.watched k) → IsIn file (new.watched k)

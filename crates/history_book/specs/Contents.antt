@@ -1,5 +1,5 @@
 -- What destinations hold after a history.
-use Rattle.std.specs.Prelude.{◌≡◌, ◌≢◌, ◌⊎◌, ℕ, List, [], ◌∷◌, ◌++◌, map, Bool, true, false, Option, Some, None, bytes_eq, nat_eq, if◌then◌else◌, ⊤}
+use Rattle.std.specs.Prelude.{◌≡◌, ◌≢◌, ◌⊎◌, ℕ, List, [], ◌∷◌, ◌++◌, map, Bool, true, false, ℤ, Option, Some, None, bytes_eq, nat_eq, if◌then◌else◌, ⊤}
 use Rattle.settings_lines.specs.declared.settings.Policy.TheVariants.{Hold}
 use Rattle.event_tree.specs.Events.{Ev}
 use Rattle.event_tree.specs.declared.lists.DeadPart.{DeadPart}
@@ -62,22 +62,28 @@ is_box number place.Dead = false
 
 -- ---- dead letters
 
+-- what the clock gave in a call that appends to dead letters which hold this
+abbrev pub Clock : Type 0
+Clock = Held → List ℤ
+
 abbrev pub part_of : DeadLetter → DeadPart
 part_of l = record { kind = l.kind; id = l.id; reason = l.reason; event = l.event }
 
--- Letters with these parts were appended, each with a moment, as records that read. What was shed is what the policy and the limit say; under `hold` nothing may be.
-pub record Appended (limits : Limits) (shed : Shedding) (parts : List DeadPart) (old new : Held) : Type 0 where
+-- Letters with these parts were appended, as records that read, each at a moment that the clock gave in the call. What was shed is what the policy and the limit say; under
+-- `hold` nothing may be.
+pub record Appended (limits : Limits) (clock : Clock) (shed : Shedding) (parts : List DeadPart) (old new : Held) : Type 0 where
   pub letters : List DeadLetter
   pub parts_are : map part_of letters ≡ parts
   pub are_letters : AreLetters letters
+  pub moments : (l : DeadLetter) → IsIn l letters → IsIn l.moment (clock old)
   pub shed_is : shed ≡ shed_of limits.policy limits.limit old letters
   pub none_held_back : limits.policy ≡ Hold → shed ≡ shedding 0 []
   pub new_is : new ≡ append_to limits.limit old shed letters
 
 -- an append of these, by the limits of the last opening
-abbrev pub Appends : Option Limits → Shedding → List DeadPart → Held → Held → Type 0
-Appends None shed parts old new = ⊥
-Appends (Some limits) shed parts old new = Appended limits shed parts old new
+abbrev pub Appends : Option Limits → Clock → Shedding → List DeadPart → Held → Held → Type 0
+Appends None clock shed parts old new = ⊥
+Appends (Some limits) clock shed parts old new = Appended limits clock shed parts old new
 
 -- the fates of the delivery that is told next, with its events
 abbrev pub next_fates : List Entry → Option (List Fate × List Ev)
@@ -91,16 +97,16 @@ AreRejected config id es parts None = AreRejections config id parts es × (parts
 AreRejected config id es parts (Some next) = parts ≡ rejections config id next.0 next.1
 
 -- What is appended where letters are told: those that are due, or those of what the next delivery rejects, of which these are told that aren't shed.
-abbrev pub AppendsTold : Option Limits → Shedding → List DeadPart → List Entry → Config → List Due → Held → Held → Type 0
-AppendsTold limits shed letters told config [] old new = new ≡ old
-AppendsTold limits shed letters told config (due.Letters ds ∷ rest) old new = Appends limits shed ds old new
-AppendsTold limits shed letters told config (due.Events id at es ∷ rest) old new =
-    (parts : List DeadPart) × AreRejected config id es parts (next_fates told) × (letters ≡ kept_from shed.newer 0 parts) × Appends limits shed parts old new
+abbrev pub AppendsTold : Option Limits → Clock → Shedding → List DeadPart → List Entry → Config → List Due → Held → Held → Type 0
+AppendsTold limits clock shed letters told config [] old new = new ≡ old
+AppendsTold limits clock shed letters told config (due.Letters ds ∷ rest) old new = Appends limits clock shed ds old new
+AppendsTold limits clock shed letters told config (due.Events id at es ∷ rest) old new =
+    (parts : List DeadPart) × AreRejected config id es parts (next_fates told) × (letters ≡ kept_from shed.newer 0 parts) × Appends limits clock shed parts old new
 
 -- the same of a batch, if it is out
-abbrev pub AppendsOf : Option Limits → Shedding → List DeadPart → List Entry → Option Out → Held → Held → Type 0
-AppendsOf limits shed letters told None old new = new ≡ old
-AppendsOf limits shed letters told (Some o) old new = AppendsTold limits shed letters told o.plan.config o.left old new
+abbrev pub AppendsOf : Option Limits → Clock → Shedding → List DeadPart → List Entry → Option Out → Held → Held → Type 0
+AppendsOf limits clock shed letters told None old new = new ≡ old
+AppendsOf limits clock shed letters told (Some o) old new = AppendsTold limits clock shed letters told o.plan.config o.left old new
 
 -- the next delivery of this batch would append these letters: those that are due, or those of some events that its box rejects
 abbrev pub MayAppend : Out → List Due → List DeadPart → Type 0
@@ -127,14 +133,14 @@ FitsTold (Shed_of b told) batch shed = (b ≡ batch) × (shed ≡ told)
 FitsTold (Rejecting b told letters) batch shed = ⊥
 
 -- in the dead letter queue
-pub record DeadLeft (s : State) (old new : Held) : Type 0 where
+pub record DeadLeft (clock : Clock) (s : State) (old new : Held) : Type 0 where
   pub out : Out
   pub is_out : IsIn out s.out
   pub parts : List DeadPart
   pub may : MayAppend out out.left parts
   pub shed : Shedding
   pub told : FitsTold s.between out.batch shed
-  pub appends : Appends s.limits shed parts old new
+  pub appends : Appends s.limits clock shed parts old new
 
 -- ---- what stands there after a history
 
@@ -159,10 +165,11 @@ module _ (makes : Makes) (bytes : Bytes) where
     FileHolds s base [] content = content ≡ base
     FileHolds s base (e ∷ told) content = (now : List ℕ) × FileAfter s e base now × FileHolds (next makes s e) now told content
 
+module _ (makes : Makes) (clock : Clock) where
   -- what an entry makes of the dead letter queue, where these are told behind it
   abbrev pub DeadAfter : State → Entry → List Entry → Held → Held → Type 0
-  DeadAfter s (Letters batch letters) told old new = AppendsOf s.limits (shed_in s.between) letters told (out_of batch s.out) old new
-  DeadAfter s (Opened rows limit policy) told old new = (new ≡ old) ⊎ DeadLeft s old new
+  DeadAfter s (Letters batch letters) told old new = AppendsOf s.limits clock (shed_in s.between) letters told (out_of batch s.out) old new
+  DeadAfter s (Opened rows limit policy) told old new = (new ≡ old) ⊎ DeadLeft clock s old new
   DeadAfter s (Deliver batch at events fates) told old new = new ≡ old
   DeadAfter s (Accept input parcel number event) told old new = new ≡ old
   DeadAfter s (Mark front) told old new = new ≡ old

@@ -1,7 +1,7 @@
 -- What the call of the program ensures of events: whatever the order of steps, of returning batches and of reloads, and wherever a stop falls, each event acknowledged to
 -- its input stands unacknowledged in its queue, or everything that the configuration under which it was read derives from it stands in the destinations that its conditionals
 -- select or in the dead letter queue; and destinations hold nothing else. No call ensures it yet: the names are those of the definitions below it.
-use Rattle.std.specs.Prelude.{◌≡◌, ℕ, true, Bool, List, [], ◌∷◌, ◌++◌, Option, Some, None, if◌then◌else◌, ⊤}
+use Rattle.std.specs.Prelude.{◌≡◌, ℕ, ℤ, true, Bool, List, [], ◌∷◌, ◌++◌, Option, Some, None, if◌then◌else◌, ⊤}
 use Rattle.io_traits.specs.Folders.{Content}
 use Rattle.io_traits.specs.Images.{Image}
 use Rattle.config_tree.specs.declared.tree.Config.{Config}
@@ -34,8 +34,9 @@ pub record Set : Type 0 where
   pub read : List Config
 
 -- A call of the program: the pipelines that it ran, by their numbers, as they are set; what its book was told before it and in it; what each pipeline's store read when
--- it began; which images each store might leave when it began, at some moment of it, and at its return; the watched files when it began and at its return; what
--- stdout and boxes held when it began, and what they hold at its return, where a pipeline was opened over them; and the looks that its inputs made, of a pipeline that was opened.
+-- it began; which images each store might leave when it began, at some moment of it, and at its return; the watched files when it began and at its return; what the clock
+-- gave in it; what stdout and boxes held when it began, and what they hold at its return, where a pipeline was opened over them; and the looks that its inputs made, of a
+-- pipeline that was opened.
 pub record ProgramCall : Type 1 where
   pub runs : ℕ → Bool
   pub set : ℕ → Set
@@ -47,6 +48,7 @@ pub record ProgramCall : Type 1 where
   pub may_leave : ℕ → Image → Type 0
   pub files_before : Content
   pub files : Content
+  pub asked : List ℤ
   pub began : Outputs
   pub outputs : Option Outputs
   pub looks : ℕ → ℕ → List SourceLook
@@ -90,14 +92,14 @@ module _ (m : Meanings) (c : ProgramCall) where
     pub told_is : tells_of (all_done steps) ≡ c.told
     pub as_set : (k : ℕ) (e : Entry) → IsIn (k, e) c.told → (c.runs k ≡ true) × IsAsSet (c.set k) e
     pub bases : Bases
-    pub extends : Extends m first c.stood c.files c.began old bases
+    pub extends : Extends m first c.stood c.files c.asked c.began old bases
     -- the links behind the last step; at the return, by any status, the run agrees with every combination of what stores may leave then
     pub last : List Link
     pub at_return : (images : ℕ → Image) → ((k : ℕ) → c.may_leave k (images k) × HasNoChance bases k (images k))
         → Covers m folders (first ++ all_done steps) (around images) bases × ((sound : RunSound m bases first steps (around images)) × (sound.last ≡ last))
     -- at every moment of the call each pipeline agrees with what a stop leaves of its store then, by what it told up to some moment; a place counts from its first opening on
     pub inside : (k : ℕ) (i : Image) → c.may_leave_inside k i → HasNoChance bases k i
-        → (now : Bases) × Extends m first c.stood c.files c.began old now × StandsInside m now k (told_by k first) (deeds_by k (all_done steps)) c.files i
+        → (now : Bases) × Extends m first c.stood c.files c.asked c.began old now × StandsInside m now k (told_by k first) (deeds_by k (all_done steps)) c.files i
     -- and where nothing was left to do, or the call was told to stop
     pub done : c.ended ≡ Done → (k : ℕ) (i : Image) → c.runs k ≡ true → c.may_leave k i → HasNoChance bases k i
         → IsDone m.makes m.listening m.sources (bases.places k) (first ++ all_done steps) last k (c.looks k) i

@@ -27,14 +27,14 @@ module _ (makes : Makes) (bytes : Bytes) (places : Places) where
     pub legal : Legal makes start told
     pub queue : IsQueueAt (after makes start told) h.queue
     pub files : (file : FilePlace) → (i : IsIn file places.files) → FileHolds makes bytes file.path start file.base told (h.content file i)
-    pub dead : DeadHolds makes bytes start places.dead_base told h.dead
+    pub dead : DeadHolds makes places.clock start places.dead_base told h.dead
 
   -- What a stop leaves of them: the queue, and of files and dead letters what they held or that with the next delivery of a batch that is out.
   pub record StopLeaves (told : List Entry) (h : Holdings places) (i : Image) : Type 0 where
     pub queue : Kept h.queue (folder_in places.queue i)
     pub files : (file : FilePlace) → (j : IsIn file places.files)
         → (content : List ℕ) × Holds file.path file.slot content i × ((content ≡ h.content file j) ⊎ FileLeft bytes file.path (after makes start told) (h.content file j) content)
-    pub dead : (held : Held) × (dead_found places.dead (left_in i) ≡ Ok held) × ((held ≡ h.dead) ⊎ DeadLeft (after makes start told) h.dead held)
+    pub dead : (held : Held) × (dead_found places.dead (left_in i) ≡ Ok held) × ((held ≡ h.dead) ⊎ DeadLeft places.clock (after makes start told) h.dead held)
 
   -- it agrees with the history
   abbrev pub LeftIsSound : Type 0
@@ -47,7 +47,7 @@ module _ (makes : Makes) (bytes : Bytes) (places : Places) where
     pub legal : Legal makes (after makes start told) more
     pub queue : IsQueueAt (after makes (after makes start told) more) new.queue
     pub files : (file : FilePlace) → (i : IsIn file places.files) → FileHolds makes bytes file.path (after makes start told) (old.content file i) more (new.content file i)
-    pub dead : DeadHolds makes bytes (after makes start told) old.dead more new.dead
+    pub dead : DeadHolds makes places.clock (after makes start told) old.dead more new.dead
 
   abbrev pub FollowingStands : Type 0
   FollowingStands = (told more : List Entry) (old new : Holdings places) → HoldsTold told old → Follows told more old new → HoldsTold (told ++ more) new

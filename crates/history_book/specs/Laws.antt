@@ -12,7 +12,7 @@ use Rattle.event_flow.specs.Meaning as due
 use Rattle.queue_files.specs.Found.{Found}
 use Rattle.dead_letters.specs.Found.{Held}
 use Rattle.dead_letters.specs.declared.shedding.Shedding.{Shedding}
-use Rattle.history_book.specs.Contents.{Bytes, Appended, FileHolds, DeadHolds}
+use Rattle.history_book.specs.Contents.{Bytes, Clock, Appended, FileHolds, DeadHolds}
 use Rattle.history_book.specs.Entries.{Entry, Accept, Mark, Assure, Read, Back, Shed, Deliver, Letters, Ack, Purge, Adopt, Opened}
 use Rattle.history_book.specs.Legal.{rejections, Legal_at, Legal, Fits, IsFound}
 use Rattle.history_book.specs.Lists.{IsIn}
@@ -114,29 +114,29 @@ limits_in (Opened rows limit policy ∷ told) = record { limit = limit; policy =
 limits_in (e ∷ told) = limits_in told
 
 -- these appends alone lie between the two, each by limits that an opening told
-abbrev pub ByAppends : List Limits → List Append → Held → Held → Type 0
-ByAppends known [] old new = new ≡ old
-ByAppends known (a ∷ appends) old new = (now : Held) × IsIn a.limits known × Appended a.limits a.shed a.parts old now × ByAppends known appends now new
+abbrev pub ByAppends : List Limits → Clock → List Append → Held → Held → Type 0
+ByAppends known clock [] old new = new ≡ old
+ByAppends known clock (a ∷ appends) old new = (now : Held) × IsIn a.limits known × Appended a.limits clock a.shed a.parts old now × ByAppends known clock appends now new
 
 -- These letters were appended, less what the policy and the limit shed, and before and since then appends alone changed what the queue holds: all by
 -- limits that an opening told.
-pub record WereAppended (known : List Limits) (base content : Held) (letters : List DeadPart) : Type 0 where
+pub record WereAppended (known : List Limits) (clock : Clock) (base content : Held) (letters : List DeadPart) : Type 0 where
   pub before : List Append
   pub old : Held
-  pub first : ByAppends known before base old
+  pub first : ByAppends known clock before base old
   pub limits : Limits
   pub is_known : IsIn limits known
   pub shed : Shedding
   pub new : Held
-  pub here : Appended limits shed letters old new
+  pub here : Appended limits clock shed letters old new
   pub behind : List Append
-  pub since : ByAppends known behind new content
+  pub since : ByAppends known clock behind new content
 
 -- Letters that were due and told were appended to the dead letter queue: in each content that the history allows.
 abbrev pub LettersWereAppended : Type 0
 LettersWereAppended =
-    (makes : Makes) (bytes : Bytes) (base content : Held) (told : List Entry) (plan : Plan) (letters : List DeadPart) → DeadHolds makes bytes start base told content
-    → WasTold makes start told plan (due.Letters letters) → WereAppended (limits_in told) base content letters
+    (makes : Makes) (clock : Clock) (base content : Held) (told : List Entry) (plan : Plan) (letters : List DeadPart) → DeadHolds makes clock start base told content
+    → WasTold makes start told plan (due.Letters letters) → WereAppended (limits_in told) clock base content letters
 
 -- Rows in a folder that fits a history may be told by an opening, and behind it the folder fits still.
 abbrev pub OpeningsFit : Type 0
@@ -160,6 +160,6 @@ fates_of e = []
 -- Of a delivery whose place rejected events the letters of these were appended to the dead letter queue: in each content that the history allows.
 abbrev pub RejectionsWereAppended : Type 0
 RejectionsWereAppended =
-    (makes : Makes) (bytes : Bytes) (base content : Held) (told : List Entry) (plan : Plan) (id : List ℕ) (at : Place) (events : List Ev) → Legal makes start told
-    → DeadHolds makes bytes start base told content → (w : WasTold makes start told plan (due.Events id at events))
-    → (rejections plan.config id (fates_of w.entry) events ≡ []) ⊎ WereAppended (limits_in told) base content (rejections plan.config id (fates_of w.entry) events)
+    (makes : Makes) (clock : Clock) (base content : Held) (told : List Entry) (plan : Plan) (id : List ℕ) (at : Place) (events : List Ev) → Legal makes start told
+    → DeadHolds makes clock start base told content → (w : WasTold makes start told plan (due.Events id at events))
+    → (rejections plan.config id (fates_of w.entry) events ≡ []) ⊎ WereAppended (limits_in told) clock base content (rejections plan.config id (fates_of w.entry) events)

@@ -45,14 +45,14 @@ pub fn files_hold_what_was_told()
 {}
 
 /// Letters that were due and told, and letters of events that a place rejected, were appended to the dead letter
-/// queue, less those that its policy sheds.
+/// queue, each at a moment that the clock gave in the call, less those that its policy sheds.
 pub fn letters_were_appended()
     ensures due { LettersWereAppended }
     ensures rejected { RejectionsWereAppended }
 {}
 
-/// What a pipeline did, entries with parcels that it sent and answers that it heard, tells a legal history where it
-/// is legal, and each front of it is legal. Behind each delivery to an address that was told since the pipeline was
+/// What a pipeline did behind the entries of earlier runs, entries with parcels that it sent and answers that it heard,
+/// tells a legal history where it is legal, and each front of it is legal. Behind each delivery to an address that was told since the pipeline was
 /// opened an answer was heard that a parcel of exactly these events is assured.
 pub fn deliveries_are_answered()
     ensures told { LegalDeedsTell }

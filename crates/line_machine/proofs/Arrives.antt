@@ -41,12 +41,12 @@ module _ (makes : Makes) (bytes : Bytes) (places : Places) where
   pub record Makes_one (told : List Entry) (e : Entry) (old new : Holdings places) : Type 0 where
     pub queue : IsQueueAt (next makes (after makes start told) e) new.queue
     pub files : (file : FilePlace) → (m : IsIn file places.files) → FileAfter makes bytes file.path (after makes start told) e (old.content file m) (new.content file m)
-    pub dead : DeadAfter makes bytes (after makes start told) e [] old.dead new.dead
+    pub dead : DeadAfter makes places.clock (after makes start told) e [] old.dead new.dead
 
   -- behind several entries
   pub entries : (told more : List Entry) (i now : LineView places) → Stands makes bytes places told i → Legal makes (after makes start told) more → IsQueueAt (after makes (after makes start told) more) now.holds.queue
       → ((file : FilePlace) → (m : IsIn file places.files) → FileHolds makes bytes file.path (after makes start told) (i.holds.content file m) more (now.holds.content file m))
-      → DeadHolds makes bytes (after makes start told) i.holds.dead more now.holds.dead → Knows (after makes (after makes start told) more) now → Stands makes bytes places (told ++ more) now
+      → DeadHolds makes places.clock (after makes start told) i.holds.dead more now.holds.dead → Knows (after makes (after makes start told) more) now → Stands makes bytes places (told ++ more) now
   entries told more i now stands legal queue files dead knows =
       let follows : Follows makes bytes places told more i.holds now.holds = record { whole = inl stands.knows.between; legal = legal; queue = queue; files = files; dead = dead } in
       record {

@@ -99,14 +99,14 @@ module _ (makes : Makes) (listening : Listening) (bytes : Bytes) (places : Place
 
   -- letters were appended in that state
   appends_of : (b : Between) (shed : Shedding) (n : ℕ) (letters : List DeadPart) (more : List Entry) (left : List Due) (h : IsHome i n left) (old new : Held) → shed_in b ≡ shed
-      → AppendsTold (Some i.limits) shed letters more h.batch.plan.config left old new → AppendsOf s.limits (shed_in b) letters more (out_of n s.out) old new
+      → AppendsTold (Some i.limits) places.clock shed letters more h.batch.plan.config left old new → AppendsOf s.limits places.clock (shed_in b) letters more (out_of n s.out) old new
   appends_of b shed n letters more left h old new same appends =
       let o = beside n h.batch i.batches s.out stands.knows.batches h.has in
-      subst (λ l. AppendsOf l (shed_in b) letters more (out_of n s.out) old new) (sym stands.knows.limits)
-      (subst (λ x. AppendsOf (Some i.limits) (shed_in b) letters more x old new) (sym o.has)
-      (subst (λ x. AppendsTold (Some i.limits) x letters more o.out.plan.config o.out.left old new) (sym same)
-      (subst (λ (p : Plan). AppendsTold (Some i.limits) shed letters more p.config o.out.left old new) (sym o.is.plan)
-      (subst (λ l. AppendsTold (Some i.limits) shed letters more h.batch.plan.config l old new) (sym (o.is.left ∙ h.left_is)) appends))))
+      subst (λ l. AppendsOf l places.clock (shed_in b) letters more (out_of n s.out) old new) (sym stands.knows.limits)
+      (subst (λ x. AppendsOf (Some i.limits) places.clock (shed_in b) letters more x old new) (sym o.has)
+      (subst (λ x. AppendsTold (Some i.limits) places.clock x letters more o.out.plan.config o.out.left old new) (sym same)
+      (subst (λ (p : Plan). AppendsTold (Some i.limits) places.clock shed letters more p.config o.out.left old new) (sym o.is.plan)
+      (subst (λ l. AppendsTold (Some i.limits) places.clock shed letters more h.batch.plan.config l old new) (sym (o.is.left ∙ h.left_is)) appends))))
 
   -- what is left of the batch in the history
   left_there : (n : ℕ) (left : List Due) (h : IsHome i n left) → left_of (out_of n s.out) ≡ left
@@ -132,18 +132,18 @@ module _ (makes : Makes) (listening : Listening) (bytes : Bytes) (places : Place
         next = subst (λ (p : Plan). AreNextLetters p.config newer letters left) (sym o.is.plan) are;
       }
 
-  legal_shed : (n : ℕ) (left : List Due) (h : IsHome i n left) (shed : Shedding) (parts : List DeadPart) (new : Held) → Appended i.limits shed parts i.holds.dead new → (shed ≡ shedding 0 [] → ⊥)
+  legal_shed : (n : ℕ) (left : List Due) (h : IsHome i n left) (shed : Shedding) (parts : List DeadPart) (new : Held) → Appended i.limits places.clock shed parts i.holds.dead new → (shed ≡ shedding 0 [] → ⊥)
       → (shed.older ≢ 0) ⊎ (shed.newer ≢ []) → ArePlaces shed.newer left → Legal_at makes s (Shed n shed.older shed.newer)
   legal_shed n left h shed parts new appends some which places_are = (
     running makes listening bytes places told i stands,
     record {
       limits = i.limits;
       has = stands.knows.limits;
-      policy = allowed i.limits shed parts i.holds.dead new appends some;
+      policy = allowed i.limits places.clock shed parts i.holds.dead new appends some;
       some = which;
       left = left;
       is_back = back_in s.between n left h;
-      rise = (appended_is i.limits shed parts i.holds.dead new appends).rise;
+      rise = (appended_is i.limits places.clock shed parts i.holds.dead new appends).rise;
       places = places_are;
     },
   )
@@ -198,12 +198,12 @@ module _ (makes : Makes) (listening : Listening) (bytes : Bytes) (places : Place
     queue_then : (b : Between) (letters : List DeadPart) → IsQueueAt (tells_letters (between_with b) n letters (left_of (out_of n s.out))) i.holds.queue
     queue_then b letters = others_leave_it makes (between_with b) i.holds.queue (Letters n letters) tt (queue_between b)
 
-    with_shed : (older : ℕ) (newer : List ℕ) → Appended i.limits (shedding older newer) parts i.holds.dead new → (shedding older newer ≡ shedding 0 [] → ⊥) → (older ≢ 0) ⊎ (newer ≢ [])
+    with_shed : (older : ℕ) (newer : List ℕ) → Appended i.limits places.clock (shedding older newer) parts i.holds.dead new → (shedding older newer ≡ shedding 0 [] → ⊥) → (older ≢ 0) ⊎ (newer ≢ [])
         → Stands makes bytes places (told ++ (Shed n older newer ∷ Letters n (kept_from newer 0 parts) ∷ [])) with_letters
     with_shed older newer appends some which =
         let shed = shedding older newer in
         let b = Shed_of n shed in
-        let below = (appended_is i.limits shed parts i.holds.dead new appends).below in
+        let below = (appended_is i.limits places.clock shed parts i.holds.dead new appends).below in
         let letters = kept_from newer 0 parts in
         entries makes bytes places told (Shed n older newer ∷ Letters n letters ∷ []) i with_letters stands
         (legal_shed n (due.Letters parts ∷ rest) h shed parts new appends some which below, (next_letters b n (due.Letters parts ∷ rest) h newer letters (refl, refl) (below, refl), tt))
@@ -211,7 +211,7 @@ module _ (makes : Makes) (listening : Listening) (bytes : Bytes) (places : Place
         (i.holds.dead, refl, (new, appends_of b shed n letters [] (due.Letters parts ∷ rest) h i.holds.dead new refl appends, refl))
         (subst (λ x. Knows x with_letters) (sym (letters_state b letters)) knows_then)
 
-    pub tells : (older : ℕ) (newer : List ℕ) → Appended i.limits (shedding older newer) parts i.holds.dead new → Stands makes bytes places (told ++ letters_told n (shedding older newer) parts) with_letters
+    pub tells : (older : ℕ) (newer : List ℕ) → Appended i.limits places.clock (shedding older newer) parts i.holds.dead new → Stands makes bytes places (told ++ letters_told n (shedding older newer) parts) with_letters
     tells zero [] appends =
         entries makes bytes places told (Letters n parts ∷ []) i with_letters stands
         (next_letters s.between n (due.Letters parts ∷ rest) h [] parts (subst (λ b. IsShed b n []) (sym stands.knows.between) refl) (tt, refl), tt)
@@ -237,12 +237,12 @@ module _ (makes : Makes) (listening : Listening) (bytes : Bytes) (places : Place
     abbrev delivery : Entry
     delivery = Deliver n (place.Foreign number) events fates
 
-    module _ (b : Between) (shed : Shedding) (b_shed : shed_in b ≡ shed) (is_shed : IsShed b n shed.newer) (appends : Appended i.limits shed parts i.holds.dead new) where
+    module _ (b : Between) (shed : Shedding) (b_shed : shed_in b ≡ shed) (is_shed : IsShed b n shed.newer) (appends : Appended i.limits places.clock shed parts i.holds.dead new) where
       abbrev letters : List DeadPart
       letters = kept_from shed.newer 0 parts
 
       below : AreBelow (length parts) shed.newer
-      below = (appended_is i.limits shed parts i.holds.dead new appends).below
+      below = (appended_is i.limits places.clock shed parts i.holds.dead new appends).below
 
       -- what stands behind the letters, and behind the delivery
       abbrev rejecting_with : Shedding → State
@@ -295,10 +295,10 @@ module _ (makes : Makes) (listening : Listening) (bytes : Bytes) (places : Place
       file_rest file m = subst (λ x. FileHolds makes bytes file.path x (i.holds.content file m) (delivery ∷ []) (i.holds.content file m)) (sym letters_then)
           (i.holds.content file m, sym (ap (λ l. i.holds.content file m ++ l) (adds n left h file) ∙ append-nil (i.holds.content file m)), refl)
 
-      dead_rest : AppendsOf s.limits (shed_in b) letters (delivery ∷ []) (out_of n s.out) i.holds.dead new
+      dead_rest : AppendsOf s.limits places.clock (shed_in b) letters (delivery ∷ []) (out_of n s.out) i.holds.dead new
       dead_rest = appends_of b shed n letters (delivery ∷ []) left h i.holds.dead new b_shed (parts, refl, refl, appends)
 
-    with_shed_then : (older : ℕ) (newer : List ℕ) → Appended i.limits (shedding older newer) parts i.holds.dead new → (shedding older newer ≡ shedding 0 [] → ⊥) → (older ≢ 0) ⊎ (newer ≢ [])
+    with_shed_then : (older : ℕ) (newer : List ℕ) → Appended i.limits places.clock (shedding older newer) parts i.holds.dead new → (shedding older newer ≡ shedding 0 [] → ⊥) → (older ≢ 0) ⊎ (newer ≢ [])
         → Stands makes bytes places (told ++ (Shed n older newer ∷ Letters n (kept_from newer 0 parts) ∷ delivery ∷ [])) without_them
     with_shed_then older newer appends some which =
         let shed = shedding older newer in
@@ -312,7 +312,7 @@ module _ (makes : Makes) (listening : Listening) (bytes : Bytes) (places : Place
         (i.holds.dead, refl, (new, dead_rest b shed refl is_shed appends, (new, refl, refl)))
         (knows_rest b shed refl is_shed appends)
 
-    pub rejects : (older : ℕ) (newer : List ℕ) → Appended i.limits (shedding older newer) parts i.holds.dead new
+    pub rejects : (older : ℕ) (newer : List ℕ) → Appended i.limits places.clock (shedding older newer) parts i.holds.dead new
         → Stands makes bytes places (told ++ (letters_told n (shedding older newer) parts ++ delivery ∷ [])) without_them
     rejects zero [] appends =
         let shed = shedding 0 [] in

@@ -15,7 +15,7 @@ use Rattle.dead_letters.specs.Found.{Held}
 use Rattle.dead_letters.specs.Shedding.{shedding, older, not_kept, shed}
 use Rattle.dead_letters.specs.declared.shedding.Shedding.{Shedding}
 use Rattle.dead_letters.proofs.Sheds.{sheds_none, sheds}
-use Rattle.history_book.specs.Contents.{Appended, part_of}
+use Rattle.history_book.specs.Contents.{Clock, Appended, part_of}
 use Rattle.history_book.specs.Legal.{rejections, AreRejections, AreStatuses, MayShedBy}
 use Rattle.history_book.specs.Lists.{Rise, AreBelow}
 use Rattle.history_book.specs.States.{Limits}
@@ -67,7 +67,7 @@ shed_is policy limit segments records =
     (record { rise = places_rise limit (sum (drop k segments)) 0 records; below = below_more (0 + length records) (length records) (omega arith) _ (places_below limit (sum (drop k segments)) 0 records); newer_alone = older_none policy limit (sum records) segments }))
     (cases_Bool (nat_le (sum segments + sum records) limit))
 
-module _ (limits : Limits) (s : Shedding) (parts : List DeadPart) (old new : Held) (a : Appended limits s parts old new) where
+module _ (limits : Limits) (clock : Clock) (s : Shedding) (parts : List DeadPart) (old new : Held) (a : Appended limits clock s parts old new) where
   pub appended_is : IsShedOf limits.policy (length parts) s
   appended_is =
       subst (λ (n : ℕ). IsShedOf limits.policy n s) (length-map a.letters _ ∙ sym (length-map a.letters part_of) ∙ ap length a.parts_are)

@@ -1,5 +1,5 @@
 -- What a step makes of a line, and what leaves it.
-use Rattle.std.specs.Prelude.{ℕ, zero, suc, ◌+◌, ◌==◌, ◌||◌, nat_lt, not, Bool, true, false, List, [], ◌∷◌, ◌++◌, map, Option, Some, None, bytes_eq, if◌then◌else◌}
+use Rattle.std.specs.Prelude.{ℕ, ℤ, zero, suc, ◌+◌, ◌==◌, ◌||◌, nat_lt, not, Bool, true, false, List, [], ◌∷◌, ◌++◌, map, Option, Some, None, bytes_eq, if◌then◌else◌}
 use Rattle.std.specs.List.{filter, list_any}
 use Rattle.event_tree.specs.Events.{Ev}
 use Rattle.event_tree.specs.declared.lists.DeadPart.{DeadPart}
@@ -36,8 +36,8 @@ pub record Came : Type 0 where
   pub events : List Incoming
 
 -- The line behind the step; what it told; what its places hold once that is
--- so; the events that came to an input; what was given to stdout, and to boxes; the places of watched files that were recorded; and the kits, and the boxes of
--- outputs, that were closed.
+-- so; the events that came to an input; what was given to stdout, and to boxes; the places of watched files that were recorded; the kits, and the boxes of
+-- outputs, that were closed; and what the clock gave for letters that were appended.
 pub record Effect (places : Places) : Type 0 where
   pub line : LineView places
   pub told : List Entry
@@ -48,6 +48,7 @@ pub record Effect (places : Places) : Type 0 where
   pub recorded : List FileAt
   pub closed : List Kit
   pub closed_boxes : List Box
+  pub asked : List ℤ
 
 -- ---- parts of a line
 
@@ -177,6 +178,7 @@ module _ {places : Places} where
     recorded = [];
     closed = [];
     closed_boxes = [];
+    asked = [];
   }
 
   abbrev pub nothing : LineView places → Effect places
@@ -231,7 +233,7 @@ module _ {places : Places} where
   delivered n rest i = record i { batches = change_batch (one_less rest) n i.batches }
 
   abbrev pub telling : (i : LineView places) → (n : ℕ) → (parts : List DeadPart) → List Due → AppendsNow i parts → Effect places
-  telling i n parts rest a = tells i (record (delivered n rest i) { holds = with_dead a.new i.holds }) (letters_told n a.shed parts)
+  telling i n parts rest a = record (tells i (record (delivered n rest i) { holds = with_dead a.new i.holds }) (letters_told n a.shed parts)) { asked = a.asked }
 
   -- events go to a place that needs no answer
   abbrev pub giving : Bytes → LineView places → ℕ → Batch → Place → List Ev → List Due → List Due → Effect places
@@ -247,6 +249,7 @@ module _ {places : Places} where
   rejecting i n number events fates rest parts a =
       record (tells i (record (delivered n rest i) { holds = with_dead a.new i.holds }) (letters_told n a.shed parts ++ Deliver n (place.Foreign number) events fates ∷ [])) {
         given = box_took number events fates;
+        asked = a.asked;
       }
 
   -- the events of a parcel stand with the listener of its address

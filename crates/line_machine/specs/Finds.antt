@@ -1,5 +1,5 @@
 -- What a step of a line finds before it: an event that comes, rows and a kit for a batch, a batch that is out, a page that is spent, a configuration.
-use Rattle.std.specs.Prelude.{◌≡◌, ◌≢◌, ◌⊎◌, ◌≤◌, ◌<◌, ◌+◌, ℕ, suc, true, false, List, [], ◌∷◌, ◌++◌, length, map, Option, Some, None, Result, Ok, Err, if◌then◌else◌, ⊤}
+use Rattle.std.specs.Prelude.{◌≡◌, ◌≢◌, ◌⊎◌, ◌≤◌, ◌<◌, ◌+◌, ℕ, suc, ℤ, true, false, List, [], ◌∷◌, ◌++◌, length, map, Option, Some, None, Result, Ok, Err, if◌then◌else◌, ⊤}
 use Rattle.std.specs.List.{sum}
 use Rattle.event_tree.specs.Events.{Ev}
 use Rattle.event_tree.specs.declared.lists.DeadPart.{DeadPart}
@@ -190,11 +190,14 @@ module _ {places : Places} where
     pub kept_first : i.kept ≢ [] → rows ≡ i.kept
     pub as_many : i.kept ≡ [] → rows ≡ taken batch_bytes i.size None i.unread
 
-  -- letters are appended, less what the policy sheds
+  -- Letters are appended, less what the policy sheds, each at a moment that the clock gave in the call.
   pub record AppendsNow (i : LineView places) (parts : List DeadPart) : Type 0 where
     pub shed : Shedding
     pub new : Held
-    pub appends : Appended i.limits shed parts i.holds.dead new
+    pub appends : Appended i.limits places.clock shed parts i.holds.dead new
+    pub asked : List ℤ
+    pub moments : (l : DeadLetter) → IsIn l appends.letters → IsIn l.moment asked
+    pub of_clock : (t : ℤ) → IsIn t asked → IsIn t (places.clock i.holds.dead)
 
   -- Letters are held back: by the policy `hold` nothing is shed, and with them the limit is passed.
   pub record AreHeldBack (i : LineView places) (parts : List DeadPart) (f : LineFault) : Type 0 where
