@@ -1,1 +1,3 @@
+pub mod ClosedKits
+pub mod Dues
 pub mod Parting
