@@ -1,5 +1,5 @@
 -- What is sent, parted by a target one by one.
-use Rattle.std.proofs.Common.{◌≡◌, List, [], ◌∷◌, ◌++◌, Bool, true, false, if◌then◌else◌, refl, sym, ap, ◌∙◌, append_assoc, append-nil}
+use Rattle.std.proofs.Common.{◌≡◌, List, [], ◌∷◌, ◌++◌, Bool, true, false, if◌then◌else◌, sym, ap, ◌∙◌, append_assoc, append-nil}
 use Rattle.built_plugins.specs.declared.output.Target.{Target}
 use Rattle.plugin_graph.specs.declared.passage.Sent.{Sent}
 use Rattle.line_jobs.specs.Deliveries.{events_to, goes_to, parted, sent_elsewhere, with_sent}

@@ -1,5 +1,5 @@
 -- What is due to be delivered of the events that outputs send, target by target.
-use Rattle.std.specs.Prelude.{ℕ, suc, List, [], ◌∷◌, ◌++◌, Bool, ◌&&◌, if◌then◌else◌, bytes_eq, Option, Some, None}
+use Rattle.std.specs.Prelude.{ℕ, suc, List, [], ◌∷◌, ◌++◌, Bool, ◌&&◌, if◌then◌else◌, bytes_eq, Option}
 use Rattle.event_tree.specs.Events.{Ev}
 use Rattle.event_tree.specs.Paths.{over}
 use Rattle.event_flow.specs.Meaning.{same_place}

@@ -1,6 +1,5 @@
-use Rattle.std.proofs.Common.{length, sym, ap, ◌∙◌, arith}
-use Rattle.line_jobs.specs.Deliveries.{parted}
-use Rattle.line_jobs.proofs.Parting.{next_sent, none_left, with_all}
+use Rattle.std.proofs.Common.{length, ap, arith}
+use Rattle.line_jobs.proofs.Parting.{next_sent}
 use Rattle.line_jobs.proofs.sorting.part.Goals as goal
 
 pub loop-each-preserved : goal.loop-each-preserved
