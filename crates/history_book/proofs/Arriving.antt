@@ -1,5 +1,5 @@
 -- What one pipeline delivers to another arrives there.
-use Rattle.std.proofs.Common.{◌≡◌, ◌≢◌, inl, inr, ⊎_elim, ℕ, ◌<◌, ◌+◌, ◌==◌, Bool, true, false, if◌then◌else◌, List, [], ◌∷◌, ◌++◌, length, Option, Some, None, refl, sym, ap, ◌∙◌, subst, arith, append-nil, append_assoc}
+use Rattle.std.proofs.Common.{◌≡◌, ◌≢◌, ◌⊎◌, inl, inr, ⊎_elim, ℕ, ◌≤◌, ◌<◌, ◌+◌, ◌==◌, Bool, true, false, if◌then◌else◌, List, [], ◌∷◌, ◌++◌, length, Option, Some, None, Result, Ok, refl, sym, ap, ◌∙◌, subst, arith, append-nil, append_assoc}
 use Rattle.std.specs.Prelude.{flat_map}
 use Rattle.std.proofs.lemmas.Bool.{eqb-true}
 use Rattle.std.proofs.lemmas.Grind.{flat_map-append}
@@ -14,11 +14,12 @@ use Rattle.event_flow.specs.Meaning as due
 use Rattle.queue_files.specs.Found.{Found}
 use Rattle.history_book.specs.Deeds.{Deed, Send, DeedOf, Mail, told_of, sent_on, deeds_by, told_by, mail_of, IsNextFor}
 use Rattle.history_book.specs.Entries.{Entry, ParcelAt, Accept, Mark, Assure, Read, Back, Shed, Deliver, Letters, Ack, Purge, Adopt, Opened}
-use Rattle.history_book.specs.Legal.{Legal, Fits}
+use Rattle.history_book.specs.Legal.{Legal, Fits, IsFound}
 use Rattle.history_book.specs.Links.{Listening, Link, IsPart, row_of, rows_of, is_same, IsMadeOf, AreMadeOf, AreSettled, assured, sending_on, IsSentBy, IsSentFrom, LinkSound, EachStands, StandsThere, AssuredArrived, ArrivalsWereDue}
 use Rattle.history_book.specs.Lists.{IsIn}
 use Rattle.history_book.specs.States.{Plan, Written, State, start, newest, reads, left_of, out_of, tells_letters, written, next, after}
 use Rattle.history_book.specs.Steps.{Step, NoOpening, one_more, steps}
+use Rattle.history_book.specs.Turns.{AnsweredRowsStand}
 use Rattle.history_book.proofs.Histories.{after_both, settled_stays, settled_stand}
 use Rattle.history_book.proofs.Lists.{in_front, in_behind, in_either}
 use Rattle.history_book.proofs.Mailing.{told_both, deeds_both, mail_numbered, mail_since, was_sent}
@@ -178,6 +179,23 @@ each_stands makes told more found legal fits (w ∷ rows) are settled = (
   ),
   each_stands makes told more found legal fits rows (λ v i. are v (inr i)) settled.1,
 )
+
+-- rows that are settled are found or acknowledged
+settled_in : (front : ℕ) (ws : List Written) → AreSettled front ws → (w : Written) → IsIn w ws → w.number ≤ front
+settled_in front [] are w i = absurd i
+settled_in front (x ∷ ws) are w (inl e) = subst (λ (v : Written). v.number ≤ front) (sym e) are.0
+settled_in front (x ∷ ws) are w (inr i) = settled_in front ws are.1 w i
+
+ok_same : {X M : Type 0} (x y : X) → ◌≡◌ {A = Result X M} (Ok x) (Ok y) → x ≡ y
+ok_same x y is = cc
+
+pub answered_rows_stand : AnsweredRowsStand
+answered_rows_stand makes listening bytes places told l number i sound settled rows is w there =
+    let at : ParcelAt = record { place = l.place; number = number } in
+    let same : sound.rows ≡ rows = ok_same sound.rows rows (sym sound.is_found ∙ is) in
+    let among = all_rows makes at start told [] (λ v i. absurd i) w there in
+    subst (λ (f : Found). IsFound f.rows w ⊎ IsIn w.number (after makes start told).acknowledged) same
+    (sound.fits.rows.settled w among (settled_in (after makes start told).front (rows_of makes at told) settled.settled w there))
 
 pub assured_arrived : AssuredArrived
 assured_arrived makes listening first since l k number events entries legal_deeds from sound was more found legal fits =

@@ -1,7 +1,7 @@
 -- What the call of the program ensures of events: whatever the order of steps, of returning batches and of reloads, and wherever a stop falls, each event acknowledged to
 -- its input stands unacknowledged in its queue, or everything that the configuration under which it was read derives from it stands in the destinations that its conditionals
 -- select or in the dead letter queue; and destinations hold nothing else. No call ensures it yet: the names are those of the definitions below it.
-use Rattle.std.specs.Prelude.{◌≡◌, ℕ, ℤ, true, Bool, List, [], ◌∷◌, ◌++◌, Option, Some, None, if◌then◌else◌, ⊤}
+use Rattle.std.specs.Prelude.{◌≡◌, ℕ, ℤ, true, false, Bool, List, [], ◌∷◌, ◌++◌, Option, Some, None, if◌then◌else◌, ⊤}
 use Rattle.io_traits.specs.Folders.{Content}
 use Rattle.io_traits.specs.Images.{Image}
 use Rattle.config_tree.specs.declared.tree.Config.{Config}
@@ -15,6 +15,7 @@ use Rattle.history_book.specs.Premises.{NoChanceIn, OnlyGrows, Starts, StandsIns
 use Rattle.history_book.specs.Runs.{Meanings, Bases, Outputs, Around, RunSound}
 use Rattle.history_book.specs.Sources.{SourceLook}
 use Rattle.history_book.specs.States.{Limits}
+use Rattle.history_book.specs.Turns.{AreMoves}
 use Rattle.history_book.specs.Yards.{all_done}
 
 -- How a call of the program ended, as far as this speaks of it.
@@ -33,13 +34,14 @@ pub record Set : Type 0 where
   pub drains : Bool
   pub read : List Config
 
--- A call of the program: the pipelines that it ran, by their numbers, as they are set; what its book was told before it and in it; what each pipeline's store read when
--- it began; which images each store might leave when it began, at some moment of it, and at its return; the watched files when it began and at its return; what the clock
--- gave in it; what stdout and boxes held when it began, and what they hold at its return, where a pipeline was opened over them; and the looks that its inputs made, of a
--- pipeline that was opened.
+-- A call of the program: the pipelines that it ran, by their numbers, as they are set, and whether they ran beside each other, in threads; what its book was told before it
+-- and in it; what each pipeline's store read when it began; which images each store might leave when it began, at some moment of it, and at its return; the watched files
+-- when it began and at its return; what the clock gave in it; what stdout and boxes held when it began, and what they hold at its return, where a pipeline was opened over
+-- them; and the looks that its inputs made, of a pipeline that was opened.
 pub record ProgramCall : Type 1 where
   pub runs : ℕ → Bool
   pub set : ℕ → Set
+  pub apart : Bool
   pub told_before : List (ℕ × Entry)
   pub told : List (ℕ × Entry)
   pub stood : ℕ → Content
@@ -87,8 +89,10 @@ module _ (m : Meanings) (c : ProgramCall) where
 
   -- What is told in the call behind what was told before, and the map of bases behind that of before.
   pub record Headline (first : List DeedOf) (old : Bases) : Type 0 where
-    -- what was done in the call tells what the book was told, step by step; each of a step's pipelines is one that the call runs, as it is set
+    -- what was done in the call tells what the book was told, step by step, and each step is a move of one pipeline where none ran beside another; each pipeline that tells
+    -- is one that the call runs, as it is set
     pub steps : List (List DeedOf)
+    pub moves : c.apart ≡ false → AreMoves steps
     pub told_is : tells_of (all_done steps) ≡ c.told
     pub as_set : (k : ℕ) (e : Entry) → IsIn (k, e) c.told → (c.runs k ≡ true) × IsAsSet (c.set k) e
     pub bases : Bases

@@ -21,4 +21,5 @@ pub mod Runs
 pub mod Ends
 pub mod Premises
 pub mod Bases
+pub mod Turns
 pub mod Headline

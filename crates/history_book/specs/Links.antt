@@ -30,7 +30,7 @@ pub record Listening : Type 0 where
 
 -- A link by which a pipeline, or something outside of all of them, sends to an address where another pipeline, or the same, listens. Its end has a place among those
 -- that the listener got since it was last opened. Of the parcels that were taken there, and the answers that were given, these are the listener's own: before and
--- behind it the end may be another one's.
+-- behind it the end may be another one's. The parcels with events that are lost lay in its ring, not taken, when an adoption closed the input that listened there.
 pub record Link : Type 0 where
   pub from : Option ℕ
   pub to : ℕ
@@ -39,6 +39,7 @@ pub record Link : Type 0 where
   pub takes : Taking
   pub taken : List Parcel
   pub given : List Answer
+  pub lost : List Parcel
 
 -- these are some of those, one behind the other
 abbrev pub IsPart : {X : Type 0} → List X → List X → Type 0
@@ -173,8 +174,11 @@ module _ (makes : Makes) (listening : Listening) (done : List DeedOf) (k : ℕ) 
     pub order : InOrder (sending_on l.address (mail_of k done)) l.takes
     pub lost : (number : ℕ) → IsIn (not_listening number) l.given → WasLost number
 
--- Since the pipeline that listens was last opened, a configuration was adopted that closed the listener of the address.
-pub record LostListener (makes : Makes) (listening : Listening) (address : List ℕ) (told : List Entry) : Type 0 where
+-- Since the pipeline that listens was last opened, a configuration was adopted that closed the listener of the link while the parcel of this number lay in the ring.
+pub record LostListener (makes : Makes) (listening : Listening) (l : Link) (told : List Entry) (number : ℕ) : Type 0 where
+  pub parcel : Parcel
+  pub lay_there : IsIn parcel l.lost
+  pub number_is : parcel.number ≡ number
   pub before : List Entry
   pub generation : ℕ
   pub config : Config
@@ -182,14 +186,14 @@ pub record LostListener (makes : Makes) (listening : Listening) (address : List 
   pub rest : List Entry
   pub parts : told ≡ before ++ Adopt generation config draws ∷ rest
   pub unopened : NoOpening rest
-  pub closes : Closes listening address (after makes start before).plans (next makes (after makes start before) (Adopt generation config draws)).plans
+  pub closes : Closes listening l.address (after makes start before).plans (next makes (after makes start before) (Adopt generation config draws)).plans
 
 -- ---- both
 
 module _ (makes : Makes) (listening : Listening) (done : List DeedOf) (l : Link) where
-  -- Of what sends from outside nothing more is said here than that it hears that nobody listens only once the address lost its listener.
+  -- Of what sends from outside nothing more is said here than that a listener answers that nobody listens only to parcels that lay in the ring when it was closed.
   abbrev pub IsSentFrom : Option ℕ → Type 0
-  IsSentFrom None = (number : ℕ) → IsIn (not_listening number) l.given → LostListener makes listening l.address (told_by l.to done)
+  IsSentFrom None = (number : ℕ) → IsIn (not_listening number) l.given → LostListener makes listening l (told_by l.to done) number
   IsSentFrom (Some k) = IsSentBy makes listening done k l
 
   -- what both did and the taker's end agree

@@ -1,23 +1,27 @@
 -- Several pipelines in one run: what each did, and the links between them.
-use Rattle.std.specs.Prelude.{◌≡◌, ◌≢◌, ◌⊎◌, ℕ, zero, suc, false, List, [], ◌∷◌, ◌++◌, flat_map, Option, Some, None, ⊤}
+use Rattle.std.specs.Prelude.{◌≡◌, ◌≢◌, ◌⊎◌, ℕ, zero, suc, not, true, false, List, [], ◌∷◌, ◌++◌, flat_map, Option, Some, None, ⊤}
+use Rattle.std.specs.List.{filter}
 use Rattle.io_traits.specs.Images.{Image}
 use Rattle.event_tree.specs.Events.{Ev}
+use Rattle.config_tree.specs.declared.tree.Config.{Config}
 use Rattle.foreign_parts.specs.declared.place.Place.TheVariants as place
 use Rattle.pipeline_bus.specs.Parcels.{is_last}
+use Rattle.pipeline_bus.specs.declared.parcel.Answer.{Answer}
 use Rattle.pipeline_bus.specs.declared.parcel.Parcel.{Parcel}
 use Rattle.event_flow.specs.Meaning.{Makes}
 use Rattle.event_flow.specs.Meaning as due
+use Rattle.event_flow.specs.Places.{Draws}
 use Rattle.queue_files.specs.Found.{Found}
 use Rattle.history_book.specs.Contents.{Bytes}
 use Rattle.history_book.specs.Deeds.{DeedOf, heard_on, deeds_by, told_by, mail_of, AreTold, BeginsOpened, LegalBehind}
-use Rattle.history_book.specs.Entries.{Entry, ParcelAt, Accept}
+use Rattle.history_book.specs.Entries.{Entry, ParcelAt, Accept, Adopt}
 use Rattle.history_book.specs.Inputs.{Input, IsInput}
 use Rattle.history_book.specs.Laws.{WasTold}
 use Rattle.history_book.specs.Legal.{Legal, Fits, IsFound}
-use Rattle.history_book.specs.Links.{Listening, Link, LinkSound, AllArrived, IsSettledRow, StandsThere, assured}
+use Rattle.history_book.specs.Links.{Listening, Link, LinkSound, Closes, AllArrived, IsSettledRow, StandsThere, assured, not_listening}
 use Rattle.history_book.specs.Lists.{IsIn}
 use Rattle.history_book.specs.Sound.{Places, LineSound, AllStands}
-use Rattle.history_book.specs.States.{Plan, Written, State, start, written, after}
+use Rattle.history_book.specs.States.{Plan, Written, State, start, written, next, after}
 use Rattle.history_book.specs.Steps.{NoOpening, steps_of}
 
 -- of one pipeline an opening comes before anything else that it does in a step
@@ -47,9 +51,48 @@ abbrev pub Unopened : Option ℕ → List DeedOf → Type 0
 Unopened None step = ⊤
 Unopened (Some k) step = NoOpening (told_by k step)
 
--- Each link that stood stands, unless one of its pipelines was opened.
-abbrev pub LinksGoOn : List DeedOf → List Link → List Link → Type 0
-LinksGoOn step old new = (l : Link) → IsIn l old → Unopened l.from step → NoOpening (told_by l.to step) → (m : Link) × IsIn m new × GoesOn l m
+-- By what was done before a step, and in it.
+module _ (makes : Makes) (listening : Listening) (before step : List DeedOf) where
+  -- in the step a configuration was adopted that closed the listener of the link
+  pub record LosesListener (l : Link) : Type 0 where
+    pub front : List Entry
+    pub generation : ℕ
+    pub config : Config
+    pub draws : Draws
+    pub rest : List Entry
+    pub parts : told_by l.to step ≡ front ++ Adopt generation config draws ∷ rest
+    pub closes : (let s = after makes start (told_by l.to before ++ front) in Closes listening l.address s.plans (next makes s (Adopt generation config draws)).plans)
+
+  -- where that is so, the parcels with events that lie in the ring are lost, and else none is
+  abbrev pub LosesSo : Link → Link → Type 0
+  LosesSo old new = (new.lost ≡ old.lost) ⊎ (LosesListener new × (old.lost ≡ []) × (new.lost ≡ filter (λ (p : Parcel). not (is_last p)) new.takes.room))
+
+  -- the link went on by the step, in which its listener wasn't opened
+  pub record WentOn (old new : Link) : Type 0 where
+    pub unopened : NoOpening (told_by old.to step)
+    pub goes_on : GoesOn old new
+    pub loses : LosesSo old new
+
+  -- behind the step no pipeline has an open input that listens on the address
+  abbrev pub NobodyListens : List ℕ → Type 0
+  NobodyListens address =
+      (k : ℕ) (x : Input) → IsInput (after makes start (told_by k (before ++ step))).plans x.number x → x.is_open ≡ true → listening.address x.statement ≡ Some address → ⊥
+
+  -- by a link from outside to this address, and as its list of answers says, the answer was given to the parcel of this number that nobody listens
+  pub record IsGivenOutside (links : List Link) (answers : Link → List Answer) (address : List ℕ) (number : ℕ) : Type 0 where
+    pub link : Link
+    pub is_link : IsIn link links
+    pub from : link.from ≡ None
+    pub to_address : link.address ≡ address
+    pub given : IsIn (not_listening number) (answers link)
+
+  -- Each link that stood stands, unless one of its pipelines was opened; by another one nothing was lost yet. What sends from outside gets the answer that nobody listens from a
+  -- listener of the address, or where there is none behind the step.
+  pub record LinksGoOn (old new : List Link) : Type 0 where
+    pub stand : (l : Link) → IsIn l old → Unopened l.from step → NoOpening (told_by l.to step) → (m : Link) × IsIn m new × WentOn l m
+    pub begin : (m : Link) → IsIn m new → ((l : Link) × IsIn l old × WentOn l m) ⊎ (m.lost ≡ [])
+    pub outside : (m : Link) → IsIn m new → m.from ≡ None → (number : ℕ) → IsIn (not_listening number) m.takes.given
+        → IsGivenOutside old (λ l. l.takes.given) m.address number ⊎ IsGivenOutside new (λ l. l.given) m.address number ⊎ NobodyListens m.address
 
 -- it was heard from a listener of the address that the parcel of this number is assured
 pub record IsGivenBy (links : List Link) (k : ℕ) (address : List ℕ) (number : ℕ) : Type 0 where
@@ -108,7 +151,7 @@ module _ (makes : Makes) (listening : Listening) where
   abbrev pub AreSteps : List DeedOf → List DeedOf → List Link → List (List DeedOf) → List Link → Type 0
   AreSteps first since old [] last = last ≡ old
   AreSteps first since old (step ∷ steps) last =
-      OpensFirst step × ((links : List Link) × LinksGoOn step old links × LinksSound first (since ++ step) step links × AreSteps first (since ++ step) links steps last)
+      OpensFirst step × ((links : List Link) × LinksGoOn makes listening (first ++ since) step old links × LinksSound first (since ++ step) step links × AreSteps first (since ++ step) links steps last)
 
 -- what was done in all steps
 abbrev pub all_done : List (List DeedOf) → List DeedOf

@@ -8,6 +8,7 @@ ghost use Rattle.history_book.specs.Links.{AssuredArrived, ArrivalsWereDue};
 ghost use Rattle.event_flow.specs.Meaning.{Makes};
 ghost use Rattle.history_book.specs.Queues.{KeptFits, AcceptedIsWritten, MarkedIsSettled, RolledIsOf, AcknowledgedIsOf, PurgedIsOf, OpenedIsOf, OthersLeaveIt, AcceptedComesLast, FirstAreRead, FoundComeNext, OthersLeaveUnread};
 ghost use Rattle.history_book.specs.Sound.{Places, AcknowledgedEventsStand};
+ghost use Rattle.history_book.specs.Turns.{AnsweredRowsStand};
 ghost use Rattle.history_book.specs.Yards.{DeliveriesReach, EverythingStands};
 
 /// A history that is legal was legal at each of its steps.
@@ -52,8 +53,8 @@ pub fn letters_were_appended()
 {}
 
 /// What a pipeline did behind the entries of earlier runs, entries with parcels that it sent and answers that it heard,
-/// tells a legal history where it is legal, and each front of it is legal. Behind each delivery to an address that was told since the pipeline was
-/// opened an answer was heard that a parcel of exactly these events is assured.
+/// tells a legal history where it is legal, and each front of it is legal. Behind each delivery to an address that was
+/// told since the pipeline was opened an answer was heard that a parcel of exactly these events is assured.
 pub fn deliveries_are_answered()
     ensures told { LegalDeedsTell }
     ensures fronts { FrontsOfDeedsAreLegal }
@@ -81,6 +82,12 @@ pub fn acknowledged_events_stand()
 pub fn assured_parcels_arrived()
     ensures arrived { AssuredArrived }
     ensures due { ArrivalsWereDue }
+{}
+
+/// Each row of a parcel that is settled with its listener is found in whatever a stop leaves of the listener's queue that
+/// agrees with what it told, or is acknowledged: so it is when a turn begins that answers the parcel.
+pub fn answered_rows_stand()
+    ensures { AnsweredRowsStand }
 {}
 
 /// The same of all pipelines of a run, whose links are sound between any two steps: what was told of a delivery to

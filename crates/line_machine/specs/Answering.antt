@@ -18,9 +18,9 @@ use Rattle.line_machine.specs.Stands.{Stands}
 use Rattle.line_machine.specs.Steps.{Step, effect, GoesOn}
 use Rattle.line_machine.specs.Views.{LineView}
 
--- the line's own part of a link
+-- the line's own part of a link, as far as it took and answered parcels there
 abbrev pub own_link : TakerView → Link
-own_link t = record { from = None; to = 0; address = t.address; place = t.place; takes = no_taking; taken = t.taken; given = t.given }
+own_link t = record { from = None; to = 0; address = t.address; place = t.place; takes = no_taking; taken = t.taken; given = t.given; lost = [] }
 
 module _ (makes : Makes) (listening : Listening) where
   abbrev pub rows_at : List Entry → TakerView → ℕ → List Written
