@@ -1,8 +1,8 @@
 mod Results
 mod Finding
-mod Keeping
+pub mod Keeping
 mod Opening
-mod Delivering
-mod Apart
+pub mod Delivering
+pub mod Apart
 mod Unwritten
 mod Rejecting
