@@ -1,2 +1,4 @@
 pub mod NameParts
 pub mod Together
+pub mod LettersFound
+pub mod Opened

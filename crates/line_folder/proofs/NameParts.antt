@@ -25,7 +25,7 @@ queue_role folder head = in_folder folder (codes "checkpoint." ++ codes "head")
 queue_role folder (page n) = in_folder folder (codes "page." ++ number_text n)
 queue_role folder (checkpoint n) = in_folder folder (codes "checkpoint." ++ number_text n)
 
-letters_role : (folder : List ℕ) (role : LettersRole) → part_named folder (name_in folder role) ≡ of_letters
+pub letters_role : (folder : List ℕ) (role : LettersRole) → part_named folder (name_in folder role) ≡ of_letters
 letters_role folder (segment zero) = in_folder folder _
 letters_role folder (segment (suc k)) = in_folder folder _
 letters_role folder names = in_folder folder _

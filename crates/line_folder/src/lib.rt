@@ -10,6 +10,7 @@
 
 mod folder;
 pub mod laws;
+mod opening;
 mod output_calls;
 mod queue_calls;
 
