@@ -1,6 +1,6 @@
 -- To which part of a pipeline each file belongs.
-use Rattle.std.specs.Prelude.{codes, bytes_eq, Bool, ◌==◌, ◌||◌}
-use Rattle.std.proofs.Common.{◌≡◌, ◌⊎◌, inl, inr, IsTrue, ℕ, zero, suc, List, ◌++◌, length, take, drop, get_or, refl, sym, ap, ◌∙◌}
+use Rattle.std.specs.Prelude.{codes, bytes_eq, ◌==◌, ◌||◌}
+use Rattle.std.proofs.Common.{◌≡◌, ◌⊎◌, inl, inr, IsTrue, ℕ, zero, suc, List, ◌++◌, length, take, drop, get_or, sym, ap, ◌∙◌}
 use Rattle.std.proofs.lemmas.Bool.{cond-true, cond-false, cases_Bool, false≢true}
 use Rattle.std.proofs.lemmas.List.{take-append-drop}
 use Rattle.std.proofs.lemmas.Slice.Eq.{bytes_eq-Decides}
@@ -11,7 +11,7 @@ use Rattle.dead_letters.specs.Queues.{Role as LettersRole, segment, names, posit
 use Rattle.dead_letters.specs.Views.{IsOwn as IsOfLetters}
 use Rattle.queue_files.specs.Folders.{Role, head, page, checkpoint, names_in, number_text, IsOwn as IsOfQueue}
 use Rattle.line_outputs.specs.OpenFiles.{IsFileOf, IsOutside, slot_in}
-use Rattle.line_folder.specs.FileNames.{FilePart, of_queue, of_letters, of_outputs, of_inputs, of_none, of_outside, part_by, part_named, part_number, belongs, is_delivered_to, input_slot, NamesTellParts}
+use Rattle.line_folder.specs.FileNames.{of_queue, of_letters, of_outputs, of_inputs, of_outside, part_by, part_named, part_number, belongs, is_delivered_to, input_slot, NamesTellParts}
 
 -- a name in the folder
 in_folder : (folder rest : List ℕ) → part_named folder (folder ++ rest) ≡ part_by (get_or rest 0 0)

@@ -1,11 +1,8 @@
 -- A folder that is opened: what holds behind the opening of its queue, and then of its letters.
-use Rattle.std.proofs.Common.{◌≡◌, ◌⊎◌, inl, inr, ℕ, IsTrue, List, Result, Ok, Err, IfOk, refl, sym, ap, ◌∙◌, subst}
+use Rattle.std.proofs.Common.{◌≡◌, inl, ℕ, IsTrue, List, Result, Ok, Err, IfOk, sym, ap, ◌∙◌, subst}
 use Rattle.io_traits.specs.Folders.{Content}
 use Rattle.io_traits.specs.Images.{Image, FileImage}
 use Rattle.io_traits.specs.Moments.{MayLeaveNow, EachMoment, LeavesBeside, NowOrSynced, ReadsBeside, ImagesTell}
-use Rattle.io_traits.specs.declared.queue_faults.Damage.{Damage}
-use Rattle.io_traits.specs.declared.queue_faults.QueueFault.{QueueFault}
-use Rattle.io_traits.specs.declared.queue_faults.QueueFault.TheVariants as f
 use Rattle.io_traits.specs.declared.stores.Store.{Ghosts as StoreWords}
 use Rattle.io_traits.proofs.Beside.{beside_more, beside_none, both_beside, both_read, fact_beside, holds_beside}
 use Rattle.io_traits.proofs.Moments.{holds_now, one_then_other, started, weaker}
@@ -15,13 +12,11 @@ use Rattle.io_traits.specs.Tails.{passes}
 use Rattle.slot_files.specs.Contents.{left_in}
 use Rattle.dead_letters.specs.Found.{Held, found as letters_found}
 use Rattle.dead_letters.specs.Opening.{LeavesHeld, NoChances}
-use Rattle.dead_letters.specs.Queues.{Role, names, position, name_in}
+use Rattle.dead_letters.specs.Queues.{names, position, name_in}
 use Rattle.dead_letters.specs.Views.{IsOwn as IsOfLetters}
 use Rattle.dead_letters.proofs.OpeningRun.{kept_held}
-use Rattle.queue_files.specs.Collected.{IsLost}
-use Rattle.queue_files.specs.Folders.{IsOwn as IsOfQueue, Folder, names_in}
-use Rattle.queue_files.specs.Found.{found as queue_found}
-use Rattle.queue_core.specs.Opening.{FindsQueue, OpensFolder}
+use Rattle.queue_files.specs.Folders.{IsOwn as IsOfQueue, names_in}
+use Rattle.queue_core.specs.Opening.{OpensFolder}
 use Rattle.queue_core.specs.Opens.{IsReady as QueueReady}
 use Rattle.queue_core.specs.Views.{QueueView}
 use Rattle.queue_core.specs.declared.limits.Limits.{Limits}
@@ -31,7 +26,7 @@ use Rattle.line_folder.specs.FileNames.{of_letters, part_named}
 use Rattle.line_folder.specs.Openings.{IsOfEither, KeepsLetters}
 use Rattle.line_folder.specs.Readiness.{AreOutputsReady, IsFolderReady}
 use Rattle.line_folder.proofs.LettersFound.{found_same}
-use Rattle.line_folder.proofs.NameParts.{letters_role, queue_part, queue_or_letters}
+use Rattle.line_folder.proofs.NameParts.{letters_role, queue_part}
 use Rattle.line_folder.proofs.Together.{letters_keep_open, letters_keep_queue}
 
 -- files of the letters, by their names

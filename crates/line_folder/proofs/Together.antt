@@ -1,7 +1,7 @@
 -- The parts of a folder, each behind the calls of the others.
-use Rattle.std.proofs.Common.{◌≡◌, ℕ, Bool, true, false, Result, Ok, Err, OnOk, IsTrue, List, refl, sym, ap, ◌∙◌, subst, Some}
-use Rattle.io_traits.specs.Images.{Image}
-use Rattle.io_traits.specs.Moments.{MayLeaveNow, EachMoment, LeavesBeside, ReadsBeside, ImagesTell}
+use Rattle.std.proofs.lemmas.Bool.{false≢true}
+use Rattle.std.proofs.Common.{◌≡◌, inl, inr, ℕ, Bool, true, false, Result, Ok, Err, OnOk, IsTrue, List, refl, sym, ap, ◌∙◌, subst}
+use Rattle.io_traits.specs.Moments.{EachMoment, LeavesBeside, ReadsBeside, ImagesTell}
 use Rattle.io_traits.specs.declared.stores.Store.{Ghosts as StoreWords}
 use Rattle.io_traits.proofs.Beside.{beside_more}
 use Rattle.io_traits.proofs.Moments.{holds_now}
@@ -10,24 +10,26 @@ use Rattle.in_file.specs.Views.{Watched}
 use Rattle.in_file.proofs.Staying.{ready_beside as input_beside}
 use Rattle.dead_letters.specs.Views.{DeadQueue, IsOwn as IsOfLetters}
 use Rattle.dead_letters.proofs.Staying.{ready_beside as letters_beside}
-use Rattle.slot_files.specs.Views.{Output}
 use Rattle.queue_files.specs.Folders.{IsOwn as IsOfQueue, names_in}
 use Rattle.queue_files.specs.Kept.{Queue}
 use Rattle.queue_core.specs.Beside.{IsApart}
 use Rattle.queue_core.specs.Opens.{IsReady as QueueReady, Opens}
 use Rattle.queue_core.specs.Views.{QueueView}
 use Rattle.queue_core.specs.Writing.{behind_write, made_ready, needs_page}
-use Rattle.queue_core.specs.declared.limits.Numbers.{Numbers}
 use Rattle.queue_core.proofs.Acknowledging.{acknowledged_is_ready}
 use Rattle.queue_core.proofs.BesideOthers.{stays_open, stays_ready}
-use Rattle.line_outputs.specs.OpenFiles.{IsFileOf, IsOutside, OpenFiles, file_of}
-use Rattle.line_outputs.specs.Readiness.{LeavesOthers, OutputsReady}
+use Rattle.line_outputs.specs.OpenFiles.{IsFileOf, IsOutside, OpenFiles}
+use Rattle.line_outputs.specs.Readiness.{LeavesOthers}
 use Rattle.line_outputs.specs.declared.stored.StoredOutputs.{StoredOutputs}
 use Rattle.line_outputs.proofs.Keeping.{all_stay, its_ready}
-use Rattle.line_folder.specs.FileNames.{of_letters, of_inputs, belongs, is_delivered_to, input_slot}
-use Rattle.line_folder.specs.Readiness.{AreOutputsReady, IsFolderReady, QueueKeepsOutputs, DeliveryKeepsQueue, DeliveryKeepsOpen, LettersKeepQueue, LettersKeepOpen, QueueKeepsInputs, DeliveryKeepsInputs, LettersKeepInputs, InputsKeepFolder, InputsKeepOpen, AcknowledgedKeepsFolder}
+use Rattle.line_folder.specs.FileNames.{FilePart, of_queue, of_letters, of_outputs, of_inputs, of_outside, in_parts, part_named, belongs, is_delivered_to, input_slot}
+use Rattle.line_folder.specs.Readiness.{PartsAreApart, AreOutputsReady, IsFolderReady, QueueKeepsOutputs, DeliveryKeepsQueue, DeliveryKeepsOpen, LettersKeepQueue, LettersKeepOpen, QueueKeepsInputs, DeliveryKeepsInputs, LettersKeepInputs, InputsKeepFolder, InputsKeepOpen, AcknowledgedKeepsFolder}
 use Rattle.line_folder.specs.declared.folder.LineFolder.{LineFolder}
-use Rattle.line_folder.proofs.NameParts.{queue_or_letters, queue_or_file, letters_or_file, input_or_queue, input_or_letters, input_or_file, tests_letters, tests_input, tests_file, queue_not_letters, queue_not_input, queue_not_file}
+use Rattle.line_folder.proofs.NameParts.{file_part, input_part, letters_part, queue_part, queue_or_letters, queue_or_file, input_or_queue, input_or_letters, input_or_file, tests_letters, tests_input, tests_file, queue_not_letters, queue_not_input, queue_not_file}
+
+-- a file isn't of parts among which its own isn't
+no_part : (folder name : List ℕ) (part : FilePart) (parts : FilePart → Bool) → parts part ≡ false → part_named folder name ≡ part → IsTrue (in_parts parts folder name) → ⊥
+no_part folder name part parts none at is = false≢true (sym none ∙ ap parts (sym at) ∙ is)
 
 -- two facts of an answer that is Ok make a third
 pub both_give : {T E A B C : Type 0} (r : Result T E) → (A → B → C) → OnOk r A → OnOk r B → OnOk r C
@@ -52,6 +54,19 @@ module _ {S : Type 0} (store : StoreWords S) (tell : ImagesTell store) where
     files = all_stay store o.files.folder tell Mine old new leaves.now leaves.reads o.files.files ready.files
         (λ path f at. let its = its_ready store o.files.folder old path o.files.files f ready.files at in λ name own mine. files path name (subst (IsOutside o.files.folder) its.1 its.0.outside) own mine);
     letters = letters_beside store o.letters old ready.letters Mine (λ name own mine. letters name (subst (λ folder. IsOfLetters folder name) ready.folder own) mine) tell new leaves.now leaves.reads;
+  }
+
+  pub parts_are_apart : PartsAreApart store
+  parts_are_apart = record {
+    queue = λ parts v none name own is. no_part v.folder name of_queue parts none (queue_part v.folder name own) is;
+    letters = λ parts q none name own is. no_part q.folder name of_letters parts none (letters_part q.folder name own) is;
+    outputs = λ parts o s none none_outside ready path f at name own is.
+        let its = its_ready store o.folder s path o.files f ready at in
+        elim (file_part o.folder path name (subst (IsOutside o.folder) its.1 its.0.outside) own) [
+          | inl out ↦ no_part o.folder name of_outside parts none_outside out is
+          | inr slot ↦ no_part o.folder name of_outputs parts none slot is
+        ];
+    inputs = λ parts folder path w none at name own is. no_part folder name of_inputs parts none (ap (part_named folder) (own ∙ at) ∙ input_part folder path) is;
   }
 
   pub queue_keeps_outputs : QueueKeepsOutputs store

@@ -37,6 +37,10 @@ part_number of_inputs = 3
 part_number of_none = 4
 part_number of_outside = 5
 
+-- a file of parts for which a test holds
+abbrev pub in_parts : (FilePart → Bool) → List ℕ → List ℕ → Bool
+in_parts parts folder name = parts (part_named folder name)
+
 -- a file that belongs to this part
 abbrev pub belongs : FilePart → List ℕ → List ℕ → Bool
 belongs part folder name = part_number (part_named folder name) == part_number part

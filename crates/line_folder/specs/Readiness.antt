@@ -1,20 +1,22 @@
 -- The queue, the dead letters and the output files of a pipeline beside each other, and beside its inputs.
-use Rattle.std.specs.Prelude.{◌≡◌, IsTrue, List, ℕ}
+use Rattle.std.specs.Prelude.{◌≡◌, Bool, false, List, ℕ}
 use Rattle.io_traits.specs.Moments.{ReadsBeside}
 use Rattle.io_traits.specs.declared.stores.Store.{Ghosts as StoreWords}
-use Rattle.in_file.specs.Positions.{IsOwn as IsOfInput, IsReady as InputReady}
+use Rattle.in_file.specs.Positions.{IsApart as IsInputApart, IsOwn as IsOfInput, IsReady as InputReady}
 use Rattle.in_file.specs.Views.{Watched}
-use Rattle.dead_letters.specs.Views.{IsOwn as IsOfLetters}
+use Rattle.dead_letters.specs.Ready.{IsApart as AreLettersApart}
+use Rattle.dead_letters.specs.Views.{DeadQueue, IsOwn as IsOfLetters}
 use Rattle.queue_files.specs.Folders.{IsOwn as IsOfQueue, names_in}
 use Rattle.queue_files.specs.Kept.{Queue}
+use Rattle.queue_core.specs.Beside.{IsApart}
 use Rattle.queue_core.specs.Calls.{behind_acknowledge}
 use Rattle.queue_core.specs.Opens.{IsReady as QueueReady, Opens}
 use Rattle.queue_core.specs.Views.{QueueView}
 use Rattle.queue_core.specs.declared.limits.Numbers.{Numbers}
-use Rattle.line_outputs.specs.OpenFiles.{IsFileOf, IsOutside}
+use Rattle.line_outputs.specs.OpenFiles.{AreApart, FilesReady, IsFileOf, IsOutside, OpenFiles}
 use Rattle.line_outputs.specs.Readiness.{LeavesOthers, OutputsReady}
 use Rattle.line_outputs.specs.declared.stored.StoredOutputs.{StoredOutputs}
-use Rattle.line_folder.specs.FileNames.{input_slot}
+use Rattle.line_folder.specs.FileNames.{FilePart, of_queue, of_letters, of_outputs, of_inputs, of_outside, in_parts, input_slot}
 use Rattle.line_folder.specs.declared.folder.LineFolder.{LineFolder}
 
 module _ {S : Type 0} (store : StoreWords S) where
@@ -29,6 +31,13 @@ module _ {S : Type 0} (store : StoreWords S) where
     pub outputs : AreOutputsReady f.outputs s
 
   -- ---- laws
+
+  -- Files of other parts, by a test of parts, are none of a queue, of dead letters, of output files that are open, or of an input: so all that lower laws say of others on the store holds of the calls of these parts.
+  pub record PartsAreApart : Type 0 where
+    pub queue : (parts : FilePart → Bool) (v : QueueView) → parts of_queue ≡ false → IsApart (in_parts parts v.folder) v
+    pub letters : (parts : FilePart → Bool) (q : DeadQueue) → parts of_letters ≡ false → AreLettersApart store (in_parts parts q.folder) q
+    pub outputs : (parts : FilePart → Bool) (o : OpenFiles) (s : S) → parts of_outputs ≡ false → parts of_outside ≡ false → FilesReady store o s → AreApart store (in_parts parts o.folder) o
+    pub inputs : (parts : FilePart → Bool) (folder path : List ℕ) (w : Watched) → parts of_inputs ≡ false → w.slot ≡ input_slot folder path → IsInputApart store (in_parts parts folder) w
 
   -- a call of the queue leaves the outputs and the letters ready
   abbrev pub QueueKeepsOutputs : Type 0

@@ -2,7 +2,7 @@
 ghost use Rattle.line_folder.specs.FileNames.{NamesTellParts};
 ghost use Rattle.line_folder.specs.Readiness.{AcknowledgedKeepsFolder, DeliveryKeepsInputs, DeliveryKeepsOpen, DeliveryKeepsQueue};
 ghost use Rattle.line_folder.specs.Readiness.{InputsKeepFolder, InputsKeepOpen, LettersKeepInputs, LettersKeepOpen, LettersKeepQueue};
-ghost use Rattle.line_folder.specs.Readiness.{QueueKeepsInputs, QueueKeepsOutputs};
+ghost use Rattle.line_folder.specs.Readiness.{PartsAreApart, QueueKeepsInputs, QueueKeepsOutputs};
 
 use io_traits::Store;
 
@@ -10,6 +10,11 @@ use io_traits::Store;
 /// positions of output files, those of inputs and the files outside of the folder to theirs.
 pub fn names_tell_parts()
     ensures { NamesTellParts }
+{}
+
+/// A test of parts tells files of others from those of a queue, of dead letters, of open output files and of an input.
+pub fn parts_are_apart<S: Store>()
+    ensures { PartsAreApart S.Store }
 {}
 
 /// A call of the queue leaves the output files that are open and the dead letters ready.

@@ -1,4 +1,4 @@
-use Rattle.std.proofs.Common.{inl, inr, refl, sym, ◌∙◌, subst}
+use Rattle.std.proofs.Common.{inr, refl, sym, ◌∙◌, subst}
 use Rattle.queue_files.specs.Folders.{names_in}
 use Rattle.queue_files.specs.Marks.{read_in}
 use Rattle.queue_core.specs.Opening.{IsQueueOpened, OpensFolder}
