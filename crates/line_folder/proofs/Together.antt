@@ -1,6 +1,7 @@
 -- The parts of a folder, each behind the calls of the others.
 use Rattle.std.proofs.lemmas.Bool.{false≢true}
 use Rattle.std.proofs.Common.{◌≡◌, inl, inr, ℕ, Bool, true, false, Result, Ok, Err, OnOk, IsTrue, List, refl, sym, ap, ◌∙◌, subst}
+use Rattle.std.proofs.lemmas.List.{append_cancel_left}
 use Rattle.io_traits.specs.Moments.{EachMoment, LeavesBeside, ReadsBeside, ImagesTell}
 use Rattle.io_traits.specs.declared.stores.Store.{Ghosts as StoreWords}
 use Rattle.io_traits.proofs.Beside.{beside_more}
@@ -10,6 +11,9 @@ use Rattle.in_file.specs.Views.{Watched}
 use Rattle.in_file.proofs.Staying.{ready_beside as input_beside}
 use Rattle.dead_letters.specs.Views.{DeadQueue, IsOwn as IsOfLetters}
 use Rattle.dead_letters.proofs.Staying.{ready_beside as letters_beside}
+use Rattle.slot_files.specs.Names.{position_name}
+use Rattle.slot_files.specs.declared.name.PositionOf.TheVariants.{Input as OfInput}
+use Rattle.slot_files.proofs.PathNames.{names_differ}
 use Rattle.queue_files.specs.Folders.{IsOwn as IsOfQueue, names_in}
 use Rattle.queue_files.specs.Kept.{Queue}
 use Rattle.queue_core.specs.Beside.{IsApart}
@@ -23,7 +27,7 @@ use Rattle.line_outputs.specs.Readiness.{LeavesOthers}
 use Rattle.line_outputs.specs.declared.stored.StoredOutputs.{StoredOutputs}
 use Rattle.line_outputs.proofs.Keeping.{all_stay, its_ready}
 use Rattle.line_folder.specs.FileNames.{FilePart, of_queue, of_letters, of_outputs, of_inputs, of_outside, in_parts, part_named, belongs, is_delivered_to, input_slot}
-use Rattle.line_folder.specs.Readiness.{PartsAreApart, AreOutputsReady, IsFolderReady, QueueKeepsOutputs, DeliveryKeepsQueue, DeliveryKeepsOpen, LettersKeepQueue, LettersKeepOpen, QueueKeepsInputs, DeliveryKeepsInputs, LettersKeepInputs, InputsKeepFolder, InputsKeepOpen, AcknowledgedKeepsFolder}
+use Rattle.line_folder.specs.Readiness.{PartsAreApart, AreOutputsReady, IsFolderReady, QueueKeepsOutputs, DeliveryKeepsQueue, DeliveryKeepsOpen, LettersKeepQueue, LettersKeepOpen, QueueKeepsInputs, DeliveryKeepsInputs, LettersKeepInputs, InputsKeepInputs, InputsKeepFolder, InputsKeepOpen, AcknowledgedKeepsFolder}
 use Rattle.line_folder.specs.declared.folder.LineFolder.{LineFolder}
 use Rattle.line_folder.proofs.NameParts.{file_part, input_part, letters_part, queue_part, queue_or_letters, queue_or_file, input_or_queue, input_or_letters, input_or_file, tests_letters, tests_input, tests_file, queue_not_letters, queue_not_input, queue_not_file}
 
@@ -123,6 +127,11 @@ module _ {S : Type 0} (store : StoreWords S) (tell : ImagesTell store) where
 
   pub letters_keep_inputs : LettersKeepInputs store
   letters_keep_inputs folder path w old new is leaves ready = input_stays w old new (IsOfLetters folder) leaves (input_or_letters folder path w.slot is) ready
+
+  pub inputs_keep_inputs : InputsKeepInputs store
+  inputs_keep_inputs folder path other w u old new is at differ bytes them leaves ready =
+      input_stays u old new (IsOfInput w) leaves
+      (λ same. differ (sym (names_differ OfInput other path them bytes (append_cancel_left folder (position_name OfInput other) (position_name OfInput path) (sym at ∙ same ∙ is))))) ready
 
   -- all parts, while an input records its position
   module _ (v : QueueView) (path : List ℕ) (w : Watched) (old new : S) (is : w.slot ≡ input_slot v.folder path) where

@@ -1,5 +1,6 @@
 -- The queue, the dead letters and the output files of a pipeline beside each other, and beside its inputs.
-use Rattle.std.specs.Prelude.{◌≡◌, Bool, false, List, ℕ}
+use Rattle.std.specs.Prelude.{◌≡◌, ◌≢◌, Bool, false, List, ℕ}
+use Rattle.crc_frame.specs.Bytes.{IsBytes}
 use Rattle.io_traits.specs.Moments.{ReadsBeside}
 use Rattle.io_traits.specs.declared.stores.Store.{Ghosts as StoreWords}
 use Rattle.in_file.specs.Positions.{IsApart as IsInputApart, IsOwn as IsOfInput, IsReady as InputReady}
@@ -73,6 +74,12 @@ module _ {S : Type 0} (store : StoreWords S) where
   abbrev pub LettersKeepInputs : Type 0
   LettersKeepInputs =
       (folder path : List ℕ) (w : Watched) (old new : S) → w.slot ≡ input_slot folder path → LeavesOthers store (IsOfLetters folder) old new → InputReady store w old → InputReady store w new
+
+  -- an input that records its position leaves those ready that read other paths
+  abbrev pub InputsKeepInputs : Type 0
+  InputsKeepInputs =
+      (folder path other : List ℕ) (w u : Watched) (old new : S) → w.slot ≡ input_slot folder path → u.slot ≡ input_slot folder other → path ≢ other → IsBytes path → IsBytes other
+      → LeavesOthers store (IsOfInput w) old new → InputReady store u old → InputReady store u new
 
   -- an assurance of an input leaves all parts ready, and what the queue holds
   abbrev pub InputsKeepFolder : Type 0

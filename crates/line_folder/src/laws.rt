@@ -1,7 +1,7 @@
 //! What holds of the parts of a folder beside each other. Each function here does nothing: its clauses are theorems.
 ghost use Rattle.line_folder.specs.FileNames.{NamesTellParts};
 ghost use Rattle.line_folder.specs.Readiness.{AcknowledgedKeepsFolder, DeliveryKeepsInputs, DeliveryKeepsOpen, DeliveryKeepsQueue};
-ghost use Rattle.line_folder.specs.Readiness.{InputsKeepFolder, InputsKeepOpen, LettersKeepInputs, LettersKeepOpen, LettersKeepQueue};
+ghost use Rattle.line_folder.specs.Readiness.{InputsKeepFolder, InputsKeepInputs, InputsKeepOpen, LettersKeepInputs, LettersKeepOpen, LettersKeepQueue};
 ghost use Rattle.line_folder.specs.Readiness.{PartsAreApart, QueueKeepsInputs, QueueKeepsOutputs};
 
 use io_traits::Store;
@@ -31,11 +31,13 @@ pub fn outputs_leave_the_queue_ready<S: Store>()
     ensures letters_open { LettersKeepOpen S.Store }
 {}
 
-/// Calls of the queue and of the outputs leave an input ready that records its position in the folder.
+/// Calls of the queue and of the outputs leave an input ready that records its position in the folder, and so do inputs
+/// that read other paths.
 pub fn inputs_stay_ready<S: Store>()
     ensures queue { QueueKeepsInputs S.Store }
     ensures delivery { DeliveryKeepsInputs S.Store }
     ensures letters { LettersKeepInputs S.Store }
+    ensures inputs { InputsKeepInputs S.Store }
 {}
 
 /// An input that records its position in the folder leaves all parts ready, and the store holds the queue still.
