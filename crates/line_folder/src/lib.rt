@@ -5,7 +5,8 @@
 //! each does what the part's own call does, and leaves the others ready.
 //!
 //! `specs/FileNames` says of each file by its name to which part it belongs; `specs/Readiness` when all parts are ready, and
-//! which calls of others, as of the inputs that record their positions in the folder, leave them so.
+//! which calls of others, as of the inputs that record their positions in the folder, leave them so; `specs/Openings` what a stop
+//! leaves while the folder is opened.
 #![tactic(auto)]
 
 mod folder;

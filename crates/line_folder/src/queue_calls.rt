@@ -128,7 +128,8 @@ impl LineFolder {
     /// The rows of these numbers are acknowledged: those of a batch that the queue gave. It takes no memory, and
     /// leaves all ready.
     pub fn acknowledge(&mut self, numbers: Numbers)
-        ensures { self.new ≡ record self.old { queue = behind_acknowledge numbers self.old.queue } }
+        ensures { self.new
+            ≡ record self.old { queue = behind_acknowledge numbers self.old.queue } }
     {
         self.queue.acknowledge(numbers)
     }
