@@ -2,7 +2,7 @@ mod Results
 mod Finding
 pub mod Keeping
 mod Opening
-pub mod Delivering
-pub mod Apart
+mod Delivering
+mod Apart
 mod Unwritten
 mod Rejecting
