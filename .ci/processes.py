@@ -79,7 +79,7 @@ def killed(top):
     expect("the names, under the lock", second.ask("a list ~/main"), "page.0 in all")
     expect("what was appended", second.ask("a read ~/main/page.0 0 8"), "abc")
     expect("a later sync", second.ask("a sync"), "done")
-    second.kill()
+    second.end()
     if STRACE:
         expect("what is synced before it is relied on", synced(trace), [f"{data}/main", f"{data}/main/page.0"])
         opened = [call for call in calls(trace, "openat") if data in call and re.search("O_WRONLY|O_RDWR|O_CREAT", call)]
