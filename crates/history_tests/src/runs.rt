@@ -4,6 +4,8 @@
 //! - `N ENTRY`: it tells an entry (see `judged`);
 //! - `0 send NUMBER EVENTS`: it sends a parcel, and `0 hear NUMBER assured` or `0 hear NUMBER none`: it hears an answer;
 //! - `N link TAKEN ANSWERS`: whether the link is sound, where so many of the parcels were taken and these answers given;
+//! - `1 outside LOST ANSWERS`: the same of a link from outside by which nothing was taken, where parcels of these numbers lay
+//!   in the ring when the listener was closed;
 //! - `N took EVENTS`: whether the box took these events;
 //! - `N done TEXTS`: whether the pipeline is done, where its input 0 found these texts and then its end, and that link
 //!   stands; and `N stopped LINES`: whether it has stopped, where these pipelines drain.
@@ -162,6 +164,10 @@ fn item_of(alloc: Global, items: &[(u32, Item)], text: &str) -> Result<Item, All
         })),
         "hear" => Ok(Item::Hear(Text::of(alloc, ADDRESS)?, answer_of(number, said))),
         "link" => Ok(Item::Link(link_of(alloc, items, number, said)?)),
+        "outside" => {
+            let (lost, answers) = first_word(rest);
+            Ok(Item::Link(outside_of(alloc, lost, answers)?))
+        }
         "took" => Ok(Item::Took(events_of(alloc, rest)?)),
         "done" => Ok(Item::Done(looks_of(alloc, rest)?)),
         "stopped" => Ok(Item::Stopped(lines_of(alloc, rest)?)),
@@ -207,7 +213,21 @@ fn link_of(
         taken,
         given_before: 0,
         given,
+        lost: Vec::new(alloc),
     })
+}
+
+// A link from outside, by which nothing was taken, where these are the numbers of the parcels that lay in its ring when its
+// listener was closed, and the first parcels got these answers.
+fn outside_of(alloc: Global, lost: &str, answers: &str) -> Result<LinkTraffic, AllocError> {
+    let mut link = link_of(alloc, &[], 0, answers)?;
+    link.from = None;
+    for word in lost.split(',') {
+        if let Ok(number) = word.parse::<u64>() {
+            link.lost.push(number)?;
+        }
+    }
+    Ok(link)
 }
 
 fn copy_parcel(parcel: &Parcel) -> Result<Parcel, AllocError> {
@@ -236,5 +256,6 @@ fn copy_of(alloc: Global, link: &LinkTraffic) -> Result<LinkTraffic, AllocError>
         taken,
         given_before: link.given_before,
         given: Vec::from_slice(alloc, link.given.as_slice())?,
+        lost: Vec::from_slice(alloc, link.lost.as_slice())?,
     })
 }

@@ -20,6 +20,8 @@ pub struct LinkTraffic {
     pub taken: Vec<Parcel>,
     pub given_before: usize,
     pub given: Vec<Answer>,
+    /// The numbers of the parcels that lay in the ring, not taken, when an adoption closed the input that listened there.
+    pub lost: Vec<u64>,
 }
 
 impl<'a> Run<'a> {
@@ -124,10 +126,12 @@ fn is_refused(taker: &Line, link: &LinkTraffic, number: u64) -> bool {
     taken_at(link, number).is_none() && rows_from(taker, link, number) == 0
 }
 
-// Behind the sending of this parcel a configuration was adopted that closed the listener of its address.
+// Behind the sending of this parcel a configuration was adopted that closed the listener of its address; of one that came
+// from outside, while it lay in the ring.
 fn was_lost(sender: Option<&Line>, taker: &Line, link: &LinkTraffic, number: u64) -> bool {
     let sent_at = match sender {
-        None => Some(0),
+        None if link.lost.contains(&number) => Some(0),
+        None => None,
         Some(line) => {
             let mut sent = line.sent.iter();
             sent.find(|s| s.parcel.number == number && s.parcel.address == link.address)
