@@ -5,6 +5,7 @@ pub mod Pairs
 pub mod Answers
 pub mod Table
 pub mod Values
+pub mod Own
 pub mod Entries
 pub mod Reading
 pub mod Steps

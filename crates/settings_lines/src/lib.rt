@@ -9,6 +9,7 @@ mod fault;
 mod lines;
 mod numbers;
 mod orders;
+mod own;
 mod partial_settings;
 mod pipelines;
 mod settings;
