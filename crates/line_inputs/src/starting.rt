@@ -14,7 +14,7 @@ ghost use Rattle.line_inputs.specs.Openings.{AreOfPath, AreOpen, BeginsWith};
 ghost use Rattle.line_inputs.specs.Positions.{AreReady};
 ghost use Rattle.line_inputs.specs.Starting as spec;
 ghost use Rattle.line_inputs.specs.Settings.{generator_of, plain_settings, plan_of, settings_of};
-ghost use Rattle.line_inputs.specs.Sources.{files_of};
+ghost use Rattle.line_inputs.specs.Sources.{connections_of, files_of};
 ghost use Rattle.line_inputs.specs.declared.source.InputSource.TheVariants as source;
 
 use crate::generated::GeneratedInput;
@@ -106,6 +106,7 @@ impl OpenInput {
         ensures settings { IfOk result (λ input. input.settings ≡ settings_of settings.old.common) }
         ensures waiting { IfOk result (λ input. input.waiting ≡ None) }
         ensures ended { IfOk result (λ input. input.ended ≡ false) }
+        ensures connections { IfOk result (λ input. connections_of input.source ≡ []) }
         ensures ready { IfOk result (λ input. AreReady S.Store (files_of input.source) store.new) }
         ensures damaged { (damage : DamageValue) → result ≡ Err (o.Damaged damage) → IsTrue S.tells
             → IsDamaged damage.file (recorded_in (bytes_of (S.seen store.old damage.file))) damage }
@@ -146,7 +147,9 @@ impl OpenInput {
             (λ made. AreReady S.Store (files_of made.source) store.new)) }
         ensures damaged { (damage : DamageValue) → result ≡ Err (o.Damaged damage) → IsTrue S.tells
             → IsDamaged damage.file (recorded_in (bytes_of (S.seen store.old damage.file))) damage }
-        ensures watched { OnErr result (BeginsWith watched.old watched.new) }
+        ensures connections { IfOk result (λ made. IfSome made
+            (λ made. connections_of made.source ≡ [])) }
+        ensures watched { BeginsWith watched.old watched.new }
         ensures reads { IsTrue S.tells → S.seen store.new ≡ S.seen store.old }
         ensures any_moment { EachMoment S.Store store.old store.new
             (NowOrSynced S.Store store.old) }

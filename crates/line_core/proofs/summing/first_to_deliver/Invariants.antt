@@ -1,0 +1,4 @@
+use Rattle.line_core.proofs.summing.first_to_deliver.Given as goal
+
+abbrev pub invariant-loop-at : goal.invariant-loop-at
+invariant-loop-at l = Unit {0}
