@@ -86,6 +86,7 @@ module _ {O : Type 0} {number : O → ℕ} {held : O → Option (List Ev)} {faul
   pub box_rose : (count : O → ℕ) → IsKnown number n old → Rose (count d.before.output) (count d.after.output) → BoxRose count old new
   box_rose count known rose = record {
     place = box_place number n old;
+    there = known;
     before = d.before;
     after = d.after;
     was = d.was;

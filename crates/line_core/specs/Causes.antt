@@ -1,5 +1,5 @@
 -- When the calls of a line answer what they do.
-use Rattle.std.specs.Prelude.{◌≡◌, ℕ, true, List, slice_index_or, map, IsTrue, Some, Result, Ok, Err}
+use Rattle.std.specs.Prelude.{◌≡◌, ◌≤◌, ◌<◌, length, ℕ, true, List, slice_index_or, map, IsTrue, Some, Result, Ok, Err}
 use Rattle.std.specs.List.{sum}
 use Rattle.io_traits.specs.Counts.{Rose}
 use Rattle.io_traits.specs.declared.files.Files.{Ghosts as FilesWords}
@@ -38,6 +38,25 @@ abbrev pub GoesOnBehind : {A : Type 0} → Result A LineFault → Type 0
 GoesOnBehind (Ok x) = Unit {0}
 GoesOnBehind (Err f) = GoesOn f
 
+-- a fault is none of an output, and none of an input
+abbrev pub IsOfNoOutput : LineFault → Type 0
+IsOfNoOutput fault.Store = Unit {0}
+IsOfNoOutput (fault.Input n) = Unit {0}
+IsOfNoOutput (fault.Output id) = ⊥
+IsOfNoOutput (fault.Damaged damage) = Unit {0}
+IsOfNoOutput fault.NumbersSpent = Unit {0}
+IsOfNoOutput (fault.DeadFull size added limit) = Unit {0}
+IsOfNoOutput fault.Memory = Unit {0}
+
+abbrev pub IsOfNoInput : LineFault → Type 0
+IsOfNoInput fault.Store = Unit {0}
+IsOfNoInput (fault.Input n) = ⊥
+IsOfNoInput (fault.Output id) = Unit {0}
+IsOfNoInput (fault.Damaged damage) = Unit {0}
+IsOfNoInput fault.NumbersSpent = Unit {0}
+IsOfNoInput (fault.DeadFull size added limit) = Unit {0}
+IsOfNoInput fault.Memory = Unit {0}
+
 -- what a row that wasn't written is to the line
 abbrev pub refusal_of : WriteFault → Result Accepted LineFault
 refusal_of write.Full = Ok accepted.Full
@@ -54,6 +73,12 @@ module _ {I F L : Type 0} (stdin : SourceWords I) (files : FilesWords F) (links 
   FailedToRead (source.Generated g) o = ⊥
   FailedToRead (source.Files w) o = Rose (files.faults o.files_old) (files.faults o.files_new)
   FailedToRead (source.Connections t) o = Rose (links.accept_faults o.links_old) (links.accept_faults o.links_new)
+
+  -- none of these counts fell
+  pub record CountsStand (o : Around stdin files links) : Type 0 where
+    pub stdin_count : stdin.faults o.stdin_old ≤ stdin.faults o.stdin_new
+    pub files_count : files.faults o.files_old ≤ files.faults o.files_new
+    pub links_count : links.accept_faults o.links_old ≤ links.accept_faults o.links_new
 
 -- an input holds an event of which the queue says this
 abbrev pub IsHeld : (ℕ → QueueView → Type 0) → LineInput → QueueView → Type 0
@@ -80,6 +105,7 @@ module _ {O : Type 0} (count : O → ℕ) where
   -- this count of a box rose
   pub record BoxRose (old new : List (BoxedOutput O)) : Type 0 where
     pub place : ℕ
+    pub there : place < length old
     pub before : BoxedOutput O
     pub after : BoxedOutput O
     pub was : before ≡ slice_index_or old place before

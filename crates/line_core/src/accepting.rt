@@ -10,7 +10,7 @@ ghost use Rattle.line_machine.specs.declared.calls.LineFault.TheVariants as faul
 ghost use Rattle.queue_files.specs.Folders.{IsOwn, names_in};
 ghost use Rattle.line_outputs.specs.Readiness.{LeavesOthers};
 ghost use Rattle.line_folder.specs.Readiness.{IsFolderReady};
-ghost use Rattle.line_core.specs.Causes.{FailedToRead, GoesOnBehind, HasNoNumber, HasNoRoom, Holds, IsHeld, refusal_of};
+ghost use Rattle.line_core.specs.Causes.{CountsStand, FailedToRead, GoesOnBehind, HasNoNumber, HasNoRoom, Holds, IsOfNoOutput, IsHeld, refusal_of};
 ghost use Rattle.line_core.specs.Parts.{queue_of, inputs_of};
 ghost use Rattle.line_core.specs.Readiness.{CanDeliver, HaveCome, IsReady, IsSame};
 ghost use Rattle.line_core.specs.declared.line.LineInput.{LineInput as LineInputValue};
@@ -65,6 +65,10 @@ impl<F: Drop, O: OutputCall> Line<F, O> {
             → FailedToRead I.Source P.Files L.Links from.open.source
             (around I.Source P.Files L.Links stdin.old stdin.new files.old files.new
             links.old links.new)) }
+        ensures counts { CountsStand I.Source P.Files L.Links
+            (around I.Source P.Files L.Links stdin.old stdin.new files.old files.new
+            links.old links.new) }
+        ensures others { IfErr result IsOfNoOutput }
         ensures cause { HasCause (S.faults store.old) (S.faults store.new)
             (result ≡ Err fault.Store) }
     {
@@ -110,6 +114,7 @@ fn write_held<S: Store, B: Book>(
     ensures spent { result ≡ Err fault.NumbersSpent
         → IsHeld HasNoNumber from.new folder.old.queue }
     ensures input { (n : ℕ) → result ≡ Err (fault.Input n) → ⊥ }
+    ensures others { IfErr result IsOfNoOutput }
     ensures cause { HasCause (S.faults store.old) (S.faults store.new)
         (result ≡ Err fault.Store) }
 {
@@ -146,6 +151,7 @@ fn write_event<S: Store, B: Book>(
     ensures spent { result ≡ Err fault.NumbersSpent
         → IsHeld HasNoNumber from.new folder.old.queue }
     ensures input { (n : ℕ) → result ≡ Err (fault.Input n) → ⊥ }
+    ensures others { IfErr result IsOfNoOutput }
     ensures cause { HasCause (S.faults store.old) (S.faults store.new)
         (result ≡ Err fault.Store) }
 {
@@ -179,6 +185,9 @@ impl LineInput {
         requires { AreCame I.Source P.Files L.Links self.old.open.source links.old }
         ensures came { AreCame I.Source P.Files L.Links self.new.open.source links.new }
         ensures more { L.came links.old ≤ L.came links.new }
+        ensures counts { CountsStand I.Source P.Files L.Links
+            (around I.Source P.Files L.Links stdin.old stdin.new files.old files.new
+            links.old links.new) }
         ensures stored { stored (files_of self.new.open.source)
             ≡ stored (files_of self.old.open.source) }
         ensures id { self.new.id ≡ self.old.id }
@@ -188,6 +197,7 @@ impl LineInput {
             (around I.Source P.Files L.Links stdin.old stdin.new files.old files.new
             links.old links.new) }
         ensures faults { IfErr result (λ f. (f ≡ fault.Input input → ⊥) → f ≡ fault.Memory) }
+        ensures others { IfErr result IsOfNoOutput }
     {
         if self.held.is_some() {
             return Ok(());
@@ -210,6 +220,9 @@ impl LineInput {
         requires none { self.old.held ≡ None }
         ensures came { AreCame I.Source P.Files L.Links self.new.open.source links.new }
         ensures more { L.came links.old ≤ L.came links.new }
+        ensures counts { CountsStand I.Source P.Files L.Links
+            (around I.Source P.Files L.Links stdin.old stdin.new files.old files.new
+            links.old links.new) }
         ensures stored { stored (files_of self.new.open.source)
             ≡ stored (files_of self.old.open.source) }
         ensures id { self.new.id ≡ self.old.id }
@@ -219,6 +232,7 @@ impl LineInput {
             (around I.Source P.Files L.Links stdin.old stdin.new files.old files.new
             links.old links.new) }
         ensures faults { IfErr result (λ f. (f ≡ fault.Input input → ⊥) → f ≡ fault.Memory) }
+        ensures others { IfErr result IsOfNoOutput }
     {
         if self.open.holds() {
             return Ok(());

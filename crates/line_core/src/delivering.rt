@@ -1,5 +1,5 @@
 // What is due of batches, delivered.
-ghost use Rattle.std.specs.Prelude.{◌≡◌, ◌⊎◌, ◌<◌, ℕ, List, [], length, remove};
+ghost use Rattle.std.specs.Prelude.{◌≡◌, ◌⊎◌, ◌<◌, ◌≤◌, ℕ, List, [], length, remove};
 ghost use Rattle.std.specs.Prelude.{IsTrue, Ok, Err, OnOk};
 ghost use Rattle.std.specs.Result.{IfErr};
 ghost use Rattle.std.specs.List.{AllByRecursion};
@@ -12,7 +12,7 @@ ghost use Rattle.line_outputs.specs.OpenFiles.{IsOutside, slot_in};
 ghost use Rattle.line_machine.specs.declared.calls.Delivered.TheVariants as delivered;
 ghost use Rattle.line_machine.specs.declared.calls.LineFault.TheVariants as fault;
 ghost use Rattle.line_core.specs.Batches.{HasNothingLeft, IsBatchOf, IsOut};
-ghost use Rattle.line_core.specs.Causes.{BoxRose, LettersAreFull};
+ghost use Rattle.line_core.specs.Causes.{BoxRose, IsOfNoInput, LettersAreFull};
 ghost use Rattle.line_core.specs.Deliveries.{AnswersOn, FailsOn, no_grounds, unappended};
 ghost use Rattle.line_core.specs.Deliveries.{ChangesFolder, ChangesOutputs};
 ghost use Rattle.line_core.specs.Parts.{batches_of, boxes_of, inputs_of, queue_of};
@@ -73,6 +73,8 @@ impl<F: FilterCall, O: OutputCall> Line<F, O> {
             × (counted_in path (slot_in (path_of self.old) path) (S.seen store.old) ≡ Err damage) }
         ensures full { (size added limit : ℕ) → result ≡ Err (fault.DeadFull size added limit)
             → LettersAreFull (letters_of self.old) size added limit }
+        ensures others { IfErr result IsOfNoInput }
+        ensures counts { T.faults stdout.old ≤ T.faults stdout.new }
         ensures cause { HasCause (S.faults store.old) (S.faults store.new)
             (result ≡ Err fault.Store) }
     {
@@ -113,6 +115,7 @@ impl<F: FilterCall, O: OutputCall> Line<F, O> {
           full = LettersAreFull (letters_of self.old);
           lost = Unit {0};
         }) result }
+        ensures counts { T.faults stdout.old ≤ T.faults stdout.new }
         ensures cause { HasCause (S.faults store.old) (S.faults store.new)
             (result ≡ Err fault.Store) }
     {
@@ -153,6 +156,7 @@ impl<F: FilterCall, O: OutputCall> Line<F, O> {
           full = LettersAreFull (letters_of self.old);
           lost = Unit {0};
         }) result }
+        ensures counts { T.faults stdout.old ≤ T.faults stdout.new }
         ensures cause { HasCause (S.faults store.old) (S.faults store.new)
             (result ≡ Err fault.Store) }
     {
@@ -176,9 +180,10 @@ impl<F: FilterCall, O: OutputCall> Line<F, O> {
         stdout: &mut T,
         book: &mut B,
     ) -> Result<Delivered, LineFault>
-        ensures { AnswersOn (record no_grounds {
+        ensures answers { AnswersOn (record no_grounds {
           failed = Rose (T.faults stdout.old) (T.faults stdout.new);
         }) result }
+        ensures counts { T.faults stdout.old ≤ T.faults stdout.new }
     {
         if write_flushed(stdout, due.bytes.as_slice()).is_err() {
             return Err(output_fault(&due.target.get().output));

@@ -5,11 +5,11 @@ ghost use Rattle.line_core.specs.Rooms.{room_prop};
 
 use crate::batches::LineBatch;
 use crate::generation::Generation;
-use batch_rows::Close;
 use event_tree::Event;
 use foreign_parts::Place;
 use line_folder::LineFolder;
 use line_inputs::OpenInput;
+use line_jobs::Close;
 use line_outputs::{BoxedOutputs, OutputCall};
 use plain_data::Text;
 use queue_core::Batch;

@@ -64,6 +64,7 @@ impl<F: Drop, O: OutputCall> Line<F, O> {
             ⊎ FindsPosition (S.seen store.new) damage }
         ensures failed { (n : ℕ) → result ≡ Err (fault.Input n)
             → Rose (P.faults files.old) (P.faults files.new) }
+        ensures read { OnOk result (P.faults files.new ≡ P.faults files.old) }
         ensures cause { HasCause (S.faults store.old) (S.faults store.new)
             (result ≡ Err fault.Store) }
     {
@@ -224,6 +225,7 @@ fn open_inputs<S: Store, P: Files>(
         → IsTrue S.tells → FindsPosition (S.seen store.new) damage }
     ensures failed { (n : ℕ) → result ≡ Err (fault.Input n)
         → Rose (P.faults files.old) (P.faults files.new) }
+    ensures read { OnOk result (P.faults files.new ≡ P.faults files.old) }
     ensures reads { IsTrue S.tells → S.seen store.new ≡ S.seen store.old }
     ensures any_moment { EachMoment S.Store store.old store.new (NowOrSynced S.Store store.old) }
     ensures cause { HasCause (S.faults store.old) (S.faults store.new)

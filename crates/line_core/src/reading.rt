@@ -5,6 +5,7 @@ ghost use Rattle.graph_checks.specs.declared.drawn.Drawn.{Drawn as DrawnValue};
 ghost use Rattle.line_jobs.specs.declared.job.Job.{Job as JobValue};
 ghost use Rattle.line_machine.specs.declared.calls.ReadOut.TheVariants as readout;
 ghost use Rattle.line_machine.specs.declared.calls.LineFault.TheVariants as fault;
+ghost use Rattle.line_core.specs.Causes.{IsOfNoInput, IsOfNoOutput};
 ghost use Rattle.line_core.specs.Jobs.{AreOthers, AreOut, IsResult};
 ghost use Rattle.line_core.specs.Parts.{folder_of, home_of, inputs_of, kit_count, outgoing_of, path_of};
 ghost use Rattle.line_core.specs.Readiness.{CanDeliver, IsReady};
@@ -48,6 +49,7 @@ impl<F: FilterCall, O: OutputCall> Line<F, O> {
 
         // When each answer comes.
         ensures none { result ≡ Ok readout.NoKit → W.out shop.new ≡ W.out shop.old }
+        ensures others { IfErr result (λ f. IsOfNoInput f × IsOfNoOutput f) }
         ensures cause { HasCause (S.faults store.old) (S.faults store.new)
             (result ≡ Err fault.Store) }
     {
@@ -88,6 +90,7 @@ impl<F: FilterCall, O: OutputCall> Line<F, O> {
           kept = self.new.kept;
         } }
         ensures path { path_of self.new ≡ path_of self.old }
+        ensures others { IfErr result (λ f. IsOfNoInput f × IsOfNoOutput f) }
         ensures cause { HasCause (S.faults store.old) (S.faults store.new)
             (result ≡ Err fault.Store) }
     {

@@ -2,7 +2,7 @@
 use Rattle.std.proofs.Common.{◌≡◌, ◌<◌, ◌≤◌, ◌+◌, ℕ, zero, suc, List, [], ◌∷◌, length, map, get_or, slice_set, Option, refl, ap, ◌∙◌, arith, add-one}
 use Rattle.plugin_graph.specs.Graphs.{boxes_in}
 use Rattle.plugin_graph.specs.declared.kit.Kit.{Kit}
-use Rattle.batch_rows.specs.Closing.{each_once_more, told}
+use Rattle.line_jobs.specs.Closings.{each_once_more, told}
 use Rattle.line_jobs.specs.Closings.{all_once_more, told_in}
 
 -- counts of kits, each once more but those of the first few

@@ -1,3 +1,4 @@
 pub mod ClosedKits
 pub mod Dues
 pub mod Parting
+pub mod OnceMore

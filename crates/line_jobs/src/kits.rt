@@ -3,7 +3,7 @@ ghost use Rattle.std.specs.Prelude.{◌≡◌, ◌≤◌, ◌<◌, ◌++◌, ◌
 ghost use Rattle.plugin_graph.specs.Graphs.{built_in, contents_of};
 ghost use Rattle.line_jobs.specs.Closings.{all_once_more, told_in};
 
-use batch_rows::{Close, close_kit};
+use crate::closing::{Close, close_kit};
 use plugin_graph::Kit;
 
 /// The kits of one generation that are at home. Each goes out with a job and comes back with what the job gives.

@@ -1,19 +1,25 @@
-//! The program `logstash`: runs or tests what its words ask for, over the real stdin, stdout, stderr and clock, with 64
-//! outputs `elasticsearch` as boxes. What it does is the contract of the call that it makes: `logstash`, `test_config`,
-//! or a tool for queues, as `which` says.
+//! The program `logstash`: runs or tests what its words ask for, over the real files, stdin, connections, stdout, stderr and
+//! clock, with 64 outputs `elasticsearch` as boxes. What it does is the contract of the call that it makes: `logstash`,
+//! `test_config`, or a tool for queues, as `which` says.
 #![tactic(auto)]
 
+mod serving;
 mod standard;
+mod threaded_source;
 mod tools;
 
+use batch_shop::ThreadShop;
 use foreign_parts::{Boxes, Rack};
-use io_real::{StdinSource, SystemClock, WriteSink};
-use logstash_top::{Status, ThinWorld, Which, logstash, test_config, which};
+use io_real::{FileStore, RealFiles, StdinSource, SystemClock, TcpLinks, WriteSink};
+use logstash_top::{Status, Which, World, test_config, which};
 use out_bulk::{Bulk, TcpPeer};
+use serving::serve;
 use standard::StandardOutput;
-use std::env;
+use std::fs::File;
 use std::io::{self, ErrorKind, Stdin};
 use std::process::ExitCode;
+use std::{env, thread};
+use threaded_source::ThreadedSource;
 use tools::{check, repair};
 
 /// The status of want of memory.
@@ -25,14 +31,23 @@ const BULK: &str = "elasticsearch";
 /// How many of it configurations may take.
 const BULK_OUTPUTS: usize = 64;
 
+/// How many standard streams there are.
+const STREAMS: usize = 3;
+
 /// The real outside.
-type RealWorld<'a> = ThinWorld<
-    StdinSource<Stdin>,
+type RealWorld<'a> = World<
+    FileStore<&'a HostRuntime>,
+    RealFiles<&'a HostRuntime>,
+    ThreadedSource<StdinSource<Stdin>>,
+    TcpLinks<HostRuntime>,
     WriteSink<StandardOutput, &'a HostRuntime>,
     SystemClock<&'a HostRuntime>,
 >;
 
 fn main(rt: HostRuntime) -> ExitCode {
+    let Ok(_held) = closed_streams(&rt) else {
+        return no_memory(&rt);
+    };
     let Ok((words, call, world)) = beginning(&rt) else {
         return no_memory(&rt);
     };
@@ -53,9 +68,30 @@ fn main(rt: HostRuntime) -> ExitCode {
         Which::Test => tested(&rt, &words, world, &mut rack),
         Which::Check => return ExitCode::from(check(&rt, &words, &mut world.stdout)),
         Which::Repair => return ExitCode::from(repair(&rt, &words, &mut world.stdout)),
-        Which::Run | Which::Apart => logstash(&rt, rt.alloc(), &words, &mut world, &mut rack),
+        Which::Run | Which::Apart => {
+            if let Ok(reader) = world.stdin.shop().hire() {
+                if thread::spawn(&rt, move || reader.serve(&rt)).is_err() {
+                    let _ = world.stdin.shop().dismiss();
+                }
+            }
+            serve(&rt, rt.alloc(), &words, &mut world, &mut rack)
+        }
     };
     ExitCode::from(status.number())
+}
+
+/// Takes the numbers of the standard streams that are closed, so that no file of the program gets one of them: what goes to
+/// a stream that is closed fails then. The only error is want of memory.
+fn closed_streams(rt: &HostRuntime) -> io::Result<Vec<File>> {
+    let mut held = Vec::with_capacity(rt.alloc(), STREAMS)?;
+    for _ in 0..STREAMS {
+        match File::open(rt, "/dev/null") {
+            Ok(file) => held.push(file)?,
+            Err(e) if e.kind() == ErrorKind::OutOfMemory => return Err(e),
+            Err(_) => {}
+        }
+    }
+    Ok(held)
 }
 
 /// Tells that memory ran out.
@@ -64,19 +100,27 @@ fn no_memory(rt: &HostRuntime) -> ExitCode {
     ExitCode::from(NO_MEMORY)
 }
 
-/// Tests the configuration that the words name, over the real stdout and stderr.
+/// Tests the configuration that the words name, over the real files, stdout and stderr.
 fn tested<B: Boxes>(
     rt: &HostRuntime,
     words: &[String],
     world: RealWorld<'_>,
     boxes: &mut B,
 ) -> Status {
-    let ThinWorld {
+    let World {
+        mut files,
         mut stdout,
         mut stderr,
         ..
     } = world;
-    test_config(rt.alloc(), words, &mut stdout, &mut stderr, boxes)
+    test_config(
+        rt.alloc(),
+        words,
+        &mut files,
+        &mut stdout,
+        &mut stderr,
+        boxes,
+    )
 }
 
 /// The words, the call that they are for, and the real objects. The only error is want of memory.
@@ -88,9 +132,17 @@ fn beginning(rt: &HostRuntime) -> io::Result<(Vec<String>, Which, RealWorld<'_>)
 
 /// Makes the real objects. The only error is want of memory.
 fn real_world(rt: &HostRuntime) -> io::Result<RealWorld<'_>> {
-    Ok(ThinWorld {
-        stdin: StdinSource::new(rt.stdin()),
-        stdout: WriteSink::new(rt, StandardOutput::buffered(rt.alloc(), rt.stdout())?),
+    let net = rt.clone()?;
+    Ok(World {
+        store: FileStore::new(rt.alloc(), rt),
+        files: RealFiles::new(rt.alloc(), rt),
+        stdin: ThreadedSource::new(
+            rt.alloc(),
+            StdinSource::new(rt.stdin()),
+            ThreadShop::new(rt.alloc(), 1)?,
+        )?,
+        links: TcpLinks::new(rt.alloc(), net),
+        stdout: WriteSink::new(rt, StandardOutput::Out(rt.stdout())),
         stderr: WriteSink::new(rt, StandardOutput::Err(rt.stderr())),
         clock: SystemClock::new(rt),
     })

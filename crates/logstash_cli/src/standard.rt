@@ -1,22 +1,11 @@
-// stdout through a buffer, or stderr.
-use std::alloc::Global;
-use std::io::{self, BufWriter, Stderr, Stdout, Write};
+// stdout or stderr, without a buffer.
+use std::io::{self, Stderr, Stdout, Write};
 
-/// How many bytes stdout's buffer holds.
-const BUFFER_LEN: usize = 65_536;
-
-/// stdout through a buffer, or stderr.
+/// stdout or stderr.
 #[derive(Drop)]
 pub enum StandardOutput {
-    Out(BufWriter<Stdout>),
+    Out(Stdout),
     Err(Stderr),
-}
-
-impl StandardOutput {
-    /// stdout through a buffer. The only error is want of memory.
-    pub fn buffered(alloc: Global, stdout: Stdout) -> io::Result<Self> {
-        Ok(StandardOutput::Out(BufWriter::with_capacity(alloc, BUFFER_LEN, stdout)?))
-    }
 }
 
 impl Write for StandardOutput {

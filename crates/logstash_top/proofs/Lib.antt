@@ -1,11 +1,14 @@
-pub mod BatchLemmas
-pub mod RowLemmas
-pub mod PumpLemmas
-pub mod GenerateLemmas
 pub mod PartsLemmas
 pub mod Statuses
 pub mod Answering
 pub mod Starting
+pub mod TextLemmas
+pub mod CheckLemmas
+pub mod Asking
 pub mod Ending
-pub mod ClosingLemmas
+pub mod ServingLemmas
 pub mod TopLemmas
+pub mod Outside
+pub mod Running
+mod Compiled
+pub mod FaultCauses

@@ -1,84 +1,114 @@
--- When each status comes of the words, where these boxes are handed in.
-use Rattle.std.specs.Prelude.{◌≡◌, ◌⊎◌, ℕ, List, if◌then◌else◌, Option, Some, None, Result, Ok, Err}
+-- When each status comes of the words and the text that they name, where these boxes are handed in.
+use Rattle.std.specs.Prelude.{◌≡◌, ◌⊎◌, ℕ, List, Bool, if◌then◌else◌, Some, None, Result, Ok, Err}
 use Rattle.config_tree.specs.declared.tree.Config.{Config}
-use Rattle.graph_checks.specs.Answers.{Checked}
-use Rattle.graph_checks.specs.Whole.{Given, checked}
-use Rattle.graph_checks.specs.declared.fault.GraphFault.{GraphFault}
-use Rattle.logstash_settings.specs.Words.{Answer}
-use Rattle.logstash_top.specs.declared.start.Job.{Job}
+use Rattle.graph_checks.specs.Answers.{Checked as GraphChecked}
+use Rattle.graph_checks.specs.Whole.{Given}
+use Rattle.io_traits.specs.declared.files.Files.{Ghosts as FilesWords}
+use Rattle.logstash_settings.specs.Words.{answer_of}
+use Rattle.settings_lines.specs.declared.settings.PipelineSettings.{PipelineSettings}
+use Rattle.logstash_top.specs.declared.config_files.TextFault.{TextFault}
+use Rattle.logstash_top.specs.declared.config_files.TextFault.TheVariants as text
+use Rattle.logstash_top.specs.declared.start.Checked.{Checked}
+use Rattle.logstash_top.specs.declared.start.Command.{Command}
 use Rattle.logstash_top.specs.declared.status.Status.{Status}
-use Rattle.logstash_top.specs.declared.status.Status.TheVariants.{Done, BadWords, WordsNotBuilt, BadConfig, Refused, NotBuilt, InputFault, OutputFault, NoMemory}
-use Rattle.logstash_top.specs.declared.words.Command.{Command}
-use Rattle.logstash_top.specs.Built.{is_built, IsBuilt}
-use Rattle.logstash_top.specs.Words.{IsCommand, AreNotBuilt, AreRefusedFor, command_of}
-use Rattle.logstash_top.specs.Refused.{FailsBy, IsConfig, IsRun, IsNotBuilt, IsRefusedFor}
-use Rattle.logstash_top.specs.Status.{IsRefused, input_fault, output_fault, test_output_fault, status_of_refusal}
+use Rattle.logstash_top.specs.declared.status.Status.TheVariants.{Done, BadWords, WordsNotBuilt, BadConfig, Refused, NotBuilt, StoreFault, InputFault, OutputFault, Damaged, NoMemory, FilesFault, NumbersSpent, DeadLettersFull}
+use Rattle.logstash_top.specs.Built.{is_built}
+use Rattle.logstash_top.specs.Checks.{checked_all}
+use Rattle.logstash_top.specs.Refused.{FailsBy, IsRun, IsNotBuilt, IsRefusedFor}
+use Rattle.logstash_top.specs.Status.{IsRefused, status_of_refusal}
+use Rattle.logstash_top.specs.Texts.{IsSourceText}
+use Rattle.logstash_top.specs.Words.{settings_asked}
 
--- how a run of this configuration as this pipeline may end, and a test
-abbrev pub MayRun : List ℕ → Config → Status → Type 0
-MayRun pipeline config status = (status ≡ Done) ⊎ ((status ≡ input_fault pipeline config) ⊎ ((status ≡ output_fault config) ⊎ (status ≡ NoMemory)))
+-- what is asked for: the text that is to be run with the settings of its pipeline, or why there is none
+abbrev pub Asked : Type 0
+Asked = Result Command Status
 
-abbrev pub MayTest : List ℕ → Config → Status → Type 0
-MayTest pipeline config status = (status ≡ Done) ⊎ ((status ≡ test_output_fault) ⊎ (status ≡ NoMemory))
+-- by the text of these settings' source
+abbrev pub asked_of : PipelineSettings → Result (List ℕ) TextFault → Asked
+asked_of settings (Ok found) = Ok (record { settings = settings; text = found })
+asked_of settings (Err (text.NoFile path)) = Err (FilesFault (Some path))
+asked_of settings (Err text.Failed) = Err (FilesFault None)
+asked_of settings (Err text.Memory) = Err NoMemory
 
-module _ (given : Given) where
-  -- when words, or the text of their configuration, are refused with this status
-  abbrev pub IsCauseOf : List (List ℕ) → Status → Type 0
-  IsCauseOf words Done = ⊥
-  IsCauseOf words (BadWords fault) = AreRefusedFor words fault
-  IsCauseOf words WordsNotBuilt = AreNotBuilt words
-  IsCauseOf words (BadConfig pipeline fault) = (text : List ℕ) × IsCommand words pipeline text × IsRefusedFor text fault
-  IsCauseOf words (Refused pipeline fault) = (text : List ℕ) × IsCommand words pipeline text × FailsBy given text fault
-  IsCauseOf words (NotBuilt pipeline) = (text : List ℕ) × IsCommand words pipeline text × IsNotBuilt given text
-  IsCauseOf words (InputFault pipeline input) = ⊥
-  IsCauseOf words (OutputFault output) = ⊥
-  IsCauseOf words NoMemory = ⊥
+module _ {P : Type 0} (files : FilesWords P) where
+  abbrev pub IsAskedBy : Result PipelineSettings Status → P → P → Asked → Type 0
+  IsAskedBy (Ok settings) old new asked = (found : Result (List ℕ) TextFault) × IsSourceText files settings.source old new found × (asked ≡ asked_of settings found)
+  IsAskedBy (Err status) old new asked = (asked ≡ Err status) × (new ≡ old)
 
-  -- the words order a run of this configuration as this pipeline, which the program runs
-  abbrev pub Orders : List (List ℕ) → List ℕ → Config → Type 0
-  Orders words pipeline config = (text : List ℕ) × IsCommand words pipeline text × IsRun given text config
+  -- the words and the files ask for this, or memory ran out
+  abbrev pub IsAsked : List (List ℕ) → P → P → Asked → Type 0
+  IsAsked words old new asked = (asked ≡ Err NoMemory) ⊎ IsAskedBy (settings_asked (answer_of words)) old new asked
 
-  -- the answers that the words allow: a refusal comes where it has its cause, and only there; and where the text of the words is one that
-  -- the program runs, it ends in one of the ways in which it may
-  pub record Answers (words : List (List ℕ)) (may : List ℕ → Config → Status → Type 0) (status : Status) : Type 0 where
-    pub refused : (refusal : Status) → IsCauseOf words refusal → (status ≡ refusal) ⊎ (status ≡ NoMemory)
-    pub cause : IsRefused status → IsCauseOf words status
-    pub runs : (pipeline : List ℕ) (config : Config) → Orders words pipeline config → may pipeline config status
+-- what boxes are handed in, for so many workers
+module _ (given : ℕ → Given) where
+  -- what is said of the text that is asked for, which is that of this pipeline
+  pub record IsOf (asked : Asked) (says : Given → List ℕ → List ℕ → Type 0) (pipeline : List ℕ) : Type 0 where
+    pub command : Command
+    pub is : asked ≡ Ok command
+    pub own : pipeline ≡ command.settings.pipeline_id
+    pub said : says (given command.settings.workers) command.settings.path_data command.text
 
-  -- where the words have a text that the program runs, the call is done, or memory ran out
-  abbrev pub Completes : List (List ℕ) → Status → Type 0
-  Completes words status = (pipeline : List ℕ) (config : Config) → Orders words pipeline config → (status ≡ Done) ⊎ (status ≡ NoMemory)
+  -- when what is asked for is refused with this status
+  abbrev pub IsCauseOf : Asked → Status → Type 0
+  IsCauseOf asked Done = ⊥
+  IsCauseOf asked (BadWords fault) = asked ≡ Err (BadWords fault)
+  IsCauseOf asked WordsNotBuilt = asked ≡ Err WordsNotBuilt
+  IsCauseOf asked (BadConfig pipeline fault) = IsOf asked (λ g folder text. IsRefusedFor text fault) pipeline
+  IsCauseOf asked (Refused pipeline fault) = IsOf asked (λ g folder text. FailsBy g folder text fault) pipeline
+  IsCauseOf asked (NotBuilt pipeline) = IsOf asked IsNotBuilt pipeline
+  IsCauseOf asked (StoreFault pipeline) = ⊥
+  IsCauseOf asked (InputFault pipeline input) = ⊥
+  IsCauseOf asked (OutputFault output) = ⊥
+  IsCauseOf asked (Damaged pipeline damage) = ⊥
+  IsCauseOf asked NoMemory = asked ≡ Err NoMemory
+  IsCauseOf asked (FilesFault path) = asked ≡ Err (FilesFault path)
+  IsCauseOf asked (NumbersSpent pipeline) = ⊥
+  IsCauseOf asked (DeadLettersFull pipeline size added limit) = ⊥
 
-  -- a job that fails its checks by this fault, as the status says it
-  pub record FailsAs (job : Job) (refusal : Status) : Type 0 where
-    pub fault : GraphFault
-    pub refusal_is : refusal ≡ Refused job.pipeline fault
-    pub checked_as : checked given job.config ≡ Err fault
+  -- a run of this configuration with these settings is asked for, and the program runs it
+  abbrev pub Orders : Asked → Checked → Type 0
+  Orders asked c = (text : List ℕ) × (asked ≡ Ok (record { settings = c.settings; text = text })) × IsRun (given c.settings.workers) c.settings.path_data text c.config
 
-  -- What stands before each run and test, where the checks of what is built are still to be made: the pipeline of a configuration that is
-  -- built, or why there is none.
-  pub record Starts (words : List (List ℕ)) (result : Result Job Status) : Type 0 where
-    pub job : (job : Job) → result ≡ Ok job → (text : List ℕ) × IsCommand words job.pipeline text × IsConfig text job.config × IsBuilt job.config
-    pub cause : (status : Status) → result ≡ Err status → (status ≡ NoMemory) ⊎ IsCauseOf words status
-    pub only_job : (pipeline : List ℕ) (config : Config) → Orders words pipeline config → (result ≡ Ok (record { pipeline = pipeline; config = config })) ⊎ (result ≡ Err NoMemory)
-    pub refused : (refusal : Status) → IsCauseOf words refusal → (result ≡ Err refusal) ⊎ ((result ≡ Err NoMemory) ⊎ ((job : Job) × (result ≡ Ok job) × FailsAs job refusal))
+  -- the answers to what is asked for: a refusal comes where it has its cause, and only there; and where the text is one that the program
+  -- runs, it ends in one of the ways in which it may
+  pub record Answers (asked : Asked) (may : Checked → Status → Type 0) (status : Status) : Type 0 where
+    pub refused : (refusal : Status) → IsCauseOf asked refusal → (status ≡ refusal) ⊎ (status ≡ NoMemory)
+    pub cause : IsRefused status → IsCauseOf asked status
+    pub runs : (c : Checked) → Orders asked c → may c status
 
--- what an answer of the words asks for
-abbrev pub or_not_built : Option Command → Result Command Status
-or_not_built None = Err WordsNotBuilt
-or_not_built (Some command) = Ok command
+  -- where the text is one that the program runs, the call is done, or memory ran out
+  abbrev pub Completes : Asked → Status → Type 0
+  Completes asked status = (c : Checked) → Orders asked c → (status ≡ Done) ⊎ (status ≡ NoMemory)
 
-abbrev pub asked : Answer → Result Command Status
-asked (Ok orders) = or_not_built (command_of orders)
-asked (Err fault) = Err (BadWords fault)
+  -- the checked configuration of a text, and the status of one that isn't run
+  abbrev pub built_as : PipelineSettings → Config → Bool → Result Checked Status
+  built_as settings config built = if built then Ok (record { settings = settings; config = config }) else Err (NotBuilt settings.pipeline_id)
 
--- the status of a configuration that isn't built, by what its checks say
-abbrev pub status_unbuilt : List ℕ → Checked (Unit {0}) → Status
-status_unbuilt pipeline (Ok u) = NotBuilt pipeline
-status_unbuilt pipeline (Err fault) = status_of_refusal pipeline fault
+  abbrev pub checked_by : PipelineSettings → Config → GraphChecked (Unit {0}) → Result Checked Status
+  checked_by settings config (Ok u) = built_as settings config (is_built config)
+  checked_by settings config (Err fault) = Err (status_of_refusal settings.pipeline_id fault)
 
--- the job of a configuration that is built, and the status of one that isn't
-abbrev pub begun : Given → List ℕ → Config → Result Job Status
-begun given pipeline config =
-    if is_built config then Ok (record { pipeline = pipeline; config = config })
-    else Err (status_unbuilt pipeline (checked given config))
+  abbrev pub checked_as : PipelineSettings → Config → Result Checked Status
+  checked_as settings config = checked_by settings config (checked_all (given settings.workers) settings.path_data config)
+
+  -- What stands before each run and test: a configuration that passes its checks and is built, or why there is none.
+  pub record Starts (asked : Asked) (result : Result Checked Status) : Type 0 where
+    pub found : (c : Checked) → result ≡ Ok c → Orders asked c
+    pub cause : (status : Status) → result ≡ Err status → (status ≡ NoMemory) ⊎ IsCauseOf asked status
+    pub only : (c : Checked) → Orders asked c → (result ≡ Ok c) ⊎ (result ≡ Err NoMemory)
+    pub refused : (refusal : Status) → IsCauseOf asked refusal → (result ≡ Err refusal) ⊎ (result ≡ Err NoMemory)
+
+  -- the same by the words and the files, of which this was asked
+  module _ {P : Type 0} (files : FilesWords P) (words : List (List ℕ)) (old new : P) where
+    pub record StartsBy (result : Result Checked Status) : Type 0 where
+      pub asked : Asked
+      pub is_asked : IsAsked files words old new asked
+      pub starts : Starts asked result
+
+    -- and the answers; a call that is refused makes no further call of the files
+    pub record AnswersBy (may : Checked → Status → Type 0) (status : Status) : Type 0 where
+      pub later : P
+      pub asked : Asked
+      pub is_asked : IsAsked files words old later asked
+      pub answers : Answers asked may status
+      pub untouched : IsRefused status → new ≡ later

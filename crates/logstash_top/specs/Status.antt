@@ -1,22 +1,16 @@
 -- The statuses, their numbers and their lines on stderr.
-use Rattle.std.specs.Prelude.{ℕ, List, [], ◌∷◌, ◌++◌, codes, decimal}
-use Rattle.config_tree.specs.declared.tree.Config.{Config}
-use Rattle.config_tree.specs.declared.tree.Plugin.{Plugin}
-use Rattle.event_flow.specs.Ids.{plugin_id}
-use Rattle.batch_rows.specs.Codecs.{codecs_of}
-use Rattle.batch_rows.specs.declared.codecs.OutputCodec.{OutputCodec}
+use Rattle.std.specs.Prelude.{ℕ, List, [], ◌++◌, codes, decimal, Option, Some, None}
 use Rattle.logstash_top.specs.declared.status.Status.{Status}
-use Rattle.logstash_top.specs.declared.status.Status.TheVariants.{Done, BadWords, WordsNotBuilt, BadConfig, Refused, NotBuilt, InputFault, OutputFault, NoMemory}
+use Rattle.logstash_top.specs.declared.status.Status.TheVariants.{Done, BadWords, WordsNotBuilt, BadConfig, Refused, NotBuilt, StoreFault, InputFault, OutputFault, Damaged, NoMemory, FilesFault, NumbersSpent, DeadLettersFull}
 use Rattle.logstash_settings.specs.declared.fault.WordsFault.{WordsFault}
 use Rattle.logstash_settings.specs.Texts.{words_fault_text}
 use Rattle.config_tree.specs.declared.fault.SettingFault.{SettingFault}
 use Rattle.config_tree.specs.declared.fault.SettingFault.TheVariants as setting
 use Rattle.graph_checks.specs.declared.fault.GraphFault.{GraphFault}
 use Rattle.graph_checks.specs.declared.fault.GraphFault.TheVariants as graph
+use Rattle.io_traits.specs.declared.queue_faults.Damage.{Damage}
 use Rattle.config_parse.specs.declared.fault.ConfigFault.{ConfigFault}
 use Rattle.config_parse.specs.declared.fault.ConfigFault.TheVariants as text_fault
-use Rattle.logstash_top.specs.declared.run_fault.RunFault.{RunFault}
-use Rattle.logstash_top.specs.declared.run_fault.RunFault.TheVariants as stop
 
 abbrev pub number_of : Status → ℕ
 number_of Done = 0
@@ -25,9 +19,14 @@ number_of WordsNotBuilt = 1
 number_of (BadConfig pipeline fault) = 3
 number_of (Refused pipeline fault) = 3
 number_of (NotBuilt pipeline) = 3
+number_of (StoreFault pipeline) = 4
 number_of (InputFault pipeline input) = 5
 number_of (OutputFault output) = 6
+number_of (Damaged pipeline damage) = 7
 number_of NoMemory = 8
+number_of (FilesFault path) = 9
+number_of (NumbersSpent pipeline) = 11
+number_of (DeadLettersFull pipeline size added limit) = 12
 
 -- the line of a refused configuration, with the reason and its place
 abbrev pub placed_line : List ℕ → List ℕ → List ℕ → List ℕ
@@ -76,6 +75,21 @@ refused_line pipeline graph.Memory = codes "logstash: no memory\n"
 abbrev pub words_line : WordsFault → List ℕ
 words_line fault = codes "logstash: words: " ++ (words_fault_text fault ++ codes "\n")
 
+-- the line of a damaged file, by its place and the numbers that differ
+abbrev pub damaged_line : List ℕ → Damage → List ℕ
+damaged_line pipeline damage =
+    codes "logstash: pipeline " ++ (pipeline ++ (codes ": damaged " ++ (damage.file ++ (codes " at " ++ (decimal damage.place ++ (codes ": found " ++ (decimal damage.found ++ (codes ", expected " ++ (decimal damage.expected ++ codes "\n")))))))))
+
+-- the line of a configuration whose text isn't there
+abbrev pub files_line : Option (List ℕ) → List ℕ
+files_line None = codes "logstash: files fault\n"
+files_line (Some path) = codes "logstash: no file " ++ (path ++ codes "\n")
+
+-- the line of dead letters that have no room
+abbrev pub letters_line : List ℕ → ℕ → ℕ → ℕ → List ℕ
+letters_line pipeline size added limit =
+    codes "logstash: pipeline " ++ (pipeline ++ (codes ": dead letters full: " ++ (decimal size ++ (codes " and " ++ (decimal added ++ (codes " over " ++ (decimal limit ++ codes "\n")))))))
+
 -- the line that stderr gets: none where the call is done
 abbrev pub line_of : Status → List ℕ
 line_of Done = []
@@ -83,39 +97,22 @@ line_of (BadWords fault) = words_line fault
 line_of WordsNotBuilt = codes "logstash: words: not built\n"
 line_of (BadConfig pipeline fault) = config_line pipeline fault
 line_of (Refused pipeline fault) = refused_line pipeline fault
-line_of (NotBuilt pipeline) = codes "logstash: pipeline " ++ (pipeline ++ codes ": not built\n")
-line_of (InputFault pipeline input) = codes "logstash: pipeline " ++ (pipeline ++ (codes ": input fault " ++ (input ++ codes "\n")))
+line_of (NotBuilt pipeline) = whole_line pipeline (codes ": not built\n")
+line_of (StoreFault pipeline) = whole_line pipeline (codes ": store fault\n")
+line_of (InputFault pipeline input) = placed_line pipeline (codes ": input fault ") input
 line_of (OutputFault output) = codes "logstash: output fault " ++ (output ++ codes "\n")
+line_of (Damaged pipeline damage) = damaged_line pipeline damage
 line_of NoMemory = codes "logstash: no memory\n"
+line_of (FilesFault path) = files_line path
+line_of (NumbersSpent pipeline) = whole_line pipeline (codes ": numbers spent\n")
+line_of (DeadLettersFull pipeline size added limit) = letters_line pipeline size added limit
 
 -- the id of the output of a test
 abbrev pub test_output_id : List ℕ
 test_output_id = codes "stdout"
 
--- the id of the first input of a configuration
-abbrev pub input_id : List Plugin → List ℕ
-input_id [] = []
-input_id (p ∷ ps) = plugin_id (codes "input") 1 p
-
-abbrev pub input_fault : List ℕ → Config → Status
-input_fault pipeline config = InputFault pipeline (input_id config.inputs)
-
--- the id of the first output of a configuration that writes to stdout; all of them share it
-abbrev pub first_output : List OutputCodec → List ℕ
-first_output [] = codes "stdout"
-first_output (c ∷ cs) = c.output
-
-abbrev pub output_fault : Config → Status
-output_fault config = OutputFault (first_output (codecs_of config))
-
 abbrev pub test_output_fault : Status
 test_output_fault = OutputFault test_output_id
-
--- the status of a pipeline's run that stopped
-abbrev pub status_of : List ℕ → Config → RunFault → Status
-status_of pipeline config stop.Input = input_fault pipeline config
-status_of pipeline config stop.Output = output_fault config
-status_of pipeline config stop.Memory = NoMemory
 
 -- the status of a configuration that fails a check
 abbrev pub status_of_refusal : List ℕ → GraphFault → Status
@@ -138,7 +135,7 @@ status_of_fault pipeline (text_fault.Syntax at) = BadConfig pipeline (text_fault
 status_of_fault pipeline (text_fault.Deep at) = BadConfig pipeline (text_fault.Deep at)
 status_of_fault pipeline text_fault.Memory = NoMemory
 
--- the words, or the text of the configuration, are refused
+-- the words, or the text of the configuration, are refused, or there is no such text
 abbrev pub IsRefused : Status → Type 0
 IsRefused Done = ⊥
 IsRefused (BadWords fault) = Unit {0}
@@ -146,30 +143,11 @@ IsRefused WordsNotBuilt = Unit {0}
 IsRefused (BadConfig pipeline fault) = Unit {0}
 IsRefused (Refused pipeline fault) = Unit {0}
 IsRefused (NotBuilt pipeline) = Unit {0}
+IsRefused (StoreFault pipeline) = ⊥
 IsRefused (InputFault pipeline input) = ⊥
 IsRefused (OutputFault output) = ⊥
+IsRefused (Damaged pipeline damage) = ⊥
 IsRefused NoMemory = ⊥
-
--- a read of an input failed
-abbrev pub IsInputFault : Status → Type 0
-IsInputFault Done = ⊥
-IsInputFault (BadWords fault) = ⊥
-IsInputFault WordsNotBuilt = ⊥
-IsInputFault (BadConfig pipeline fault) = ⊥
-IsInputFault (Refused pipeline fault) = ⊥
-IsInputFault (NotBuilt pipeline) = ⊥
-IsInputFault (InputFault pipeline input) = Unit {0}
-IsInputFault (OutputFault output) = ⊥
-IsInputFault NoMemory = ⊥
-
--- a write or a flush of an output failed
-abbrev pub IsOutputFault : Status → Type 0
-IsOutputFault Done = ⊥
-IsOutputFault (BadWords fault) = ⊥
-IsOutputFault WordsNotBuilt = ⊥
-IsOutputFault (BadConfig pipeline fault) = ⊥
-IsOutputFault (Refused pipeline fault) = ⊥
-IsOutputFault (NotBuilt pipeline) = ⊥
-IsOutputFault (InputFault pipeline input) = ⊥
-IsOutputFault (OutputFault output) = Unit {0}
-IsOutputFault NoMemory = ⊥
+IsRefused (FilesFault path) = Unit {0}
+IsRefused (NumbersSpent pipeline) = ⊥
+IsRefused (DeadLettersFull pipeline size added limit) = ⊥

@@ -1,44 +1,36 @@
 -- What the words of the command line ask of the program.
-use Rattle.std.specs.Prelude.{◌≡◌, ℕ, ◌||◌, Bool, List, if◌then◌else◌, Option, Some, None, option_map, is_some, Ok, Err}
+use Rattle.std.specs.Prelude.{ℕ, ◌||◌, Bool, true, false, not, if◌then◌else◌, Option, Some, None, is_some, Result, Ok, Err}
 use Rattle.settings_lines.specs.declared.orders.ConfigSource.{ConfigSource}
 use Rattle.settings_lines.specs.declared.orders.ConfigSource.TheVariants as source
 use Rattle.settings_lines.specs.declared.orders.Orders.{Orders}
 use Rattle.settings_lines.specs.declared.orders.QueueTool.{QueueTool}
 use Rattle.settings_lines.specs.declared.orders.QueueTool.TheVariants as tool
-use Rattle.logstash_settings.specs.declared.fault.WordsFault.{WordsFault}
-use Rattle.logstash_settings.specs.Words.{Answer, answer_of}
-use Rattle.logstash_top.specs.declared.words.Command.{Command}
+use Rattle.settings_lines.specs.Own.{own_settings}
+use Rattle.settings_lines.specs.declared.settings.PipelineSettings.{PipelineSettings}
+use Rattle.logstash_settings.specs.Words.{Answer}
+use Rattle.logstash_top.specs.declared.status.Status.{Status}
+use Rattle.logstash_top.specs.declared.status.Status.TheVariants.{BadWords, WordsNotBuilt}
 use Rattle.logstash_top.specs.declared.requested_call.Which.{Which}
 use Rattle.logstash_top.specs.declared.requested_call.Which.TheVariants.{Run, Test, Apart, Check, Repair}
 
--- the text of `-e`
-abbrev pub text_of : ConfigSource → Option (List ℕ)
-text_of (source.Text text) = Some text
-text_of (source.Path path) = None
-text_of (source.Sample events) = None
-text_of source.Pipelines = None
+-- the source is a text, or a path
+abbrev pub is_one_text : ConfigSource → Bool
+is_one_text (source.Text text) = true
+is_one_text (source.Path path) = true
+is_one_text (source.Sample events) = false
+is_one_text source.Pipelines = false
 
--- orders that have what isn't built yet besides: a look for changes, threads apart, or a tool
+-- orders that have what isn't built yet: a look for changes, threads apart, a tool, a sample, or several pipelines
 abbrev pub has_more : Orders → Bool
-has_more orders = orders.reload || orders.apart || is_some orders.tool
+has_more orders = orders.reload || orders.apart || is_some orders.tool || not (is_one_text orders.source)
 
--- the text that is run, and the id of its pipeline; none where the orders have what isn't built yet
-abbrev pub command_of : Orders → Option Command
-command_of orders =
-    if has_more orders then None
-    else option_map (λ text. record { pipeline = orders.pipeline_id; text = text }) (text_of orders.source)
+-- the settings of the pipeline that words name, or why there are none
+abbrev pub settings_of : Orders → Result PipelineSettings Status
+settings_of orders = if has_more orders then Err WordsNotBuilt else Ok (own_settings orders)
 
--- the words order the run of this text, as the pipeline of this id
-abbrev pub IsCommand : List (List ℕ) → List ℕ → List ℕ → Type 0
-IsCommand words pipeline text = (orders : Orders) × (answer_of words ≡ Ok orders) × (command_of orders ≡ Some (record { pipeline = pipeline; text = text }))
-
--- the words read, and have what isn't built yet
-abbrev pub AreNotBuilt : List (List ℕ) → Type 0
-AreNotBuilt words = (orders : Orders) × (answer_of words ≡ Ok orders) × (command_of orders ≡ None)
-
--- the words don't read, for this reason
-abbrev pub AreRefusedFor : List (List ℕ) → WordsFault → Type 0
-AreRefusedFor words fault = answer_of words ≡ Err fault
+abbrev pub settings_asked : Answer → Result PipelineSettings Status
+settings_asked (Ok orders) = settings_of orders
+settings_asked (Err fault) = Err (BadWords fault)
 
 -- the call that orders are for where they have no tool; `-t` comes before `--apart`
 abbrev pub call_without_tool : Orders → Which

@@ -2,18 +2,18 @@
 ghost use Rattle.std.specs.Prelude.{◌≡◌, ◌⊎◌, IsErr, OnOk, map, string_bytes};
 ghost use Rattle.io_traits.specs.Counts.{HasCause};
 ghost use Rattle.foreign_parts.specs.Boxes.{Keeps};
-ghost use Rattle.logstash_top.specs.Answers.{Answers, MayTest};
-ghost use Rattle.logstash_top.specs.Given.{given_by};
-ghost use Rattle.logstash_top.specs.Outcomes.{Confirmed, TestCompletes, TestFaultHasCause, confirmation};
+ghost use Rattle.graph_checks.specs.Whole.{given_by};
+ghost use Rattle.logstash_top.specs.Answers.{AnswersBy};
+ghost use Rattle.logstash_top.specs.Outcomes.{Confirmed, MayTest, TestFaultHasCause, confirmation};
 ghost use Rattle.logstash_top.specs.Sinks.{Took, TookInPart, AllFlushed, Faulted};
 ghost use Rattle.logstash_top.specs.Status.{IsRefused, test_output_fault, line_of};
 
 use crate::line::tell;
-use crate::start::{Job, WORKERS, refused, start};
+use crate::start::start;
 use crate::status::Status;
 use crate::text_parts::write_parts;
-use graph_checks::{Boxes, check};
-use io_traits::{Failed, Sink};
+use graph_checks::Boxes;
+use io_traits::{Failed, Files, Sink};
 use plain_data::Text;
 use std::alloc::Global;
 
@@ -29,15 +29,16 @@ use std::alloc::Global;
 ///   value of u64. At another status none was counted, unless memory for that status ran out. A first part of the line may
 ///   stand there.
 /// - `Status::NoMemory` may come anywhere.
-pub fn test_config<O: Sink, B: Boxes>(
+pub fn test_config<P: Files, O: Sink, B: Boxes>(
     alloc: Global,
     words: &[String],
+    files: &mut P,
     stdout: &mut O,
     stderr: &mut O,
     boxes: &mut B,
 ) -> Status
-    ensures answers { Answers (given_by B.stand B.links boxes.old) (map string_bytes words.now)
-        MayTest result }
+    ensures answers { AnswersBy (given_by B.stand B.links boxes.old) P.Files
+        (map string_bytes words.now) files.old files.new MayTest result }
     ensures keeps { Keeps B.stand B.links boxes.old boxes.new }
 
     // What stdout holds.
@@ -47,8 +48,6 @@ pub fn test_config<O: Sink, B: Boxes>(
 
     // When a fault comes.
     ensures output_fault { TestFaultHasCause O.Sink stdout.old stdout.new result }
-    ensures complete { let all = map string_bytes words.now in
-        TestCompletes O.Sink (given_by B.stand B.links boxes.old) stdout.old stdout.new all result }
 
     // What stderr holds.
     ensures line { TookInPart O.Sink stderr.old stderr.new (line_of result) }
@@ -57,31 +56,29 @@ pub fn test_config<O: Sink, B: Boxes>(
     ensures told_flushed { Faulted O.Sink stderr.old stderr.new
         ⊎ AllFlushed O.Sink stderr.new }
 {
-    let status = tested(alloc, words, stdout, boxes);
+    let status = tested(alloc, words, files, stdout, boxes);
     let _ = tell(&status, stderr);
     status
 }
 
 /// The status, before its line is told.
-fn tested<O: Sink, B: Boxes>(
+fn tested<P: Files, O: Sink, B: Boxes>(
     alloc: Global,
     words: &[String],
+    files: &mut P,
     stdout: &mut O,
     boxes: &mut B,
 ) -> Status
-    ensures answers { Answers (given_by B.stand B.links boxes.old) (map string_bytes words.now)
-        MayTest result }
+    ensures answers { AnswersBy (given_by B.stand B.links boxes.old) P.Files
+        (map string_bytes words.now) files.old files.new MayTest result }
     ensures keeps { Keeps B.stand B.links boxes.old boxes.new }
     ensures refused { IsRefused result → stdout.new ≡ stdout.old }
     ensures done { result ≡ Status.Done → Confirmed O.Sink stdout.old stdout.new }
     ensures part { TookInPart O.Sink stdout.old stdout.new confirmation }
     ensures output_fault { TestFaultHasCause O.Sink stdout.old stdout.new result }
 {
-    match start(alloc, words, boxes) {
-        Ok(Job { pipeline, config }) => match check(alloc, &config, boxes, WORKERS) {
-            Ok(()) => confirmed(alloc, stdout),
-            Err(fault) => refused(pipeline, fault),
-        },
+    match start(alloc, words, files, boxes) {
+        Ok(_) => confirmed(alloc, stdout),
         Err(status) => status,
     }
 }

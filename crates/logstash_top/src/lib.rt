@@ -3,14 +3,13 @@
 #![tactic(auto)]
 
 mod built;
+mod checks;
+mod config_files;
 mod config_test;
-mod generate;
-mod inputs;
 mod line;
-mod pump;
+mod named_files;
 mod requested_call;
-mod rows;
-mod run_fault;
+mod serve;
 mod start;
 mod status;
 mod text_parts;
@@ -26,4 +25,4 @@ pub use requested_call::Which;
 pub use status::Status;
 pub use top::logstash;
 pub use words::{which, workers_wanted};
-pub use world::ThinWorld;
+pub use world::World;

@@ -3,16 +3,17 @@
 ghost use Rattle.std.specs.Prelude.{IsErr, OnOk};
 ghost use Rattle.io_traits.specs.Counts.{HasCause};
 ghost use Rattle.logstash_top.specs.Sinks.{Took, TookInPart, AllFlushed};
-ghost use Rattle.logstash_top.specs.Status.{config_line, named_line, placed_line, refused_line, setting_line, spare_line, whole_line, words_line, line_of};
+ghost use Rattle.logstash_top.specs.Status.{config_line, damaged_line, files_line, letters_line, named_line, placed_line, refused_line, setting_line, spare_line, whole_line, words_line, line_of};
 
 use crate::status::Status;
 use crate::text_parts::write_parts;
 use config_parse::ConfigFault;
 use config_tree::SettingFault;
 use graph_checks::GraphFault;
-use io_traits::{Failed, Sink};
+use io_traits::{Damage, Failed, Sink};
 use itoa::Buffer;
 use logstash_settings::WordsFault;
+use plain_data::Text;
 
 /// Writes the line of a status, if it has one, and flushes it.
 pub(crate) fn tell<O: Sink>(status: &Status, stderr: &mut O) -> Result<(), Failed>
@@ -36,26 +37,97 @@ fn write_line<O: Sink>(status: &Status, stderr: &mut O) -> Result<(), Failed>
         Status::WordsNotBuilt => write_parts(stderr, &["logstash: words: not built\n"]),
         Status::BadConfig(pipeline, fault) => write_config_line(pipeline.as_str(), fault, stderr),
         Status::Refused(pipeline, fault) => write_refused_line(pipeline.as_str(), fault, stderr),
-        Status::NotBuilt(pipeline) => write_parts(
-            stderr,
-            &["logstash: pipeline ", pipeline.as_str(), ": not built\n"],
-        ),
-        Status::InputFault(pipeline, input) => write_parts(
-            stderr,
-            &[
-                "logstash: pipeline ",
-                pipeline.as_str(),
-                ": input fault ",
-                input.as_str(),
-                "\n",
-            ],
-        ),
+        Status::NotBuilt(pipeline) => write_whole(pipeline.as_str(), ": not built\n", stderr),
+        Status::StoreFault(pipeline) => write_whole(pipeline.as_str(), ": store fault\n", stderr),
+        Status::InputFault(pipeline, input) => {
+            write_placed(pipeline.as_str(), ": input fault ", input.as_str(), stderr)
+        }
         Status::OutputFault(output) => write_parts(
             stderr,
             &["logstash: output fault ", output.as_str(), "\n"],
         ),
+        Status::Damaged(pipeline, damage) => write_damaged_line(pipeline.as_str(), damage, stderr),
         Status::NoMemory => write_parts(stderr, &["logstash: no memory\n"]),
+        Status::FilesFault(path) => write_files_line(path, stderr),
+        Status::NumbersSpent(pipeline) => {
+            write_whole(pipeline.as_str(), ": numbers spent\n", stderr)
+        }
+        Status::DeadLettersFull(pipeline, size, added, limit) => {
+            write_letters_line(pipeline.as_str(), *size, *added, *limit, stderr)
+        }
     }
+}
+
+/// Writes the line of a damaged file.
+fn write_damaged_line<O: Sink>(pipeline: &str, damage: &Damage, sink: &mut O) -> Result<(), Failed>
+    ensures ok { OnOk result (Took O.Sink sink.old sink.new (damaged_line pipeline.now damage.now)) }
+    ensures part { TookInPart O.Sink sink.old sink.new (damaged_line pipeline.now damage.now) }
+    ensures cause { HasCause (O.faults sink.old) (O.faults sink.new) (IsErr result) }
+{
+    let mut place = Buffer::new();
+    let mut found = Buffer::new();
+    let mut expected = Buffer::new();
+    write_parts(
+        sink,
+        &[
+            "logstash: pipeline ",
+            pipeline,
+            ": damaged ",
+            damage.file.as_str(),
+            " at ",
+            place.format(damage.place),
+            ": found ",
+            found.format(damage.found),
+            ", expected ",
+            expected.format(damage.expected),
+            "\n",
+        ],
+    )
+}
+
+/// Writes the line of a configuration whose text isn't there.
+fn write_files_line<O: Sink>(path: &Option<Text>, sink: &mut O) -> Result<(), Failed>
+    ensures ok { OnOk result (Took O.Sink sink.old sink.new (files_line path.now)) }
+    ensures part { TookInPart O.Sink sink.old sink.new (files_line path.now) }
+    ensures cause { HasCause (O.faults sink.old) (O.faults sink.new) (IsErr result) }
+{
+    match path {
+        Some(path) => write_parts(sink, &["logstash: no file ", path.as_str(), "\n"]),
+        None => write_parts(sink, &["logstash: files fault\n"]),
+    }
+}
+
+/// Writes the line of dead letters that have no room.
+fn write_letters_line<O: Sink>(
+    pipeline: &str,
+    size: u128,
+    added: u128,
+    limit: u64,
+    sink: &mut O,
+) -> Result<(), Failed>
+    ensures ok { OnOk result (Took O.Sink sink.old sink.new
+        (letters_line pipeline.now size added limit)) }
+    ensures part { TookInPart O.Sink sink.old sink.new
+        (letters_line pipeline.now size added limit) }
+    ensures cause { HasCause (O.faults sink.old) (O.faults sink.new) (IsErr result) }
+{
+    let mut had = Buffer::new();
+    let mut more = Buffer::new();
+    let mut most = Buffer::new();
+    write_parts(
+        sink,
+        &[
+            "logstash: pipeline ",
+            pipeline,
+            ": dead letters full: ",
+            had.format(size),
+            " and ",
+            more.format(added),
+            " over ",
+            most.format(limit),
+            "\n",
+        ],
+    )
 }
 
 /// Writes the line of refused words.

@@ -1,72 +1,112 @@
-// What stands before each run and test: the words and the configuration are read.
-ghost use Rattle.std.specs.Prelude.{◌≡◌, ◌⊎◌, Err, map, string_bytes};
+// What stands before each run and test: the words and the configuration are read, and the checks are made.
+ghost use Rattle.std.specs.Prelude.{◌≡◌, ◌⊎◌, Ok, Err, map, string_bytes};
 ghost use Rattle.foreign_parts.specs.Boxes.{Keeps};
-ghost use Rattle.graph_checks.specs.Whole.{checked};
-ghost use Rattle.logstash_top.specs.Answers.{Starts, begun, status_unbuilt};
-ghost use Rattle.logstash_top.specs.Given.{given_by};
+ghost use Rattle.graph_checks.specs.Whole.{given_by};
+ghost use Rattle.logstash_top.specs.Answers.{IsAsked, Starts, StartsBy};
+ghost use Rattle.logstash_top.specs.Answers as spec;
 ghost use Rattle.logstash_top.specs.Status.{status_of_fault, status_of_refusal};
 
 use crate::built::is_built;
+use crate::checks::check_all;
+use crate::config_files::{TextFault, text_of_source};
 use crate::status::Status;
-use crate::words::{Command, command_of_words};
+use crate::words::settings_of_words;
 use config_parse::{ConfigFault, parse};
 use config_tree::Config;
-use graph_checks::{Boxes, GraphFault, check};
+use graph_checks::{Boxes, GraphFault};
+use io_traits::Files;
 use plain_data::Text;
+use settings_lines::PipelineSettings;
 use std::alloc::Global;
 
-/// How many workers' kits a plan has.
-pub(crate) const WORKERS: u32 = 2;
-
-/// A configuration that is built, whose checks are still to be made, and the id of its pipeline.
+/// The text that the words name, and the settings of its pipeline.
 #[derive(Drop)]
-pub(crate) struct Job {
-    pub(crate) pipeline: Text,
+pub(crate) struct Command {
+    pub(crate) settings: PipelineSettings,
+    pub(crate) text: Text,
+}
+
+/// A configuration that passes its checks and is built, and the settings of its pipeline.
+#[derive(Drop)]
+pub(crate) struct Checked {
+    pub(crate) settings: PipelineSettings,
     pub(crate) config: Config,
 }
 
-/// What stands before each run and each test: reads the words and the configuration that they name, and sees whether it
-/// is built. One that isn't is checked, so that its faults are told first. Gives the job, and else the status that tells
-/// why there is none. No box is drawn.
-pub(crate) fn start<B: Boxes>(alloc: Global, words: &[String], boxes: &mut B) -> Result<Job, Status>
-    ensures starts { Starts (given_by B.stand B.links boxes.old) (map string_bytes words.now)
-        result }
+/// What stands before each run and each test: reads the words, the text that they name and its configuration, makes the
+/// checks, and sees whether it is built. Gives the configuration, and else the status that tells why there is none. No
+/// box is drawn.
+pub(crate) fn start<P: Files, B: Boxes>(
+    alloc: Global,
+    words: &[String],
+    files: &mut P,
+    boxes: &mut B,
+) -> Result<Checked, Status>
+    ensures starts { StartsBy (given_by B.stand B.links boxes.old) P.Files
+        (map string_bytes words.now) files.old files.new result }
     ensures keeps { Keeps B.stand B.links boxes.old boxes.new }
 {
-    let Command { pipeline, text } = command_of_words(alloc, words)?;
-    match parse(alloc, text.as_str()) {
-        Ok(config) => begin(alloc, pipeline, config, boxes),
-        Err(fault) => Err(refused_text(pipeline, fault)),
+    match command_of_words(alloc, words, files) {
+        Ok(command) => begin(alloc, command, boxes),
+        Err(status) => Err(status),
     }
 }
 
-/// The job of a configuration that is built, and else the status of one that isn't.
-fn begin<B: Boxes>(
+/// The text that the words name.
+fn command_of_words<P: Files>(
     alloc: Global,
-    pipeline: Text,
+    words: &[String],
+    files: &mut P,
+) -> Result<Command, Status>
+    ensures { IsAsked P.Files (map string_bytes words.now) files.old files.new result }
+{
+    let settings = settings_of_words(alloc, words)?;
+    match text_of_source(alloc, &settings.source, files) {
+        Ok(text) => Ok(Command { settings, text }),
+        Err(fault) => Err(without_text(fault)),
+    }
+}
+
+/// The status of words whose text isn't there.
+fn without_text(fault: TextFault) -> Status
+    ensures { (settings : PipelineSettings) → spec.asked_of settings (Err fault) ≡ Err result }
+{
+    match fault {
+        TextFault::NoFile(path) => Status::FilesFault(Some(path)),
+        TextFault::Failed => Status::FilesFault(None),
+        TextFault::Memory => Status::NoMemory,
+    }
+}
+
+/// The configuration of a text, if it passes its checks and is built.
+fn begin<B: Boxes>(alloc: Global, command: Command, boxes: &mut B) -> Result<Checked, Status>
+    ensures starts { Starts (given_by B.stand B.links boxes.old) (Ok command) result }
+    ensures keeps { Keeps B.stand B.links boxes.old boxes.new }
+{
+    let Command { settings, text } = command;
+    match parse(alloc, text.as_str()) {
+        Ok(config) => check_config(alloc, settings, config, boxes),
+        Err(fault) => Err(refused_text(settings.pipeline_id, fault)),
+    }
+}
+
+fn check_config<B: Boxes>(
+    alloc: Global,
+    settings: PipelineSettings,
     config: Config,
     boxes: &mut B,
-) -> Result<Job, Status>
-    ensures begun { (result ≡ begun (given_by B.stand B.links boxes.old) pipeline config)
+) -> Result<Checked, Status>
+    ensures checked { (result ≡ spec.checked_as (given_by B.stand B.links boxes.old) settings config)
         ⊎ (result ≡ Err Status.NoMemory) }
     ensures keeps { Keeps B.stand B.links boxes.old boxes.new }
 {
-    match is_built(alloc, &config) {
-        Ok(true) => Ok(Job { pipeline, config }),
-        Ok(false) => Err(unbuilt(alloc, pipeline, &config, boxes)),
-        Err(_) => Err(Status::NoMemory),
+    if let Err(fault) = check_all(alloc, &settings, &config, boxes) {
+        return Err(refused(settings.pipeline_id, fault));
     }
-}
-
-/// The status of a configuration that isn't built: that of its first fault, where it has one.
-fn unbuilt<B: Boxes>(alloc: Global, pipeline: Text, config: &Config, boxes: &mut B) -> Status
-    ensures status { let said = checked (given_by B.stand B.links boxes.old) config.now in
-        (result ≡ status_unbuilt pipeline said) ⊎ (result ≡ Status.NoMemory) }
-    ensures keeps { Keeps B.stand B.links boxes.old boxes.new }
-{
-    match check(alloc, config, boxes, WORKERS) {
-        Ok(()) => Status::NotBuilt(pipeline),
-        Err(fault) => refused(pipeline, fault),
+    match is_built(alloc, &config) {
+        Ok(true) => Ok(Checked { settings, config }),
+        Ok(false) => Err(Status::NotBuilt(settings.pipeline_id)),
+        Err(_) => Err(Status::NoMemory),
     }
 }
 

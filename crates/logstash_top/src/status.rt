@@ -4,13 +4,14 @@ ghost use Rattle.logstash_top.specs.Status.{number_of};
 
 use config_parse::ConfigFault;
 use graph_checks::GraphFault;
+use io_traits::Damage;
 use logstash_settings::WordsFault;
 use plain_data::Text;
 
 /// How a call ended.
 #[derive(Drop)]
 pub enum Status {
-    /// All of stdin was read, and all its events were written and flushed; or the configuration passed its test.
+    /// Each input was at its end, and nothing was left to do; or the configuration passed its test.
     Done,
     /// The words of the command line are refused. The fault is never want of memory.
     BadWords(WordsFault),
@@ -22,11 +23,20 @@ pub enum Status {
     Refused(Text, GraphFault),
     /// The configuration of this pipeline passes its checks, and is one that the program doesn't run yet.
     NotBuilt(Text),
+    /// A call of this pipeline's store failed.
+    StoreFault(Text),
     /// A read of this pipeline's input failed.
     InputFault(Text, Text),
-    /// A write or a flush of stdout failed. All outputs to stdout share it, and this is the id of the first, or `stdout`
-    /// where there is none, as in a test.
+    /// The output of this id failed; of a test it is `stdout`.
     OutputFault(Text),
+    /// A file of this pipeline is damaged.
+    Damaged(Text, Damage),
+    /// There is no file of this path, or none that this pattern names; or a call of the files failed.
+    FilesFault(Option<Text>),
+    /// The queue of this pipeline has no number left.
+    NumbersSpent(Text),
+    /// The dead letters of this pipeline have so many bytes, and so many more would pass their limit.
+    DeadLettersFull(Text, u128, u128, u64),
     /// Memory ran out.
     NoMemory,
 }
@@ -40,9 +50,14 @@ impl Status {
             Status::Done => 0,
             Status::BadWords(_) | Status::WordsNotBuilt => 1,
             Status::BadConfig(_, _) | Status::Refused(_, _) | Status::NotBuilt(_) => 3,
+            Status::StoreFault(_) => 4,
             Status::InputFault(_, _) => 5,
             Status::OutputFault(_) => 6,
+            Status::Damaged(_, _) => 7,
             Status::NoMemory => 8,
+            Status::FilesFault(_) => 9,
+            Status::NumbersSpent(_) => 11,
+            Status::DeadLettersFull(_, _, _, _) => 12,
         }
     }
 }

@@ -2,22 +2,15 @@
 
 ghost use Rattle.std.specs.Prelude.{◌≡◌, ◌⊎◌, Err, IfOk, map, string_bytes};
 ghost use Rattle.logstash_settings.specs.Words.{answer_of};
-ghost use Rattle.logstash_top.specs.Answers.{asked};
 ghost use Rattle.logstash_top.specs.Words as spec;
-ghost use Rattle.logstash_top.specs.Words.{which_of, workers_of};
+ghost use Rattle.logstash_top.specs.Words.{settings_asked, which_of, workers_of};
 
 use crate::requested_call::Which;
 use crate::status::Status;
-use logstash_settings::{ConfigSource, Orders, QueueTool, WordsFault, read_words};
-use plain_data::Text;
+use logstash_settings::{
+    ConfigSource, Orders, PipelineSettings, QueueTool, WordsFault, read_words,
+};
 use std::alloc::{AllocError, Global};
-
-/// A text that is run, and the id of its pipeline.
-#[derive(Drop)]
-pub(crate) struct Command {
-    pub(crate) pipeline: Text,
-    pub(crate) text: Text,
-}
 
 /// Says which call the words of a command line are for: where they read, `Check` with `--pqcheck`, `Repair` with `--pqrepair`,
 /// else `Test` with `-t`, else `Apart` with `--apart`; and else `Run`. The only error is want of memory.
@@ -64,47 +57,46 @@ pub fn workers_wanted(alloc: Global, words: &[String]) -> Result<u32, AllocError
     }
 }
 
-/// The text that the words run, or why there is none.
-pub(crate) fn command_of_words(alloc: Global, words: &[String]) -> Result<Command, Status>
-    ensures { (result ≡ asked (answer_of (map string_bytes words.now)))
+/// The settings of the one pipeline that the words name, or why there are none.
+pub(crate) fn settings_of_words(alloc: Global, words: &[String]) -> Result<PipelineSettings, Status>
+    ensures { (result ≡ settings_asked (answer_of (map string_bytes words.now)))
         ⊎ (result ≡ Err Status.NoMemory) }
 {
     match answered(alloc, words) {
-        Ok(Ok(orders)) => match built(orders) {
-            Some(command) => Ok(command),
-            None => Err(Status::WordsNotBuilt),
-        },
+        Ok(Ok(orders)) => settings_of(&orders),
         Ok(Err(fault)) => Err(Status::BadWords(fault)),
         Err(_) => Err(Status::NoMemory),
     }
 }
 
-/// The text that orders run, where they have nothing that isn't built yet.
-fn built(orders: Orders) -> Option<Command>
-    ensures { result ≡ spec.command_of orders }
+/// The settings of the pipeline that orders name, where they have nothing that isn't built yet.
+fn settings_of(orders: &Orders) -> Result<PipelineSettings, Status>
+    ensures { (result ≡ spec.settings_of orders.now) ⊎ (result ≡ Err Status.NoMemory) }
 {
-    if has_more(&orders) {
-        return None;
+    if has_more(orders) {
+        return Err(Status::WordsNotBuilt);
     }
-    let Orders {
-        source,
-        pipeline_id,
-        ..
-    } = orders;
-    match source {
-        ConfigSource::Text(text) => Some(Command {
-            pipeline: pipeline_id,
-            text,
-        }),
-        _ => None,
+    match orders.own_pipeline() {
+        Ok(settings) => Ok(settings),
+        Err(_) => Err(Status::NoMemory),
     }
 }
 
-/// Whether orders have what isn't built yet besides.
+/// Whether orders have what isn't built yet.
 fn has_more(orders: &Orders) -> bool
     ensures { result ≡ spec.has_more orders.now }
 {
-    orders.reload || orders.apart || orders.tool.is_some()
+    orders.reload || orders.apart || orders.tool.is_some() || !is_one_text(&orders.source)
+}
+
+/// Whether a source is a text or a path.
+fn is_one_text(source: &ConfigSource) -> bool
+    ensures { result ≡ spec.is_one_text source.now }
+{
+    match source {
+        ConfigSource::Text(_) | ConfigSource::Path(_) => true,
+        ConfigSource::Sample(_) | ConfigSource::Pipelines => false,
+    }
 }
 
 /// What the words are answered. The outer error is want of memory.

@@ -138,6 +138,10 @@ def codec_bytes(settings, event, timed):
     return text + ("\n" if name in ("line", "json_lines") else "")
 
 
+def output_id(number, output):
+    return output[2].get("id", f"output_{number}")
+
+
 class Flow:
     """A configuration that is run over lines."""
 
@@ -150,7 +154,7 @@ class Flow:
         self.generated = enumerate(self.input.lines())
 
     def batch(self, events):
-        """What stdout gets of the events of one batch."""
+        """What stdout gets of the events of one batch: the id of each output that gets some, and the bytes that it writes."""
         sent = {}
         for each in events:
             for event in filtered(self.sections["filter"], each):
@@ -158,12 +162,11 @@ class Flow:
                     send(self.sections["output"], event, sent)
                 except Dead:
                     pass
-        return "".join(
-            codec_bytes(output[2], event, self.timed)
-            for output in self.outputs
-            if output[1] == "stdout"
-            for event in sent.get(id(output), [])
-        )
+        return [
+            (output_id(number, output), "".join(codec_bytes(output[2], event, self.timed) for event in sent[id(output)]))
+            for number, output in enumerate(self.outputs, 1)
+            if output[1] == "stdout" and id(output) in sent
+        ]
 
     def poll(self, lines):
         """What stdout gets of the lines that one read made whole, batch by batch."""
@@ -176,11 +179,15 @@ class Flow:
         return self.batch(events) if events else None
 
 
+def joined(batches):
+    return "".join(text for batch in batches for _, text in batch)
+
+
 if __name__ == "__main__":
     with open(sys.argv[1], encoding="utf-8") as file:
         flow = Flow(file.read(), timed=False)
     if flow.generates:
         while (batch := flow.next_batch()) is not None:
-            sys.stdout.write(batch)
+            sys.stdout.write(joined([batch]))
     else:
-        sys.stdout.write("".join(flow.poll(sys.stdin.read().splitlines())))
+        sys.stdout.write(joined(flow.poll(sys.stdin.read().splitlines())))

@@ -5,285 +5,17 @@ flushed, and which line of stderr a status has, part by part. What configuration
 Nothing of the program is called.
 """
 
-import json
-import re
-from decimal import Decimal
-
 from configurations import CONFIGURATIONS, EVERY, SEVERAL
-from events import json_text
+from decodings import decoded, samples
 from flow import Flow
-from inputs import BATCH, next_number, sample
+from inputs import BATCH
+from objects import LIMIT, Failed, Object, row_of, words_written
+from runs import ROWS, Given, Rows, Timed, config_line, file_written, no_file_line, run, said_by_first, tell, words_line
+from stored import config_files, file_outputs, several_runs
 
-ROWS = {}
-LIMIT, ROOM, MANY = 1_048_576, 65_536, 8
 BUILT = "input { stdin {} } output { stdout { codec => json_lines } }"
 PLAIN = "input { stdin {} } output { stdout {} }"
 LF = 'stdout { codec => line { format => "%{message}" } }'
-# The tables whose runs aren't compared with the rows of their lines.
-CONFIGURED = ["worked", "configurations", "inputs", "failing", "named", "refused"]
-
-
-class Failed(Exception):
-    pass
-
-
-class Object:
-    """An object of the outside, of which some calls fail and others wait."""
-
-    def __init__(self, most=None, failing=(), waiting=()):
-        self.most, self.failing, self.waiting = most, failing, waiting
-        self.made = self.faults = self.flushed = 0
-        self.taken = b""
-
-    def call(self):
-        number, self.made = self.made, self.made + 1
-        if number in self.failing:
-            self.faults += 1
-            raise Failed
-        return number in self.waiting
-
-    def write(self, data):
-        while data:
-            self.call()
-            count = min(len(data), self.most or len(data))
-            self.taken, data = self.taken + data[:count], data[count:]
-
-    def flush(self):
-        self.call()
-        self.flushed = len(self.taken)
-
-    def written(self):
-        return " ".join([str(self.most or "-"), ",".join(map(str, self.failing)) or "-"])
-
-    def told(self, name):
-        state = "flushed" if self.flushed == len(self.taken) else "not flushed"
-        return f"; {name} {self.made} calls {self.faults} faults {state}: {told(self.taken.decode())}"
-
-
-def told(text):
-    parts, at = [], 0
-    while at < len(text):
-        end = at
-        while end < len(text) and text[end] == text[at]:
-            end += 1
-        count, one = end - at, text[at]
-        parts.append(f"%{count}*{one};" if count > MANY else ("%0a;" if one == "\n" else one) * count)
-        at = end
-    return "".join(parts)
-
-
-def written(data):
-    """Bytes as a row has them: what can't stand there in base 16, and a long run of one byte by its number."""
-    parts, at = [], 0
-    while at < len(data):
-        end = at
-        while end < len(data) and data[end] == data[at]:
-            end += 1
-        one = data[at : at + 1]
-        if end - at > 40:
-            parts.append(f"%{end - at}*{one.decode()};")
-        else:
-            plain = 32 <= one[0] < 127 and one not in b"%"
-            parts.append((one.decode() if plain else f"%{one.hex()};") * (end - at))
-        at = end
-    return "".join(parts)
-
-
-def words_written(words):
-    return " & ".join(written(word.encode()) or "%;" for word in words)
-
-
-def text_of(data):
-    """The text of bytes: each byte that begins no character is U+FFFD."""
-    text, at = "", 0
-    while at < len(data):
-        for width in (1, 2, 3, 4):
-            try:
-                text += data[at : at + width].decode()
-                at += width
-                break
-            except UnicodeDecodeError:
-                pass
-        else:
-            text, at = text + "\ufffd", at + 1
-    return text
-
-
-def row_of(line, **fields):
-    """The row of a line whose event has these fields besides."""
-    event = {"@timestamp": "2024-01-01T00:00:00.000Z", "@version": "1", "event": {"original": line}, "message": line, **fields}
-    return json.dumps(event, ensure_ascii=False, separators=(",", ":"), sort_keys=True) + "\n"
-
-
-class Rows:
-    """What a configuration writes of each line: its row, or what is said by hand."""
-
-    generates = False
-
-    def __init__(self, said=None):
-        self.said = said
-
-    def poll(self, lines):
-        """What stdout gets of the lines that one read made whole, batch by batch."""
-        rows = [row_of(line) if self.said is None else self.said[line] for line in lines]
-        return ["".join(rows[at : at + BATCH]) for at in range(0, len(rows), BATCH)]
-
-
-class Given:
-    """What a configuration writes whose generator gives all its events at one poll, said by hand."""
-
-    generates = True
-
-    def __init__(self, *batches):
-        self.batches = list(batches)
-
-    def next_batch(self):
-        return self.batches.pop(0) if self.batches else None
-
-
-class Lines:
-    def __init__(self):
-        self.part = b""
-
-    def feed(self, data):
-        """Gives the lines that these bytes make whole."""
-        while data:
-            room = LIMIT - len(self.part)
-            end = data.find(b"\n", 0, room)
-            if end >= 0:
-                line = self.part + data[:end]
-                yield line[:-1] if line.endswith(b"\r") else line
-                self.part, data = b"", data[end + 1 :]
-            elif len(data) >= room:
-                yield self.part + data[:room]
-                self.part, data = b"", data[room:]
-            else:
-                self.part, data = self.part + data, b""
-
-
-class StdoutFailed(Exception):
-    pass
-
-
-class Run:
-    """What a run leaves of its objects, for which it reads all of `data`."""
-
-    def __init__(self, stdin, stdout, data, flow):
-        self.stdin, self.stdout, self.data, self.flow = stdin, stdout, data, flow
-        self.lines, self.pauses, self.defined = Lines(), 0, b""
-
-    def write(self, lines, flushes):
-        self.put(self.flow.poll([text_of(line) for line in lines]), flushes)
-
-    def put(self, batches, flushes):
-        batches = [batch.encode() for batch in batches]
-        self.defined += b"".join(batches)
-        try:
-            for batch in batches:
-                self.stdout.write(batch)
-            if flushes:
-                self.stdout.flush()
-        except Failed:
-            raise StdoutFailed
-
-    def poll(self):
-        """Gives whether there is more."""
-        if self.flow.generates:
-            batch = self.flow.next_batch()
-            if batch is not None:
-                self.put([batch], True)
-            return batch is not None
-        if self.stdin.call():
-            self.pauses += 1
-        elif self.data:
-            count = min(len(self.data), ROOM, self.stdin.most or ROOM)
-            piece, self.data = self.data[:count], self.data[count:]
-            self.write(list(self.lines.feed(piece)), True)
-        else:
-            self.write([self.lines.part] if self.lines.part else [], False)
-            return False
-        return True
-
-    def end(self):
-        """Gives how it ends."""
-        ended = 0
-        try:
-            while self.poll():
-                pass
-        except StdoutFailed:
-            ended = 6
-        except Failed:
-            ended = 5
-        try:
-            self.stdout.flush()
-        except Failed:
-            ended = 6
-        return ended
-
-
-def tell(stderr, parts):
-    try:
-        for part in parts:
-            stderr.write(part.encode())
-        stderr.flush()
-    except Failed:
-        pass
-
-
-def run(
-    table,
-    words,
-    data,
-    read=None,
-    fails=(),
-    waits=(),
-    write=None,
-    breaks=(),
-    quiet=(),
-    name="main",
-    refused=None,
-    flow=None,
-    input_id="input_1",
-    output_id="output_1",
-):
-    """Adds a run, of `flow` where it isn't of rows alone; `refused` is the status with the parts of its line where nothing is read.
-    Gives how many calls of stdout were made."""
-    stdin, stdout, stderr = Object(read, fails, waits), Object(write, breaks), Object(None, quiet)
-    waiting = ",".join(map(str, waits)) or "-"
-    row = f"{stdin.written()} {waiting}, {stdout.written()}, {stderr.written()} | {words_written(words)} | {written(data)}"
-    made = Run(stdin, stdout, data, flow or Rows())
-    if refused:
-        status, line = refused
-    else:
-        status = made.end()
-        input_fault = ["logstash: pipeline ", name, ": input fault ", input_id, "\n"]
-        line = {0: [], 5: input_fault, 6: ["logstash: output fault ", output_id, "\n"]}[status]
-    tell(stderr, line)
-    same = "; as defined" if stdout.taken == made.defined else "; not as defined"
-    same = "" if table in CONFIGURED or len(stdout.taken) > 4_000 else same
-    answer = f"{status}; {stdin.made} reads {made.pauses} pauses{stdout.told('stdout')}{stderr.told('stderr')}{same}"
-    ROWS.setdefault(table, []).append((row, answer))
-    return stdout.made
-
-
-def words_line(reason):
-    """The parts of the line that refused words have."""
-    if reason.startswith("range "):
-        return ["logstash: words: range ", reason[len("range ") :], "\n"]
-    return [f"logstash: words: {reason}\n"]
-
-
-def config_line(name, reason):
-    """The parts of the line that a refused text has."""
-    start = ["logstash: pipeline ", name]
-    setting = re.fullmatch("(.*): (missing|unknown|wrong kind|bad pattern) (.*)", reason)
-    placed = re.fullmatch("(syntax at|deep at|unknown plugin|twice id|twice path|twice address|path long) (.*)", reason)
-    spare = re.fullmatch("no spare (.*): (.*) wanted, (.*) left", reason)
-    if setting:
-        return [*start, ": ", setting[1], f": {setting[2]} ", setting[3], "\n"]
-    if spare:
-        return [*start, ": no spare ", spare[1], ": ", spare[2], " wanted, ", spare[3], " left\n"]
-    return [*start, f": {placed[1]} ", placed[2], "\n"] if placed else [*start, f": {reason}\n"]
 
 
 def texts():
@@ -342,7 +74,6 @@ def words_refused():
         (["--apart", "-r"], "apart"),
         ([], "not built"),
         (["-w", "3", "-b", "10"], "not built"),
-        (["-f", "x"], "not built"),
         (["-e", BUILT, "-r"], "not built"),
         (["-e", BUILT, "--apart"], "not built"),
         (["--sample", "1"], "not built"),
@@ -361,12 +92,12 @@ def words_run():
         ["--path.data", "d", "--path.settings", "s", "-e", BUILT],
         ["-e", BUILT, "--pipeline.id", "up", "-t"],
     ]:
-        run("words_run", words, b"a\nb")
+        run("words_run", words, b"a\nb", flow=Rows(size=1 if "--pipeline.batch.size=1" in words else BATCH))
 
 
 def texts_refused():
     for text, reason in [
-        ("input { tcp { port => 1 } } output { stdout {} }", "not built"),
+        ("input { pipeline { address => q } } output { stdout {} }", "not built"),
         ("", "no input"),
         ("input { stdin {} } output { stdout {} } }", "syntax at 40"),
         ("input { stdin {} ", "syntax at 17"),
@@ -382,15 +113,17 @@ def texts_refused():
 
 
 NOT_BUILT = [
+    'input { pipeline { address => "q" } } output { stdout {} }',
+    "input { stdin {} pipeline { address => q } } output { stdout {} }",
+    'input { stdin {} } output { stdout {} if [a] { pipeline { send_to => ["q"] } } }',
+    'input { generator {} } filter { drop {} } output { sink {} pipeline { send_to => ["q"] } file { path => "x" } }',
+]
+# Such as read what a test has not, or have no end.
+TESTED = [
     'input { file { path => "a" } } output { stdout {} }',
     "input { tcp { port => 5000 } } output { stdout {} }",
-    'input { pipeline { address => "q" } } output { stdout {} }',
-    "input { stdin {} generator { count => 1 } } output { stdout {} }",
-    "input { generator { count => 1 } generator { count => 1 } } output { stdout {} }",
-    'input { generator { count => 1 } } output { file { path => "x" } }',
-    'input { stdin {} } output { file { path => "x" } }',
-    'input { stdin {} } output { stdout {} if [a] { pipeline { send_to => ["q"] } } }',
-    'input { stdin {} } filter { drop {} } output { sink {} file { path => "x" codec => line } }',
+    "input { generator {} generator {} stdin {} } output { stdout {} }",
+    'input { stdin {} file { path => "b*" } tcp { port => 1 } } filter { drop {} } output { sink {} file { path => "x" codec => line } }',
 ]
 LONG = "x" * 248
 REFUSED = [
@@ -415,6 +148,8 @@ REFUSED = [
     ('input { stdin {} } output { file { path => "x/y" } file { path => "x/y" } }', "twice path x/y"),
     ('input { pipeline { address => "q" } pipeline { address => "q" } } output { stdout {} }', "twice address q"),
     ("input { stdin {} stdin {} } output { stdout {} }", "twice stdin"),
+    ('input { stdin {} } output { file { path => "data/x" } }', "twice path data/x"),
+    ('input { stdin {} } output { stdout {} file { path => "y" } if [a] { file { path => "data/main/x" } } }', "twice path data/main/x"),
     (f'input {{ file {{ path => "{LONG}" }} }} output {{ stdout {{}} }}', f"path long {LONG}"),
     ("output { stdout {} }", "no input"),
     ("input { stdin {} }", "no output"),
@@ -499,6 +234,15 @@ def worked():
     text = f'input {{ generator {{ message => "x" count => 2 }} }} output {{ {jl} }}'
     numbered = [row_of("x", event={"original": "x", "sequence": number}) for number in (0, 1)]
     run("worked", ["-e", text], b"", flow=Given("".join(numbered)))
+    several_inputs()
+
+
+def several_inputs():
+    """Each is polled before those behind it: what stdin gives comes first, where it needn't wait."""
+    text = f'input {{ stdin {{}} generator {{ message => "x" count => 2 }} generator {{ message => "y" count => 1 }} }} output {{ {LF} }}'
+    behind = [said_by_first("x\nx\n"), said_by_first("y\n")]
+    for data, lines in ((b"", {}), (b"a\nb\n", {"a": "a\n", "b": "b\n"}), (b"a\nb", {"a": "a\n", "b": "b\n"})):
+        run("worked", ["-e", text], data, flow=Rows(lines, behind=behind))
 
 
 def configurations():
@@ -565,25 +309,26 @@ def failing():
     text, data = SEVERAL
     calls = run("failing", ["-e", text], data.encode(), read=20, write=50, flow=Flow(text))
     for number in range(calls):
-        run("failing", ["-e", text], data.encode(), read=20, write=50, breaks=(number,), flow=Flow(text), output_id="plain")
+        run("failing", ["-e", text], data.encode(), read=20, write=50, breaks=(number,), flow=Flow(text))
     text = f'input {{ stdin {{}} }} filter {{ if [message] in ["7", "130"] {{ drop {{}} }} }} output {{ sink {{}} stdout {{ codec => plain }} {LF} }}'
     lines = "".join(f"{number}\n" for number in range(300)).encode()
     calls = run("failing", ["-e", text], lines, flow=Flow(text))
     for number in range(calls):
-        run("failing", ["-e", text], lines, breaks=(number,), flow=Flow(text), output_id="output_2")
+        run("failing", ["-e", text], lines, breaks=(number,), flow=Flow(text))
 
 
 def named():
     """The ids of inputs and outputs in lines of faults."""
-    for text, input_id, output_id in [
-        ('input { stdin { id => "lines" } } output { stdout { id => "rows" } }', "lines", "rows"),
-        ("input { stdin {} } output { sink {} if [a] { stdout {} } }", "input_1", "output_2"),
-        ('input { stdin {} } output { if [a] { stdout { id => "in" } } else { stdout {} } }', "input_1", "in"),
-        ("input { stdin {} } output { sink {} }", "input_1", "stdout"),
+    for text, input_id in [
+        ('input { stdin { id => "lines" } } output { stdout { id => "rows" } }', "lines"),
+        ("input { stdin {} } output { sink {} if [message] { stdout {} } }", "input_1"),
+        ('input { stdin {} } output { if [a] { stdout { id => "in" } } else { stdout {} } }', "input_1"),
+        ('input { stdin {} } output { if [message] { stdout { id => "in" } } else { stdout {} } }', "input_1"),
+        ("input { stdin {} } output { sink {} }", "input_1"),
     ]:
         run("named", ["-e", text], b"a\n", fails=(0,), flow=Flow(text), input_id=input_id)
-        run("named", ["-e", text], b"a\n", breaks=(0, 1), flow=Flow(text), output_id=output_id)
-        run("named", ["-e", text], b"a\n", fails=(1,), breaks=(1, 2), flow=Flow(text), output_id=output_id)
+        run("named", ["-e", text], b"a\n", breaks=(0, 1), flow=Flow(text))
+        run("named", ["-e", text], b"a\n", fails=(1,), breaks=(1, 2), flow=Flow(text))
 
 
 def long_texts():
@@ -626,9 +371,20 @@ def defined():
             run("defined", ["-e", BUILT], data, read=read)
 
 
-def add_test(words, breaks=(), quiet=(), refused=None):
+def moments():
+    """Each look at the clock shows its next moment: a line has that of the read that made it whole."""
+    data = b"a\nb\nlast"
+    for read in (2, 3, None):
+        for waits in ((), (0, 2)):
+            run("moments", ["-e", BUILT], data, read=read, waits=waits, flow=Timed([60, 5, 3, 7]), seconds=(60, 5, 3, 7))
+    text = f'input {{ generator {{ lines => ["x", "y"] count => 1 }} }} output {{ stdout {{ codec => line {{ format => "%{{@timestamp}}" }} }} }}'
+    run("moments", ["-e", text], b"", flow=Given("2024-01-01T00:00:04.000Z\n" * 2), seconds=(4, 9))
+
+
+def add_test(words, breaks=(), quiet=(), refused=None, files=()):
     stdout, stderr = Object(None, breaks), Object(None, quiet)
     row = f"{stdout.written()}, {stderr.written()} | {words_written(words)}"
+    row += " | " + " & ".join(file_written(path, data) for path, data in files) if files else ""
     status, line = refused or (0, [])
     if not refused:
         try:
@@ -651,6 +407,8 @@ def tests():
             add_test(words, quiet=quiet)
         for number in (0, 1):
             add_test(words, breaks=(number,))
+    for text in TESTED:
+        add_test(["-te", text])
     for words, status, line in [
         (["-t", "-e", "input { stdin {} }"], 3, config_line("main", "no output")),
         (["-te", "input { stdin {} "], 3, config_line("main", "syntax at 17")),
@@ -660,11 +418,27 @@ def tests():
         (["-t", "-e", "x", "-f", "y"], 1, words_line("both")),
         (["-t", "-t", "-e", BUILT], 1, words_line("unread")),
         (["-t"], 1, words_line("not built")),
-        (["-t", "-f", "x"], 1, words_line("not built")),
+        (["-t", "-f", "x"], 9, no_file_line("x")),
+        (["-t", "-f", "c/*"], 9, no_file_line("c/*")),
         (["-t", "-r", "-e", BUILT], 1, words_line("not built")),
         (["-t", "--apart", "-e", BUILT], 1, words_line("not built")),
     ]:
         add_test(words, breaks=(0,), refused=(status, line))
+    tests_of_files()
+
+
+def tests_of_files():
+    files = [("c/a", BUILT), ("c/b", "filter { nope {} }"), ("d/a", "input { stdin {} }"), ("d/b", "output { stdout {} }")]
+    for words in (["-t", "-f", "c/a"], ["-tf", "c/a*"], ["-t", "-f", "d/*"]):
+        add_test(words, files=files)
+        add_test(words, breaks=(1,), files=files)
+    for words, status, line in [
+        (["-t", "-f", "c/c"], 9, no_file_line("c/c")),
+        (["-t", "-f", "c/*c"], 9, no_file_line("c/*c")),
+        (["-t", "-f", "c/*"], 3, config_line("main", "unknown plugin nope")),
+        (["-t", "-f", "d/a", "--pipeline.id=up"], 3, config_line("up", "no output")),
+    ]:
+        add_test(words, breaks=(0,), refused=(status, line), files=files)
 
 
 def calls():
@@ -690,90 +464,6 @@ def calls():
         ROWS.setdefault("calls", []).append((words_written(words), answer))
 
 
-FIELDS = {"@timestamp": "2024-01-01T00:00:00.000Z", "@version": "1"}
-
-
-def message(line, **more):
-    return {**FIELDS, "event": {"original": line}, "message": line, **more}
-
-
-def members(line, **more):
-    return {**FIELDS, "event": {"original": line}, **more}
-
-
-def add_decoded(codec, line, fields, meta=None):
-    row = f"{codec} | {written(line.encode() if isinstance(line, str) else line)}"
-    ROWS.setdefault("decoded", []).append((row, f"{json_text(fields)} {json_text(meta or {})}"))
-
-
-def decoded():
-    """Each line by hand: what a codec makes of it is said by the rules of inputs alone."""
-    for codec in ("plain", "line"):
-        for line in ("", "a b", '{"a":1}', "\u20ac"):
-            add_decoded(codec, line, message(line))
-    failed = {"tags": ["_jsonparsefailure"]}
-    for codec in ("json", "json_lines"):
-        add_decoded(codec, "{}", members("{}"))
-        for line in ("", "a", "{", "1", "null", "[]", '"a"', '{"a":1} x', "{'a':1}"):
-            add_decoded(codec, line, message(line, **failed))
-    line = '{"a":{"b":[1,null,true]},"message":"m","@version":"7","event":{"id":3}}'
-    add_decoded("json", line, {**members(line), "a": {"b": [Decimal(1), None, True]}, "message": "m", "@version": "7", "event": {"id": Decimal(3), "original": line}})
-    line = '{"event":{"original":"mine"}}'
-    add_decoded("json", line, members(line))
-    line = '{"event":"mine"}'
-    add_decoded("json", line, {**FIELDS, "event": "mine"})
-    line = '{"a":1,"a":2}'
-    add_decoded("json", line, members(line, a=Decimal(2)))
-    line = '{"[a]":1,"b.c":2,"":3}'
-    add_decoded("json", line, {**members(line), "[a]": Decimal(1), "b.c": Decimal(2), "": Decimal(3)})
-    for text, moment in (
-        ("2020-02-29T12:00:00Z", "2020-02-29T12:00:00.000Z"),
-        ("2020-02-29T12:00:00+01:00", "2020-02-29T11:00:00.000Z"),
-        ("2020-02-29T12:00:00.25", "2020-02-29T12:00:00.250Z"),
-    ):
-        line = f'{{"@timestamp":"{text}"}}'
-        add_decoded("json", line, {**members(line), "@timestamp": moment})
-    tags = {"tags": ["_timestampparsefailure"]}
-    for text, value in (('"yesterday"', "yesterday"), ("7", Decimal(7)), ("null", None), ("{}", {}), ('"2020-02-30T00:00:00Z"', "2020-02-30T00:00:00Z")):
-        line = f'{{"@timestamp":{text}}}'
-        add_decoded("json", line, {**members(line), "_@timestamp": value, **tags})
-    for text, value in (('"a"', ["a"]), ("[]", []), ('["a","b"]', ["a", "b"])):
-        line = f'{{"tags":{text}}}'
-        add_decoded("json", line, members(line, tags=value))
-    for text, value in (("1", Decimal(1)), ("null", None), ('["a",1]', ["a", Decimal(1)]), ('{"a":1}', {"a": Decimal(1)})):
-        line = f'{{"tags":{text}}}'
-        add_decoded("json", line, members(line, _tags=value, tags=["_tagsparsefailure"]))
-    line = '{"@timestamp":1,"tags":["a","_tagsparsefailure"]}'
-    add_decoded("json", line, {**members(line), "_@timestamp": Decimal(1), "tags": ["a", "_tagsparsefailure", "_timestampparsefailure"]})
-    line = '{"@timestamp":1,"tags":2}'
-    add_decoded("json", line, {**members(line), "_@timestamp": Decimal(1), "_tags": Decimal(2), "tags": ["_timestampparsefailure", "_tagsparsefailure"]})
-    line = '{"@metadata":{"k":"v"},"a":1}'
-    add_decoded("json", line, members(line, a=Decimal(1)), {"k": "v"})
-    for text in ("1", "null", "[]", '"a"'):
-        line = f'{{"@metadata":{text}}}'
-        add_decoded("json", line, members(line))
-    deep = "[" * 99 + "]" * 99
-    value = []
-    for _ in range(98):
-        value = [value]
-    line = f'{{"a":{deep}}}'
-    add_decoded("json", line, members(line, a=value))
-    line = f'{{"a":[{deep}]}}'
-    add_decoded("json", line, message(line, **failed))
-    # Each byte that begins no character is replaced before the line is read.
-    add_decoded("json", b'{"a":"\xff"}', members('{"a":"\ufffd"}', a="\ufffd"))
-    add_decoded("line", b"\xe2\x82", message("\ufffd\ufffd"))
-
-
-def samples():
-    for start in (0, 1, 2, 20000, 2**64 - 1):
-        for count in (0, 1, 2, 3, 4, 5, 6, 7, 8, 100):
-            number = start
-            for _ in range(count):
-                number = next_number(number)
-            ROWS.setdefault("samples", []).append((f"{start} {count}", sample(number)))
-
-
 for table in (
     texts,
     lines,
@@ -790,6 +480,10 @@ for table in (
     inputs,
     failing,
     named,
+    moments,
+    config_files,
+    file_outputs,
+    several_runs,
     tests,
     refused,
     calls,

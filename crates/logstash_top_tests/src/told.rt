@@ -17,7 +17,12 @@ pub fn add_sink(to: &mut String, name: &str, sink: &MemorySink) -> Result<(), Al
     } else {
         " not flushed: "
     })?;
-    match str::from_utf8(sink.taken()) {
+    add_bytes(to, sink.taken())
+}
+
+/// Adds bytes as text.
+pub fn add_bytes(to: &mut String, bytes: &[u8]) -> Result<(), AllocError> {
+    match str::from_utf8(bytes) {
         Ok(text) => add_text(to, text),
         Err(_) => to.push_str("no text"),
     }

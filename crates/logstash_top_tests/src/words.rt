@@ -1,6 +1,6 @@
 //! Configurations that are tested alone, and what words are for.
 
-use crate::objects::sink;
+use crate::objects::{files, sink};
 use crate::told::add_sink;
 use crate::written::{cut, words_of};
 use foreign_parts::Boxes;
@@ -13,10 +13,12 @@ pub fn add_test<B: Boxes>(to: &mut String, row: &str, rack: &mut B) -> Result<()
     let alloc = *to.allocator();
     let (sinks, words) = cut(row, " | ");
     let (out, err) = cut(sinks, ", ");
+    let (words, written) = cut(words, " | ");
     let words = words_of(alloc, words)?;
+    let mut files = files(alloc, "", written)?;
     let mut stdout = sink(alloc, out)?;
     let mut stderr = sink(alloc, err)?;
-    let status = test_config(alloc, &words, &mut stdout, &mut stderr, rack);
+    let status = test_config(alloc, &words, &mut files, &mut stdout, &mut stderr, rack);
     add_left(to, status.number(), &stdout, &stderr)
 }
 

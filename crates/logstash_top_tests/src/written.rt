@@ -15,12 +15,13 @@ pub fn words_of(alloc: Global, written: &str) -> Result<Vec<String>, AllocError>
         return Ok(words);
     }
     for word in written.split(" & ") {
-        words.push(word_of(alloc, word)?)?;
+        words.push(text_of(alloc, word)?)?;
     }
     Ok(words)
 }
 
-fn word_of(alloc: Global, written: &str) -> Result<String, AllocError> {
+/// The text of bytes.
+pub fn text_of(alloc: Global, written: &str) -> Result<String, AllocError> {
     text_of_bytes(alloc, &bytes_of(alloc, written)?)
 }
 

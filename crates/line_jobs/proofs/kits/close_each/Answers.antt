@@ -1,6 +1,6 @@
 use Rattle.std.proofs.Common.{◌<◌, length, ◌∙◌, sym, arith}
 use Rattle.plugin_graph.specs.Graphs.{boxes_in, built_in, contents_of}
-use Rattle.batch_rows.specs.Closing.{told}
+use Rattle.line_jobs.specs.Closings.{told}
 use Rattle.line_jobs.proofs.ClosedKits.{all_closed, one_closed, same_told}
 use Rattle.line_jobs.proofs.kits.close_each.Goals as goal
 

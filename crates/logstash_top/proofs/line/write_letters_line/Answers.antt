@@ -1,0 +1,9 @@
+use Rattle.std.proofs.Common.{OnOk, subst}
+use Rattle.io_traits.specs.Telling.{Grows}
+use Rattle.logstash_top.proofs.Statuses.{letters_parts}
+use Rattle.logstash_top.proofs.line.write_letters_line.Goals as goal
+
+pub returns-clause-ok : goal.returns-clause-ok
+returns-clause-ok g c =
+    subst (λ l. OnOk c.write_parts.result (Grows (g.O.Sink.taken c.args.sink.now) (g.O.Sink.taken c.write_parts.new.sink) l))
+    (letters_parts c.args.pipeline.now c.format.result.now c.format-2.result.now c.format-3.result.now c.args.size c.args.added c.args.limit c.format.ensures.text c.format-2.ensures.text c.format-3.ensures.text) c.write_parts.ensures.ok
