@@ -8,7 +8,7 @@ RUNS = 'input { stdin {} } output { stdout {} }'
 
 # Proves the program and builds it.
 all:
-	cd $(PROGRAM) && rt run -- -e $(RUNS) </dev/null
+	data=$$(mktemp -d) && cd $(PROGRAM) && rt run -- -e $(RUNS) --path.data "$$data" </dev/null; status=$$?; rm -rf "$$data"; exit $$status
 	mkdir -p bin
 	cp $(PROGRAM)/out/logstash_cli bin/logstash
 
@@ -18,7 +18,7 @@ test:
 
 # The quickest build and run, which proves nothing: for development.
 try:
-	cd $(PROGRAM) && printf 'hello\n' | rt try -- -e $(RUNS)
+	data=$$(mktemp -d) && cd $(PROGRAM) && printf 'hello\n' | rt try -- -e $(RUNS) --path.data "$$data"; status=$$?; rm -rf "$$data"; exit $$status
 
 # Sees that the prover refuses the planted bugs of some crates: make planted CRATES="queue_core queue_files"
 planted:
@@ -27,6 +27,7 @@ planted:
 # How fast the program and its parts are, beside others on the same machine.
 bench: all
 	bash bench/lines.sh
+	bash bench/pipelines.sh
 	bash bench/events.sh
 	bash bench/elements.sh
 	bash bench/json_lines.sh

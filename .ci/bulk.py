@@ -2,16 +2,22 @@
 """Runs the output `elasticsearch` against small servers on this machine: one that answers 200, 429 and then 200, and ones that close,
 that answer slowly, in chunks or with nonsense, and that keep the connection open.
 
-The deliveries are made by the program bulk_tests, which rt ci builds. Prints what isn't as it should be."""
+    .ci/bulk.py [LOGSTASH [BULK_TESTS]]
 
+The deliveries are made by the program bulk_tests; and by the program itself, which is killed while a server puts its events off, and
+started again. rt ci builds both, and others may be named. Prints what isn't as it should be."""
+
+import json
 import os
 import socket
 import subprocess
 import sys
+import tempfile
 import threading
 import time
 
-PROGRAM = os.path.abspath("crates/bulk_tests/out/bulk_tests")
+LOGSTASH = os.path.abspath(sys.argv[1] if len(sys.argv) > 1 else "crates/logstash_cli/out/logstash_cli")
+PROGRAM = os.path.abspath(sys.argv[2] if len(sys.argv) > 2 else "crates/bulk_tests/out/bulk_tests")
 TOOK = b'{"took":1,"errors":false,"items":[{"index":{"status":201}},{"index":{"status":201}}]}'
 HALF = b'{"took":1,"errors":true,"items":[{"index":{"status":201}},{"index":{"status":429}}]}'
 LAST = b'{"took":1,"errors":false,"items":[{"index":{"status":201}}]}'
@@ -180,15 +186,113 @@ def silence():
     expect("after how long it is given up", 9.5 < took < 15, True)
 
 
+class Index:
+    """A server of an index: takes the first half of the events and puts all others off until it is told to take them. It refuses for good
+    those that say so, once it takes all."""
+
+    def __init__(self):
+        self.taken, self.rejected, self.wrong, self.asked, self.takes_all = [], [], [], 0, False
+        self.socket = socket.create_server(("127.0.0.1", 0))
+        self.port = self.socket.getsockname()[1]
+        threading.Thread(target=self.serve, daemon=True).start()
+
+    def serve(self):
+        while True:
+            try:
+                connection, _ = self.socket.accept()
+            except OSError:
+                return
+            with connection:
+                try:
+                    body = self.read(connection)
+                    connection.sendall(sized(b"200 OK", json.dumps({"took": 1, "errors": True, "items": self.items(body)}).encode()))
+                except (OSError, ConnectionError):
+                    pass  # the program was killed
+
+    def read(self, connection):
+        data = b""
+        while b"\r\n\r\n" not in data:
+            data += self.some(connection)
+        front, body = data.split(b"\r\n\r\n", 1)
+        size = next(int(line[16:]) for line in front.split(b"\r\n") if line.startswith(b"Content-Length: "))
+        while len(body) < size:
+            body += self.some(connection)
+        return body
+
+    def some(self, connection):
+        piece = connection.recv(65536)
+        if not piece:
+            raise ConnectionError
+        return piece
+
+    def items(self, body):
+        self.asked += 1
+        lines, items = body.decode().splitlines(), []
+        for action, event in zip(lines[::2], lines[1::2]):
+            message = json.loads(event)["message"]
+            if json.loads(action) != {"index": {"_index": "lines"}}:
+                self.wrong.append(action)
+            number = int(message.split()[1])
+            if number >= EVENTS // 2 and not self.takes_all:
+                items.append({"index": {"status": 429}})
+            elif number % 100 == 99:
+                self.rejected.append(message)
+                items.append({"index": {"status": 400, "error": {"type": "mapper_parsing_exception", "reason": "no date"}}})
+            else:
+                self.taken.append(message)
+                items.append({"index": {"status": 201}})
+        return items
+
+
+EVENTS = 1000
+
+
+def program_killed():
+    """The program is killed while half of its events are put off, twice, and started again: each event is in the index or a dead letter."""
+    with tempfile.TemporaryDirectory() as folder:
+        index, source, data = Index(), f"{folder}/lines", f"{folder}/data"
+        messages = [f"event {number}" for number in range(EVENTS)]
+        with open(source, "w", encoding="ascii") as it:
+            it.writelines(message + "\n" for message in messages)
+        words = [LOGSTASH, "-e", f'input {{ file {{ path => "{source}" mode => "read" }} }}'
+                 f' output {{ elasticsearch {{ hosts => ["127.0.0.1:{index.port}"] index => "lines" }} }}', "--path.data", data]
+        for _ in range(2):
+            before = index.asked
+            run = subprocess.Popen(words, stdin=subprocess.DEVNULL)
+            end = time.monotonic() + 30
+            while (index.asked < before + 10 or len(set(index.taken + index.rejected)) < EVENTS // 2) and time.monotonic() < end:
+                time.sleep(0.02)
+            expect("a program whose events are put off", run.poll(), None)
+            run.kill()
+            run.wait()
+        early = set(index.taken + index.rejected)
+        expect("what is taken while others are put off", early, set(messages[:EVENTS // 2]))
+        index.takes_all = True
+        done = subprocess.run(words, stdin=subprocess.DEVNULL, stdout=subprocess.PIPE, stderr=subprocess.PIPE, text=True, timeout=100)
+        expect("the program once all are taken", (done.returncode, done.stdout, done.stderr), (0, "", ""))
+        index.socket.close()
+        expect("the events in the index", set(index.taken), {message for message in messages if not message.endswith("99")})
+        expect("the events that are rejected", set(index.rejected), {message for message in messages if message.endswith("99")})
+        expect("actions that aren't those of the configuration", index.wrong, [])
+        told = subprocess.run([LOGSTASH, "--pqcheck", "main", "--path.data", data], stdout=subprocess.PIPE, text=True, timeout=100)
+        expect("what is left in the queue", told.stdout, "rows 0\n")
+        with open(f"{data}/main/dead.log", "rb") as it:
+            letters = it.read()
+        expect("whether each rejected event is a dead letter", all(message.encode() in letters for message in index.rejected), True)
+        expect("the reason of dead letters", letters.count(b"status 400: no date") >= EVENTS // 100, True)
+
+
 def main():
-    if not os.path.isfile(PROGRAM):
-        print(f"bulk: {PROGRAM} isn't built")
-        return 1
+    for program in (PROGRAM, LOGSTASH):
+        if not os.path.isfile(program):
+            print(f"bulk: {program} isn't built")
+            return 1
     put_off()
     forms()
     faults()
     nobody()
     silence()
+    program_killed()
     if not failed:
         print("bulk: all as it should be")
     return 1 if failed else 0

@@ -2,8 +2,10 @@
 """Runs two processes on one folder of a store, of which the first is killed, and looks which system calls they make;
 and the program itself with a standard output that would block.
 
-The calls on stores are made by the program io_tests; rt ci builds both. Prints what isn't as it should be. Where strace
-is missing, only the answers are looked at."""
+    .ci/processes.py [LOGSTASH [IO_TESTS]]
+
+The calls on stores are made by the program io_tests; rt ci builds both, and others may be named. Prints what isn't as it should be.
+Where strace is missing, only the answers are looked at."""
 
 import json
 import os
@@ -14,8 +16,8 @@ import sys
 import tempfile
 import time
 
-PROGRAM = os.path.abspath("crates/io_tests/out/io_tests")
-LOGSTASH = os.path.abspath("crates/logstash_cli/out/logstash_cli")
+LOGSTASH = os.path.abspath(sys.argv[1] if len(sys.argv) > 1 else "crates/logstash_cli/out/logstash_cli")
+PROGRAM = os.path.abspath(sys.argv[2] if len(sys.argv) > 2 else "crates/io_tests/out/io_tests")
 STRACE = shutil.which("strace")
 CALL = re.compile(r"^(?:\d+ +)?(fsync|openat|open|unlink)\((.*)\) += (-?\d+)")
 
@@ -121,7 +123,7 @@ def bare(top):
 
 
 def full(top):
-    """Writes into a full pipe that doesn't block are waited for, and nothing is lost or written twice."""
+    """Writes into a full pipe that doesn't block are waited for, and nothing is lost or written twice. One worker keeps the order of the lines."""
     lines = [f"{number:060}" for number in range(20_000)]
     given = f"{top}/lines"
     with open(given, "w", encoding="utf-8") as it:
@@ -129,7 +131,7 @@ def full(top):
     reads, writes = os.pipe()
     os.set_blocking(writes, False)
     trace = f"{top}/writes"
-    words = [LOGSTASH, "-e", "input { stdin {} } output { stdout {} }"]
+    words = [LOGSTASH, "-e", "input { stdin {} } output { stdout {} }", "-w", "1", "--path.data", f"{top}/full"]
     if STRACE:
         words = [STRACE, "-f", "-e", "trace=write,writev", "-o", trace, *words]
     with open(given, "rb") as it:

@@ -43,12 +43,16 @@ round_time() {
 
 # Runs a command three times with a file as its input. The row of the fastest run (seconds, seconds of
 # the processor in user and in system mode, KiB that it held at most) stands in $work/best, its output in
-# $work/output. Needs GNU time.
+# $work/output. Before each run $work/pipeline is removed, the data folder of a program of pipelines. A run that
+# fails ends the script. Needs GNU time.
 best_run() {
-    input=$1
+    local input=$1 run
     shift
+    : >"$work/times"
     for run in 1 2 3; do
+        rm -rf "$work/pipeline"
         /usr/bin/time -f '%e %U %S %M' -o "$work/row" "$@" <"$input" >"$work/output"
-        cat "$work/row"
-    done | sort -n | head -n 1 >"$work/best"
+        cat "$work/row" >>"$work/times"
+    done
+    sort -n "$work/times" | head -n 1 >"$work/best"
 }

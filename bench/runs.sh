@@ -1,15 +1,17 @@
 #!/usr/bin/env bash
-# How long do whole runs take? Three configurations over one million lines, from a file to a file, by the fastest of three runs: lines of
+# How long do whole runs take? Three configurations over one million lines, from a file through the queue to a file, with one worker, by the fastest of three runs: lines of
 # an access log by grok, pairs of keys and values by kv with a condition and drop, and JSON by json and mutate, all written as JSON. In the same run
 # awk, perl and python3 write the same rows from the same lines; the rows of the first thousand lines are compared. Beside that stands the sum of
 # the parts, nanoseconds for a line each: the program that reads the same lines and lets their events go, each filter and each condition alone in batches of 125
 # (by filter_tests, as in graphs.sh), and the rows written as JSON (by bench_parts, as in json_lines.sh). Fails where a run takes more
 # than 1.3 times the sum, where rows differ, or where a million lines hold more than 1.1 times the memory of 100,000, each by the least of three runs (one
-# and the same run holds up to a tenth more from time to time). Needs GNU time.
+# and the same run holds up to a tenth more from time to time). Each run has a data folder of its own. Needs GNU time.
+#
+#     bench/runs.sh [PROGRAM [LINES]]
 . "$(dirname "$0")/common.sh"
 
-logstash=${LOGSTASH:-$root/bin/logstash}
-count=${LINES_OF_RUNS:-1000000}
+logstash=${1:-${LOGSTASH:-$root/bin/logstash}}
+count=${2:-${LINES_OF_RUNS:-1000000}}
 build filter_tests copies /dev/null 1
 filters=$program
 build
@@ -174,24 +176,33 @@ event_time() {
         END { printf "%d\n", (work - copies) / events }'
 }
 
+# The program with a configuration, and a data folder that wasn't there before.
+words() {
+    rm -rf "$work/pipeline"
+    run_words=("$logstash" -w 1 --path.data "$work/pipeline" -e "$1")
+}
+
 # The least memory that three runs of a configuration over some lines hold, in KiB.
 least_memory() {
     for run in 1 2 3; do
-        /usr/bin/time -f %M -o "$work/held" "$logstash" -e "$2" <"$1" >"$work/output"
+        words "$2"
+        /usr/bin/time -f %M -o "$work/held" "${run_words[@]}" <"$1" >"$work/output"
         cat "$work/held"
     done | sort -n | head -n 1
 }
 
 # The nanoseconds that the rows of a hundred thousand lines take to be written as JSON, for a line each.
 write_time() {
-    "$logstash" -e "$1" <"$work/few" >"$work/rows"
+    words "$1"
+    "${run_words[@]}" <"$work/few" >"$work/rows"
     once=$(least_time "$parts" json write 1 "$work/rows")
     many=$(least_time "$parts" json write 11 "$work/rows")
     echo $(((many - once) / 10 / $(wc -l <"$work/few")))
 }
 
 same_rows() {
-    "$logstash" -e "$2" <"$work/first" >"$work/wanted"
+    words "$2"
+    "${run_words[@]}" <"$work/first" >"$work/wanted"
     awk -f "$work/$1.awk" "$work/first" | cmp - "$work/wanted" || failed=1
     perl "$work/peer.pl" "$1" "$work/first" "$root/bench/access_log.regex" | cmp - "$work/wanted" || failed=1
     python3 "$work/peer.py" "$1" "$work/first" "$root/bench/access_log.regex" | cmp - "$work/wanted" || failed=1
@@ -205,13 +216,15 @@ whole() {
     head -n 100000 "$work/$kind" >"$work/few"
     echo "$kind:"
     same_rows "$kind" "$config"
-    told_run "$kind" logstash "$logstash" -e "$config"
+    words "$config"
+    told_run "$kind" logstash "${run_words[@]}"
     run=$(of_line)
     memory=$(least_memory "$work/$kind" "$config")
     told_run "$kind" awk awk -f "$work/$kind.awk"
     told_run "$kind" perl perl "$work/peer.pl" "$kind" "$work/$kind" "$root/bench/access_log.regex"
     told_run "$kind" python3 python3 "$work/peer.py" "$kind" "$work/$kind" "$root/bench/access_log.regex"
-    best_run "$work/$kind" "$logstash" -e "$(configuration "" sink)"
+    words "$(configuration "" sink)"
+    best_run "$work/$kind" "${run_words[@]}"
     reading=$(of_line)
     writing=$(write_time "$config")
     sum=$((reading + $3 + writing))
@@ -228,12 +241,15 @@ failed=0
 whole access "$access_filters" "$(event_time "$work/access.events" "$access_filters")"
 
 # The events that meet the condition are those that kv has read.
-"$logstash" -e "$(configuration "$pairs_filters" stdout)" <"$work/pairs" 2>/dev/null | head -n 4000 >"$work/read.events" || true
+# The run ends at status 6 where head has read enough.
+words "$(configuration "$pairs_filters" stdout)"
+"${run_words[@]}" <"$work/pairs" 2>/dev/null | head -n 4000 >"$work/read.events" || true
 kv=$(event_time "$work/pairs.events" "$pairs_filters")
 condition=$(event_time "$work/read.events" 'if [level] == "debug" { }')
 whole pairs "$pairs_filters if [level] == \"debug\" { drop { } }" $((kv + condition))
 
-"$logstash" -e "$(configuration "$objects_filters" stdout)" <"$work/objects" 2>/dev/null | head -n 4000 >"$work/read.events" || true
+words "$(configuration "$objects_filters" stdout)"
+"${run_words[@]}" <"$work/objects" 2>/dev/null | head -n 4000 >"$work/read.events" || true
 json=$(event_time "$work/objects.events" "$objects_filters")
 mutate=$(event_time "$work/read.events" "$changes")
 whole objects "$objects_filters $changes" $((json + mutate))
