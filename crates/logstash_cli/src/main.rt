@@ -3,6 +3,7 @@
 //! `test_config`, or a tool for queues, as `which` says.
 #![tactic(auto)]
 
+mod hiring;
 mod serving;
 mod standard;
 mod threaded_source;

@@ -1,7 +1,8 @@
-// A run whose jobs are done one after another, in this thread.
+// A run whose jobs are done by workers in threads of their own.
 ghost use Rattle.std.specs.Prelude.{◌≡◌};
 
-use batch_shop::InlineShop;
+use crate::hiring::hire_all;
+use batch_shop::ThreadShop;
 use foreign_parts::{BoxPool, FilterCall};
 use history_book::BlankBook;
 use io_traits::{Clock, Files, Links, Sink, Source, Store};
@@ -11,17 +12,18 @@ use logstash_top::{Status, World, logstash, workers_wanted};
 use std::alloc::Global;
 use std::rt::Clock as RuntimeClock;
 use std::sync::Wait;
+use std::thread::Threads;
 
-/// Runs what the words order. As many jobs as they want workers may be out at once; each is done when its result is looked for.
+/// Runs what the words order, with as many workers as they want.
 pub fn serve<
-    R: Wait + RuntimeClock,
+    R: Threads + Wait + RuntimeClock + Clone + Drop + Send + 'static,
     S: Store,
     P: Files,
     I: Source,
     L: Links,
     O: Sink,
     K: Clock,
-    F: FilterCall + Close,
+    F: FilterCall + Close + Send + 'static,
     X: OutputCall,
     B: BoxPool<Filter = F, Output = X>,
 >(
@@ -36,8 +38,11 @@ pub fn serve<
     let Ok(workers) = workers_wanted(alloc, words) else {
         return Status::NoMemory;
     };
-    let Ok(mut shop) = InlineShop::new(alloc, workers.max(1).min(64)) else {
+    let Ok(mut shop) = ThreadShop::new(alloc, workers) else {
         return Status::NoMemory;
     };
-    logstash(rt, alloc, words, world, rack, &mut shop, &mut BlankBook)
+    hire_all(rt, &mut shop, workers);
+    let status = logstash(rt, alloc, words, world, rack, &mut shop, &mut BlankBook);
+    let _results = shop.close(rt);
+    status
 }
