@@ -1,2 +1,4 @@
 mod Sending
+mod Giving
+mod InTurn
 mod Taking

@@ -1,3 +1,4 @@
 pub mod Answers
 pub mod Senders
 pub mod Takers
+pub mod Listening

@@ -104,7 +104,7 @@ abbrev noted_in : ℕ → Bool → PartState → TakeState → TakeState
 noted_in row true p s = record s { part = Some (record p { rows = p.rows + 1 }) }
 noted_in row false p s = record s { part = None; whole = s.whole ++ record { number = p.number; row = row } ∷ [] }
 
-abbrev noted : ℕ → Option PartState → TakeState → TakeState
+abbrev pub noted : ℕ → Option PartState → TakeState → TakeState
 noted row None s = s
 noted row (Some p) s = noted_in row (nat_lt (p.rows + 1) p.total) p s
 

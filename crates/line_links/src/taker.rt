@@ -1,5 +1,5 @@
 // The end of a link on which an input takes parcels of one address.
-ghost use Rattle.std.specs.Prelude.{◌≡◌, ◌<◌, ◌≤◌, ◌+◌, [], true, length, map, vec_capacity, Some, None, IfOk, IfSome, IfNone, OnErr};
+ghost use Rattle.std.specs.Prelude.{◌≡◌, ◌<◌, ◌≤◌, ◌+◌, [], true, false, length, map, vec_capacity, Some, None, Ok, IfOk, IfSome, IfNone, OnErr};
 ghost use Rattle.std.specs.Option.{ForSome};
 ghost use Rattle.pipeline_bus.specs.Ends.{taking};
 ghost use Rattle.pipeline_bus.specs.Parcels.{with_events};
@@ -75,6 +75,7 @@ pub struct AddressTaker {
 impl AddressTaker {
     ghost use Rattle.pipeline_bus.specs.Ends.{IsSameTaker};
     ghost use Rattle.line_links.specs.Takers.{take_state, taker_end, has_given, holds, is_free, may_poll, Closes, DropsNone, EndsBy, Gives, IsRefusing, Notes, Polls, Refuses, Settles};
+    ghost use Rattle.line_links.specs.Listening.{is_due, is_giving, row_noted, Finds, PassesOver};
 
     /// The end of a link as the taker of an address. Each parcel that was taken on it is answered.
     pub fn new(alloc: Global, address: Text, end: LinkTaker) -> AddressTaker
@@ -147,6 +148,30 @@ impl AddressTaker {
         Ok(Polled::Events)
     }
 
+    /// Polls it where that may be, and says whether a parcel with events came. The only error is want of memory; then nothing
+    /// was taken.
+    pub(crate) fn look(&mut self) -> Result<bool, AllocError>
+        ensures found { result ≡ Ok true → Finds (take_state self.old) (take_state self.new) }
+        ensures none { result ≡ Ok false → PassesOver (take_state self.old) (take_state self.new) }
+        ensures err { OnErr result (take_state self.new ≡ take_state self.old) }
+        ensures same { IsSameTaker (taker_end self.old) (taker_end self.new) }
+    {
+        if !self.may_poll() {
+            return Ok(false);
+        }
+        match self.poll()? {
+            Polled::Events => Ok(true),
+            Polled::NotYet | Polled::Ended => Ok(false),
+        }
+    }
+
+    /// Whether a parcel was taken of which not all events stand in rows.
+    pub fn is_giving(&self) -> bool
+        ensures { result ≡ is_giving (take_state self.now) }
+    {
+        self.part.is_some()
+    }
+
     /// Whether an event is held, which [`AddressTaker::next`] gives.
     pub fn holds(&self) -> bool
         ensures { result ≡ holds (take_state self.now) }
@@ -197,6 +222,26 @@ impl AddressTaker {
                 number: part.number,
                 row: number,
             });
+        }
+    }
+
+    /// The same, where an event was given that isn't noted in a row; else nothing.
+    pub(crate) fn note_given(&mut self, number: u64)
+        ensures notes { take_state self.new ≡ row_noted number (take_state self.old) }
+        ensures same { taker_end self.new ≡ taker_end self.old }
+    {
+        if self.has_given() {
+            self.note_row(number);
+        }
+    }
+
+    /// Whether the oldest parcel that waits for an answer has each of its events in a row up to `front`.
+    pub fn is_due(&self, front: u64) -> bool
+        ensures { result ≡ is_due front (take_state self.now) }
+    {
+        match self.whole.first() {
+            Some(oldest) => oldest.row <= front,
+            None => false,
         }
     }
 
