@@ -1,4 +1,6 @@
 mod Sending
+pub mod SenderPlaces
+mod Delivering
 mod Giving
 mod InTurn
 mod Taking

@@ -2,3 +2,4 @@ pub mod Answers
 pub mod Senders
 pub mod Takers
 pub mod Listening
+pub mod SenderTables

@@ -177,6 +177,13 @@ impl AddressSender {
         true
     }
 
+    /// Whether a last parcel was sent behind all others.
+    pub fn has_sent_last(&self) -> bool
+        ensures { result ≡ ends_with_last (send_state self.now).sends.sent }
+    {
+        self.ended
+    }
+
     /// Sends a last parcel, unless one was sent behind all others; false where the ring showed no free slot. It takes
     /// no memory.
     #[tactic(auto, using(crate::proofs::Sending::filled_same, crate::proofs::Sending::ends_then))]
