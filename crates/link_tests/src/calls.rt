@@ -72,7 +72,8 @@ fn add_taken(to: &mut String, ends: &mut Ends, call: &str) -> Result<(), AllocEr
     }
 }
 
-fn add_polled(to: &mut String, found: Option<Polled>) -> Result<(), AllocError> {
+/// Adds what a poll found; None stands for one that may not be made.
+pub fn add_polled(to: &mut String, found: Option<Polled>) -> Result<(), AllocError> {
     to.push_str(match found {
         Some(Polled::Events) => "events",
         Some(Polled::NotYet) => "nothing",
@@ -81,7 +82,8 @@ fn add_polled(to: &mut String, found: Option<Polled>) -> Result<(), AllocError> 
     })
 }
 
-fn add_message(to: &mut String, event: &Event) -> Result<(), AllocError> {
+/// Adds the message of an event.
+pub fn add_message(to: &mut String, event: &Event) -> Result<(), AllocError> {
     if let Ok(path) = Path::read(*to.allocator(), "message") {
         if let Some(Value::Text(text)) = event.get(&path) {
             return to.push_str(text.as_str());
@@ -90,7 +92,8 @@ fn add_message(to: &mut String, event: &Event) -> Result<(), AllocError> {
     to.push('?')
 }
 
-fn add_heard(to: &mut String, heard: Option<Heard>) -> Result<(), AllocError> {
+/// Adds what was heard.
+pub fn add_heard(to: &mut String, heard: Option<Heard>) -> Result<(), AllocError> {
     to.push_str(match heard {
         Some(Heard::Assured) => "assured",
         Some(Heard::NotListening) => "refused",
@@ -98,13 +101,15 @@ fn add_heard(to: &mut String, heard: Option<Heard>) -> Result<(), AllocError> {
     })
 }
 
-fn add_number(to: &mut String, number: Option<u64>) -> Result<(), AllocError> {
+/// Adds the number of a parcel that was sent.
+pub fn add_number(to: &mut String, number: Option<u64>) -> Result<(), AllocError> {
     match number {
         Some(number) => write!(to, "sent:{number}"),
         None => to.push_str("full"),
     }
 }
 
-fn add_bool(to: &mut String, is: bool) -> Result<(), AllocError> {
+/// Adds yes or no.
+pub fn add_bool(to: &mut String, is: bool) -> Result<(), AllocError> {
     to.push_str(if is { "yes" } else { "no" })
 }

@@ -9,29 +9,43 @@
 //!   refuses a parcel, `e` asks whether the input is at its end, `f` whether the end is free, and `t` gives the end to a new
 //!   taker. The answer has that of each; `no` stands for a call that may not be made then.
 //!
+//! - `inputs`: calls of an input that listens on an address to which two senders send, `0` and `1`, in order. `s0:TEXT`, `l0` and
+//!   `h0:NUMBER` are the calls `s`, `l` and `h` of the first sender, and `s1`, `l1` and `h1` those of the second. `p` polls, `n`
+//!   takes the next event, `o` asks whether one is held, `r:NUMBER` notes a row and `e` asks whether the input is at its end.
+//!   `d0:NUMBER` asks whether an answer is due to the first sender for what stands in rows up to one, and `a0:NUMBER` gives it;
+//!   `d1` and `a1` are of the second sender, and `a2` of none. A row that begins with `alone` is of an input without senders.
+//!
 //! The answers in `stdout` were worked out by hand: a ring has 16 slots.
 #![tactic(auto)]
 
 mod calls;
 mod ends;
+mod inputs;
 
 use std::alloc::AllocError;
 use std::io;
 use table_rows::{AnswerRows, print_tables};
 
-/// What the rows of the table are.
+/// What the rows of a table are.
 #[derive(Clone, Copy)]
-struct LinkTable;
+enum LinkTable {
+    Calls,
+    Inputs,
+}
 
 impl AnswerRows for LinkTable {
     fn add_answer(&self, to: &mut String, row: &str) -> Result<(), AllocError> {
         if row.starts_with('#') {
             return to.push_str(row);
         }
-        calls::add_run(to, row)
+        match self {
+            LinkTable::Calls => calls::add_run(to, row),
+            LinkTable::Inputs => inputs::add_run(to, row),
+        }
     }
 }
 
 fn main(rt: HostRuntime) -> io::Result<()> {
-    print_tables(&rt, &[("calls", LinkTable)])
+    let tables = [("calls", LinkTable::Calls), ("inputs", LinkTable::Inputs)];
+    print_tables(&rt, &tables)
 }
